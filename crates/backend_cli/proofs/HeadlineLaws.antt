@@ -11,17 +11,17 @@ use Rattle.byte_position.specs.Position.{first_position}
 use Rattle.wal_page.specs.Order.{IsChained}
 use Rattle.wal_reader.specs.declared.found.FoundRecord.{FoundRecord}
 use Rattle.wal_reader.proofs.FindsLaws.{finding_is_decoding}
-use Rattle.wal_script.specs.Asked.{Asked, AskedLine, Commit, Flush, Insert}
-use Rattle.wal_script.specs.Run.{backends_meaning}
+use Rattle.wal_script.specs.Asked.{Asked, AskedLine, Commit, CommitAsync, Flush, Insert, WriteBehind}
+use Rattle.wal_script.specs.Run.{run_meaning}
 use Rattle.wal_script.specs.declared.line.Refusal.{Refusal}
 use Rattle.generated_lines.specs.Generated.{generated_script}
 use Rattle.told_lines.specs.declared.told.Told.{Told}
-use Rattle.told_lines.specs.declared.told.Told.TheVariants.{Wrote, Hard, Flushed, Refused}
+use Rattle.told_lines.specs.declared.told.Told.TheVariants.{Wrote, Hard, Flushed, Async, Idle, Refused}
 use Rattle.told_lines.specs.Crash.{IsFrontWithTold, SurvivesCrashes}
 use Rattle.told_lines.specs.Told.{FitsLine, Logged, RiseInLineOrder, TellsAll, TellsFrom, behind_or, entries_from, entry_of, order_from}
 use Rattle.told_lines.proofs.Orders.{sorted_permutes}
 use Rattle.command_words.specs.declared.commands.GenOptions.{GenOptions}
-use Rattle.command_words.specs.declared.commands.RunOptions.{RunOptions}
+use Rattle.command_words.specs.declared.commands.ScriptRunOptions.{ScriptRunOptions}
 use Rattle.command_words.specs.declared.commands.Command.TheVariants.{Run, Gen, Replay, Dump, Redo}
 use Rattle.command_line.specs.declared.asking.Request.{Request}
 use Rattle.command_line.specs.declared.asking.Request.TheVariants.{Command, Help, Version, Nothing}
@@ -41,15 +41,33 @@ own_place : (logged : Logged) (pass behind : ℕ) (asked : Asked) (told : Told)
 own_place logged pass behind (Insert value) (Wrote start end) fits = fits
 own_place logged pass behind (Insert value) (Hard start end moment) fits = fits
 own_place logged pass behind (Insert value) (Flushed upto moment) fits = fits
+own_place logged pass behind (Insert value) (Async start end) fits = fits
+own_place logged pass behind (Insert value) (Idle upto) fits = fits
 own_place logged pass behind (Insert value) (Refused cause reserved) fits = tt
 own_place logged pass behind (Commit value) (Wrote start end) fits = fits
 own_place logged pass behind (Commit value) (Hard start end moment) fits = fits
 own_place logged pass behind (Commit value) (Flushed upto moment) fits = fits
+own_place logged pass behind (Commit value) (Async start end) fits = fits
+own_place logged pass behind (Commit value) (Idle upto) fits = fits
 own_place logged pass behind (Commit value) (Refused cause reserved) fits = tt
 own_place logged pass behind Flush (Wrote start end) fits = fits
 own_place logged pass behind Flush (Hard start end moment) fits = fits
 own_place logged pass behind Flush (Flushed upto moment) fits = tt
+own_place logged pass behind Flush (Async start end) fits = fits
+own_place logged pass behind Flush (Idle upto) fits = fits
 own_place logged pass behind Flush (Refused cause reserved) fits = tt
+own_place logged pass behind (CommitAsync value) (Wrote start end) fits = fits
+own_place logged pass behind (CommitAsync value) (Hard start end moment) fits = fits
+own_place logged pass behind (CommitAsync value) (Flushed upto moment) fits = fits
+own_place logged pass behind (CommitAsync value) (Async start end) fits = fits
+own_place logged pass behind (CommitAsync value) (Idle upto) fits = fits
+own_place logged pass behind (CommitAsync value) (Refused cause reserved) fits = tt
+own_place logged pass behind WriteBehind (Wrote start end) fits = fits
+own_place logged pass behind WriteBehind (Hard start end moment) fits = fits
+own_place logged pass behind WriteBehind (Flushed upto moment) fits = tt
+own_place logged pass behind WriteBehind (Async start end) fits = fits
+own_place logged pass behind WriteBehind (Idle upto) fits = tt
+own_place logged pass behind WriteBehind (Refused cause reserved) fits = tt
 
 -- of a line and what it was told; of a backend's lines
 abbrev OwnsPlace : ℕ → AskedLine × Told → Type 0
@@ -152,29 +170,30 @@ same_lines : (one other : List (List AskedLine))
     → one ≡ other
 same_lines one other e = cc
 
-same_script : (before after : SourceView) (one other : List (List AskedLine))
-    → ScriptMeans before after (Ok one) → ScriptMeans before after (Ok other) → one ≡ other
-same_script before after one other first second =
+same_script : (writer : Option ℕ) (before after : SourceView)
+    (one other : List (List AskedLine)) → ScriptMeans writer before after (Ok one)
+    → ScriptMeans writer before after (Ok other) → one ≡ other
+same_script writer before after one other first second =
     let bytes = append_cancel_left before.handed first.0 second.0
     (sym (first.1).handed_out ∙ (second.1).handed_out) in
-    same_lines one other (sym first.2 ∙ (ap backends_meaning bytes ∙ second.2))
+    same_lines one other (sym first.2 ∙ (ap (run_meaning writer) bytes ∙ second.2))
 
 module _ (outside : Outside) (outcome : Outcome) where
   abbrev Leaves : ℕ → List (List AskedLine) → List (List Told) → Type 0
   Leaves size script told =
       Headline size outside.moment_before script told outside.tape_before outside.tape_after
 
-  of_run : (options : RunOptions) (told : List (List Told)) → (told ≡ [] → ⊥)
+  of_run : (options : ScriptRunOptions) (told : List (List Told)) → (told ≡ [] → ⊥)
       → RunHolds outside options outcome told
-      → (size : ℕ) (script : List (List AskedLine)) → size ≡ options.geometry
-      → ScriptMeans outside.source_before outside.source_after (Ok script)
+      → (size : ℕ) (script : List (List AskedLine)) → size ≡ options.run.geometry
+      → ScriptMeans options.writer outside.source_before outside.source_after (Ok script)
       → Leaves size script told
   of_run options [] opened holds size script size_is means = absurd (opened refl)
   of_run options (t ∷ ts) opened holds size script size_is means =
-      let same = same_script outside.source_before outside.source_after holds.0 script holds.1
-      means in
+      let same = same_script options.writer outside.source_before outside.source_after holds.0
+      script holds.1 means in
       subst (λ (s : ℕ). Leaves s script (t ∷ ts)) (sym size_is)
-      (subst (λ (lines : List (List AskedLine)). Leaves options.geometry lines (t ∷ ts)) same
+      (subst (λ (lines : List (List AskedLine)). Leaves options.run.geometry lines (t ∷ ts)) same
       (holds.2).headline)
 
   of_play : (options : GenOptions) (told : List (List Told)) → (told ≡ [] → ⊥)

@@ -1,5 +1,5 @@
 -- The backends of a run: how many there are, and that each line of each was told an answer.
-use Rattle.std.proofs.Common.{◌≡◌, ℕ, suc, ◌<◌, ◌≤◌, All, List, [], ◌∷◌, length, Vec, Ok, Result, refl, sym, ◌∙◌, ap, subst, arith}
+use Rattle.std.proofs.Common.{◌≡◌, ℕ, suc, ◌<◌, ◌≤◌, All, List, [], ◌∷◌, length, Vec, Ok, Option, Result, refl, sym, ◌∙◌, ap, subst, arith}
 use Rattle.std.specs.Prelude.{IfOk, vec_len}
 use Rattle.std.proofs.lemmas.List.Elements.{All-cons, All-nil}
 use Rattle.std.specs.declared.alloc.Global.{Global}
@@ -26,13 +26,14 @@ use Rattle.backend_cli.proofs.ReplayScripts.{as_many_backends}
 -- ---- made ready
 
 -- room for the backends of a script that was read
-pub prepared_for : (before after : SourceView) (script : List (List AskedLine))
-    (backends : List (Vec Line Global)) (room : Room) → ScriptMeans before after (Ok script)
+pub prepared_for : (writer : Option ℕ) (before after : SourceView)
+    (script : List (List AskedLine)) (backends : List (Vec Line Global)) (room : Room)
+    → ScriptMeans writer before after (Ok script)
     → AreBackendsOf script backends → IsRoomFor backends room → IsPreparedFor script room
-prepared_for before after script backends room means are enough =
+prepared_for writer before after script backends room means are enough =
     let some = subst (λ (r : Result (List (List AskedLine)) Refusal).
     IfOk r (λ asked. (0 < length asked) × (length asked ≤ most_backends)))
-    means.2 (runs_have_some_backends means.0) in
+    means.2 (runs_have_some_backends writer means.0) in
     record {
       lines = subst (AreBackendsOf script) (sym enough.lines) are;
       enough = subst (λ (scripts : List (Vec Line Global)). IsRoomFor scripts room)

@@ -5,10 +5,8 @@ use Rattle.byte_position.specs.Geometry.{IsSegmentSize}
 use Rattle.byte_position.specs.Position.{end_address_of, first_position}
 use Rattle.segment_disk.specs.Tape.{Tape}
 use Rattle.flush_core.specs.Pages.{HoldsNothing}
-use Rattle.record_spelling.specs.Spelling.{assembled}
-use Rattle.record_spelling.proofs.SpellingLaws.{room_is}
 use Rattle.wal_page.specs.Order.{Entry, rooms_of}
-use Rattle.wal_page.proofs.OrderLaws.{rooms_of_cons}
+use Rattle.wal_page.proofs.OrderLaws.{room_at-pos, rooms_of_cons}
 use Rattle.wal_core.specs.Words.{Opening}
 use Rattle.wal_core.specs.declared.setup.Setup.{Setup}
 use Rattle.wal_rule.specs.Closing.{ClosesWith}
@@ -47,7 +45,7 @@ use Rattle.backend_cli.proofs.RunTexts.{text_is}
 entries-le : (size : ℕ) (es : List Entry) → length es ≤ rooms_of size es
 entries-le size [] = omega arith
 entries-le size (e ∷ es) =
-    omega (arith, rooms_of_cons size e es, (room_is (assembled e.value)).1, entries-le size es)
+    omega (arith, rooms_of_cons size e es, room_at-pos size e, entries-le size es)
 
 module _ {D : Type 0} (tape : D → Option Tape) (moment faults : D → ℕ) (disk : D)
     (options : RunOptions) (setup : Setup) (wal : Wal D) (first : Pass)
@@ -198,6 +196,7 @@ module _ {D : Type 0} (tape : D → Option Tape) (moment faults : D → ℕ) (di
               assured.in_line_order assured.crash;
           goes_on = assured.goes_on;
           words = assured.words;
+          caught_up = assured.caught_up;
           moments = assured.moments;
           no_late_receipt = assured.no_late_receipt;
           whole = whole;

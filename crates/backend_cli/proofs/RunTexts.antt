@@ -3,10 +3,8 @@ use Rattle.std.proofs.Common.{◌≡◌, ◌<◌, ℕ, ◌+◌, ◌-◌, ◌/◌
 use Rattle.std.specs.Prelude.{codes, if◌then◌else◌, ◌==◌}
 use Rattle.std.specs.Fmt.{decimal}
 use Rattle.wal_types.specs.LsnText.{lsn_text}
-use Rattle.record_spelling.specs.Spelling.{assembled}
-use Rattle.record_spelling.proofs.SpellingLaws.{room_is}
 use Rattle.wal_page.specs.Order.{Entry, rooms_of}
-use Rattle.wal_page.proofs.OrderLaws.{rooms_of_cons}
+use Rattle.wal_page.proofs.OrderLaws.{room_at-pos, rooms_of_cons}
 use Rattle.wal_script.specs.Asked.{AskedLine}
 use Rattle.wal_script.specs.Bodies.{AreLinesOf}
 use Rattle.wal_script.specs.declared.line.Line.{Line}
@@ -39,7 +37,7 @@ lists_are number (asked ∷ script) (backend ∷ backends) have =
 segments_are : (size : ℕ) (es : List Entry) (end : ℕ) → (if rooms_of size es == 0 then 0 else (end - 1) / size) ≡ segments_upto size es end
 segments_are size [] end = refl
 segments_are size (e ∷ es) end =
-    let more : 0 < rooms_of size (e ∷ es) = omega (arith, rooms_of_cons size e es, (room_is (assembled e.value)).1) in
+    let more : 0 < rooms_of size (e ∷ es) = omega (arith, rooms_of_cons size e es, room_at-pos size e) in
     let apart : eqb (rooms_of size (e ∷ es)) 0 ≡ false = grind arith in
     ap (λ (b : Bool). cond b 0 ((end - 1) / size)) apart
 

@@ -8,6 +8,7 @@ use Rattle.wal_log.specs.declared.opening.OpenFaultKind.{OpenFaultKind}
 use Rattle.wal_log.specs.declared.opening.OpenFaultKind.TheVariants as kinds
 use Rattle.wal_script.specs.Asked.{AskedLine}
 use Rattle.command_words.specs.declared.commands.RunOptions.{RunOptions}
+use Rattle.command_words.specs.declared.commands.ScriptRunOptions.{ScriptRunOptions}
 use Rattle.backend_cli.specs.Outcome.{outcome_unopened}
 use Rattle.backend_cli.specs.Outside.{IsUntouched, Outside, SourceView, outside_of}
 use Rattle.backend_cli.specs.Reading.{ScriptMeans}
@@ -59,10 +60,10 @@ module _ {D : Type 0} (tape : D → Option Tape) (moment faults : D → ℕ) (se
     unopened_holds kinds.NotEmpty tells = ((tells.3, tells.2), untouched tells.1)
 
 -- the run of a script that the source handed out
-pub run_of_play : (outside : Outside) (options : RunOptions) (outcome : Outcome)
+pub run_of_play : (outside : Outside) (options : ScriptRunOptions) (outcome : Outcome)
     (script : List (List AskedLine)) (lists : List (List Told))
-    → ScriptMeans outside.source_before outside.source_after (Ok script)
-    → PlayHolds outside options outcome script lists
+    → ScriptMeans options.writer outside.source_before outside.source_after (Ok script)
+    → PlayHolds outside options.run outcome script lists
     → RunHolds outside options outcome lists
 run_of_play outside options outcome script (told ∷ others) means holds =
     (script, means, holds)

@@ -5,21 +5,21 @@ use Rattle.wal_script.specs.declared.line.Refusal.{Refusal}
 use Rattle.wal_script.specs.declared.parser.ParseError.{ParseError}
 use Rattle.wal_script.specs.declared.parser.ParseError.TheVariants as errors
 use Rattle.wal_script.specs.Meaning.{script_limit}
-use Rattle.wal_script.specs.Run.{backends_meaning}
+use Rattle.wal_script.specs.Run.{run_meaning}
 use Rattle.wal_script.specs.Reading.{RefusesScript}
 use Rattle.backend_cli.specs.Outcome.{outcome_unparsed}
 use Rattle.backend_cli.specs.Outside.{SourceView}
 use Rattle.backend_cli.specs.Prepared.{IsUnpreparedBy}
 use Rattle.backend_cli.specs.Reading.{IsFront, ReadsScript, ScriptMeans}
-use Rattle.backend_cli.proofs.ScriptLaws.{meaning_of_front}
+use Rattle.backend_cli.proofs.ScriptLaws.{run_meaning_of_front}
 
 -- a front of what a source had left, up to one byte past the limit, means what all of it means
-front_means : (left : Option (List ℕ)) (script : List ℕ) (meaning : Result (List (List AskedLine)) Refusal) → IsFront (script_limit + 1) left script → backends_meaning script ≡ meaning → IfSome left (λ bytes. backends_meaning bytes ≡ meaning)
-front_means None script meaning is means = tt
-front_means (Some bytes) script meaning is means = sym (meaning_of_front bytes) ∙ ap backends_meaning (sym is) ∙ means
+front_means : (writer : Option ℕ) (left : Option (List ℕ)) (script : List ℕ) (meaning : Result (List (List AskedLine)) Refusal) → IsFront (script_limit + 1) left script → run_meaning writer script ≡ meaning → IfSome left (λ bytes. run_meaning writer bytes ≡ meaning)
+front_means writer None script meaning is means = tt
+front_means writer (Some bytes) script meaning is means = sym (run_meaning_of_front writer bytes) ∙ ap (run_meaning writer) (sym is) ∙ means
 
-pub read_script_means : (before after : SourceView) (meaning : Result (List (List AskedLine)) Refusal) → ScriptMeans before after meaning → IfSome before.left (λ bytes. backends_meaning bytes ≡ meaning)
-read_script_means before after meaning means = front_means before.left means.0 meaning means.1.is_front means.2
+pub read_script_means : (writer : Option ℕ) (before after : SourceView) (meaning : Result (List (List AskedLine)) Refusal) → ScriptMeans writer before after meaning → IfSome before.left (λ bytes. run_meaning writer bytes ≡ meaning)
+read_script_means writer before after meaning means = front_means writer before.left means.0 meaning means.1.is_front means.2
 
 -- a script that has no meaning ends the command so
 module _ {X : Type 0} (by : List ℕ → Result X Refusal) (before after : SourceView) where

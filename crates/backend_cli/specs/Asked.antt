@@ -9,13 +9,13 @@ use Rattle.backend_cli.specs.Outside.{SourceView}
 use Rattle.backend_cli.specs.Reading.{ScriptMeans}
 
 -- a log in segments of this size, and these lines of each backend: those that the script means that
--- the source handed out, or those that are made
+-- the source handed out, with the run's writer, or those that are made
 abbrev pub AsksBackends : Request → SourceView → SourceView → ℕ → List (List AskedLine) → Type 0
 AsksBackends Nothing before after size script = ⊥
 AsksBackends Help before after size script = ⊥
 AsksBackends Version before after size script = ⊥
 AsksBackends (Command (Run options)) before after size script =
-    (size ≡ options.geometry) × ScriptMeans before after (Ok script)
+    (size ≡ options.run.geometry) × ScriptMeans options.writer before after (Ok script)
 AsksBackends (Command (Gen options)) before after size script =
     (size ≡ options.run.geometry) × (script ≡ generated_script options.lines)
 AsksBackends (Command (Replay options)) before after size script = ⊥

@@ -16,18 +16,22 @@ use Rattle.wal_reader.specs.declared.found.FoundRecord.{FoundRecord}
 use Rattle.wal_reader.specs.Finds.{FindsRecords}
 use Rattle.wal_reader.specs.Pages.{pages_in}
 use Rattle.written_log.specs.Torn.{NoTornPass}
-use Rattle.wal_script.specs.Asked.{Asked, AskedLine, Commit, Flush, Insert}
+use Rattle.wal_script.specs.Asked.{Asked, AskedLine, Commit, CommitAsync, Flush, Insert, WriteBehind}
 use Rattle.told_lines.specs.declared.told.Told.{Told}
-use Rattle.told_lines.specs.declared.told.Told.TheVariants.{Wrote, Hard, Flushed, Refused}
+use Rattle.told_lines.specs.declared.told.Told.TheVariants.{Wrote, Hard, Flushed, Async, Idle, Refused}
 use Rattle.told_lines.specs.Crash.{IsFrontWithTold}
 use Rattle.told_lines.specs.Told.{IsPlaced, RiseInLineOrder, entries_from}
 
--- what each kind of line may be told: an insert or a commit, where its own record starts and ends
--- (that of a commit is durable too); a flush, up to where all is durable; each, that it is refused
+-- what each kind of line may be told: an insert, a commit or a commit that is answered ahead, where
+-- its own record starts and ends (that of a commit is durable too); a flush or a flush behind, up
+-- to where all is durable, or the latter that all was so already; each, that it is refused
 abbrev pub NamesOwnPlace : ℕ → Asked → Told → Type 0
 NamesOwnPlace size (Insert value) (Wrote start end) = IsPlaced size value start.0 end.0
 NamesOwnPlace size (Commit value) (Hard start end moment) = IsPlaced size value start.0 end.0
 NamesOwnPlace size Flush (Flushed upto moment) = Unit {0}
+NamesOwnPlace size (CommitAsync value) (Async start end) = IsPlaced size value start.0 end.0
+NamesOwnPlace size WriteBehind (Flushed upto moment) = Unit {0}
+NamesOwnPlace size WriteBehind (Idle upto) = Unit {0}
 NamesOwnPlace size asked (Refused cause reserved) = Unit {0}
 NamesOwnPlace size asked others = ⊥
 

@@ -1,12 +1,12 @@
 -- What a run makes ready before it opens the log.
-use Rattle.std.specs.Prelude.{◌≡◌, ℕ, ◌<◌, ◌≤◌, List, length, Result, Ok, Err, Vec}
+use Rattle.std.specs.Prelude.{◌≡◌, ℕ, ◌<◌, ◌≤◌, List, length, Option, Result, Ok, Err, Vec}
 use Rattle.std.specs.declared.alloc.Global.{Global}
 use Rattle.wal_script.specs.Asked.{AskedLine}
 use Rattle.wal_script.specs.declared.line.Line.{Line}
 use Rattle.wal_script.specs.declared.line.Refusal.{Refusal}
 use Rattle.wal_script.specs.Replay.{most_backends}
 use Rattle.wal_script.specs.ReplayReading.{AreBackendsOf}
-use Rattle.wal_script.specs.Run.{backends_meaning}
+use Rattle.wal_script.specs.Run.{run_meaning}
 use Rattle.backend_lanes.specs.Backends.{IsRoomFor, scripts_of}
 use Rattle.backend_lanes.specs.declared.playing.Room.{Room}
 use Rattle.backend_cli.specs.declared.outcome.Outcome.{Outcome}
@@ -34,20 +34,20 @@ IsUnpreparedBy by before after (ScriptRefused refusal) =
 IsUnpreparedBy by before after others = ⊥
 
 -- the same of a run
-abbrev pub IsUnprepared : SourceView → SourceView → Outcome → Type 0
-IsUnprepared before after outcome = IsUnpreparedBy backends_meaning before after outcome
+abbrev pub IsUnprepared : Option ℕ → SourceView → SourceView → Outcome → Type 0
+IsUnprepared writer before after outcome = IsUnpreparedBy (run_meaning writer) before after outcome
 
 -- reading the lines of a script's backends
-abbrev pub ReadsBackends : SourceView → SourceView → Result (Vec (Vec Line Global) Global) Outcome
-    → Type 0
-ReadsBackends before after (Ok backends) =
-    (script : List (List AskedLine)) × ScriptMeans before after (Ok script)
+abbrev pub ReadsBackends : Option ℕ → SourceView → SourceView
+    → Result (Vec (Vec Line Global) Global) Outcome → Type 0
+ReadsBackends writer before after (Ok backends) =
+    (script : List (List AskedLine)) × ScriptMeans writer before after (Ok script)
     × AreBackendsOf script backends.items
-ReadsBackends before after (Err outcome) = IsUnprepared before after outcome
+ReadsBackends writer before after (Err outcome) = IsUnprepared writer before after outcome
 
 -- making all ready
-abbrev pub Prepares : SourceView → SourceView → Result Room Outcome → Type 0
-Prepares before after (Ok room) =
-    (script : List (List AskedLine)) × ScriptMeans before after (Ok script)
+abbrev pub Prepares : Option ℕ → SourceView → SourceView → Result Room Outcome → Type 0
+Prepares writer before after (Ok room) =
+    (script : List (List AskedLine)) × ScriptMeans writer before after (Ok script)
     × IsPreparedFor script room
-Prepares before after (Err outcome) = IsUnprepared before after outcome
+Prepares writer before after (Err outcome) = IsUnprepared writer before after outcome

@@ -6,7 +6,7 @@ use Rattle.segment_disk.specs.Stream.{LosesFront}
 use Rattle.wal_script.specs.Asked.{AskedLine}
 use Rattle.wal_script.specs.declared.line.Refusal.{Refusal}
 use Rattle.wal_script.specs.Meaning.{script_limit}
-use Rattle.wal_script.specs.Run.{backends_meaning}
+use Rattle.wal_script.specs.Run.{run_meaning}
 use Rattle.backend_cli.specs.declared.reading.ScriptUnread.{ScriptUnread}
 use Rattle.backend_cli.specs.declared.reading.ScriptUnread.TheVariants.{Memory, Source}
 use Rattle.backend_cli.specs.Outside.{SourceView}
@@ -46,9 +46,10 @@ abbrev pub ScriptMeansBy : {X : Type 0} → (List ℕ → Result X Refusal) → 
 ScriptMeansBy by before after meaning =
     (bytes : List ℕ) × ReadsScript before after bytes × (by bytes ≡ meaning)
 
--- the script of a run
-abbrev pub ScriptMeans : SourceView → SourceView → Result (List (List AskedLine)) Refusal → Type 0
-ScriptMeans before after meaning = ScriptMeansBy backends_meaning before after meaning
+-- the script of a run that has a log writer of so many lines, or none
+abbrev pub ScriptMeans : Option ℕ → SourceView → SourceView
+    → Result (List (List AskedLine)) Refusal → Type 0
+ScriptMeans writer before after meaning = ScriptMeansBy (run_meaning writer) before after meaning
 
 -- bytes were read off a source, no more than were asked for, and the source did not fail
 pub record HasRead (most : ℕ) (before now : SourceView) (bytes : List ℕ) : Type 0 where

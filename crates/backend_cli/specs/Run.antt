@@ -1,5 +1,5 @@
 -- What a run promises.
-use Rattle.std.specs.Prelude.{◌≡◌, ◌-◌, ◌^◌, ◌<◌, List, [], ◌∷◌, length, None, Ok, Err, IfSome, IsSome}
+use Rattle.std.specs.Prelude.{◌≡◌, ℕ, ◌-◌, ◌^◌, ◌<◌, List, [], ◌∷◌, length, None, Ok, Option, Err, IfSome, IsSome}
 use Rattle.segment_disk.specs.Tape.{state_now, page_of_segment}
 use Rattle.flush_core.specs.Pages.{HoldsNothing}
 use Rattle.wal_script.specs.Asked.{AskedLine}
@@ -7,12 +7,14 @@ use Rattle.backend_cli.specs.declared.outcome.Outcome.{Outcome}
 use Rattle.backend_cli.specs.declared.outcome.Outcome.TheVariants.{Done, OutOfMemory, SourceFault, ScriptRefused, NotEmpty, DiskFault, LogFull, SinkFault}
 use Rattle.told_lines.specs.declared.told.Told.{Told}
 use Rattle.told_lines.specs.Told.{TellsAll, EachStaysDown, order_from, IsFullAnswer, IsRefused, SomeTold}
+use Rattle.told_lines.specs.CatchingUp.{EachCatchesUp}
 use Rattle.told_lines.specs.Counts.{TellsOneFault}
 use Rattle.told_lines.specs.Moments.{EachRises}
 use Rattle.told_lines.specs.Crash.{EachIsTimely}
 use Rattle.told_lines.specs.Rooms.{all_rooms_asked, capacity_of}
 use Rattle.command_words.specs.declared.commands.GenOptions.{GenOptions}
 use Rattle.command_words.specs.declared.commands.RunOptions.{RunOptions}
+use Rattle.command_words.specs.declared.commands.ScriptRunOptions.{ScriptRunOptions}
 use Rattle.generated_lines.specs.Generated.{generated_script}
 use Rattle.told_lines.specs.Whole.{IsWhole}
 use Rattle.wal_rule.specs.Founded.{empty_log_opening}
@@ -24,30 +26,30 @@ use Rattle.backend_cli.specs.Reading.{ScriptMeans}
 use Rattle.segment_disk.specs.Cause.{Rose, RoseByOne}
 use Rattle.backend_cli.specs.Outside.{Outside, Took, IsUntouched}
 
--- the script that the source handed out means some lines
-abbrev pub MeansSome : Outside → Type 0
-MeansSome outside =
+-- the script that the source handed out means some lines, with the run's writer
+abbrev pub MeansSome : Option ℕ → Outside → Type 0
+MeansSome writer outside =
     (script : List (List AskedLine))
-    × ScriptMeans outside.source_before outside.source_after (Ok script)
+    × ScriptMeans writer outside.source_before outside.source_after (Ok script)
 
 -- how a run ends that did not open the log, and why; it ends in no other way
-abbrev pub EndsUnopened : Outside → Outcome → Type 0
-EndsUnopened outside OutOfMemory =
+abbrev pub EndsUnopened : Option ℕ → Outside → Outcome → Type 0
+EndsUnopened writer outside OutOfMemory =
     (outside.source_after.faults ≡ outside.source_before.faults)
     × (outside.disk_after ≡ outside.disk_before)
-EndsUnopened outside SourceFault =
+EndsUnopened writer outside SourceFault =
     RoseByOne outside.source_before.faults outside.source_after.faults
     × (outside.disk_after ≡ outside.disk_before)
-EndsUnopened outside (ScriptRefused refusal) =
-    ScriptMeans outside.source_before outside.source_after (Err refusal)
+EndsUnopened writer outside (ScriptRefused refusal) =
+    ScriptMeans writer outside.source_before outside.source_after (Err refusal)
     × (outside.disk_after ≡ outside.disk_before)
-EndsUnopened outside NotEmpty =
-    MeansSome outside
+EndsUnopened writer outside NotEmpty =
+    MeansSome writer outside
     × IfSome outside.tape_before (λ t. IsSome (page_of_segment (state_now t 1) 0))
     × (outside.disk_after ≡ outside.disk_before)
-EndsUnopened outside DiskFault =
-    MeansSome outside × RoseByOne outside.disk_before outside.disk_after
-EndsUnopened outside others = ⊥
+EndsUnopened writer outside DiskFault =
+    MeansSome writer outside × RoseByOne outside.disk_before outside.disk_after
+EndsUnopened writer outside others = ⊥
 
 -- the same of a run whose script is known
 abbrev pub EndsUnplayed : Outside → Outcome → Type 0
@@ -94,7 +96,8 @@ pub record HoldsOpened (outside : Outside) (options : RunOptions) (outcome : Out
   pub words : HoldsNothing outside.tape_before → IfSome outside.tape_after (LeavesLogWords
       options.geometry system_id (order_from options.geometry 1 script lists)
       outside.moment_before)
-  pub moments : EachRises outside.moment_before lists outside.moment_after
+  pub caught_up : EachCatchesUp script lists
+  pub moments : EachRises outside.moment_before script lists outside.moment_after
   pub no_late_receipt : HoldsNothing outside.tape_before → IfSome outside.tape_after
       (λ t. EachIsTimely options.geometry outside.moment_before
       (order_from options.geometry 1 script lists) t 1 script lists)
@@ -116,13 +119,14 @@ PlayHolds outside options outcome script [] = EndsUnplayed outside outcome × Is
 PlayHolds outside options outcome script (told ∷ others) =
     HoldsOpened outside options outcome script (told ∷ others)
 
--- the same of the script that the source handed out
-abbrev pub RunHolds : Outside → RunOptions → Outcome → List (List Told) → Type 0
-RunHolds outside options outcome [] = EndsUnopened outside outcome × IsUntouched outside
+-- the same of the script that the source handed out, with the run's writer
+abbrev pub RunHolds : Outside → ScriptRunOptions → Outcome → List (List Told) → Type 0
+RunHolds outside options outcome [] =
+    EndsUnopened options.writer outside outcome × IsUntouched outside
 RunHolds outside options outcome (told ∷ others) =
     (script : List (List AskedLine))
-    × ScriptMeans outside.source_before outside.source_after (Ok script)
-    × HoldsOpened outside options outcome script (told ∷ others)
+    × ScriptMeans options.writer outside.source_before outside.source_after (Ok script)
+    × HoldsOpened outside options.run outcome script (told ∷ others)
 
 -- the run of lines that are made: no script is read
 pub record GenHolds (outside : Outside) (options : GenOptions) (outcome : Outcome)

@@ -31,6 +31,8 @@ pub(crate) fn put_told<O: Sink>(
         Told::Wrote { start, end } => put_wrote(out, backend, line, *start, *end),
         Told::Hard { start, end, moment } => put_hard(out, backend, line, *start, *end, *moment),
         Told::Flushed { upto, moment } => put_flushed(out, backend, line, *upto, *moment),
+        Told::Async { start, end } => put_async(out, backend, line, *start, *end),
+        Told::Idle { upto } => put_idle(out, backend, line, *upto),
         Told::Refused { cause, reserved } => put_refused(out, backend, line, cause, reserved),
     }
 }
@@ -115,6 +117,55 @@ fn put_flushed<'a, O: Sink>(
             upto.text().as_bytes(),
             b" ",
             digits.format(moment).as_bytes(),
+            b"\n",
+        ],
+    )
+}
+
+// The same of a commit that was answered ahead.
+fn put_async<'a, O: Sink>(
+    out: &mut O,
+    backend: &'a [u8],
+    line: &'a [u8],
+    start: Lsn,
+    end: Lsn,
+) -> Result<(), SinkFault>
+    ensures { Puts (O.taken out.old) (O.taken out.new) (O.faults out.old) (O.faults out.new)
+        (joined (backend.now ∷ codes " " ∷ line.now ∷ answer_text (Told.Async start end))) result }
+{
+    put_all(
+        out,
+        &[
+            backend,
+            b" ",
+            line,
+            b" async ",
+            start.text().as_bytes(),
+            b" ",
+            end.text().as_bytes(),
+            b"\n",
+        ],
+    )
+}
+
+// The same of a flush behind that found nothing to do.
+fn put_idle<'a, O: Sink>(
+    out: &mut O,
+    backend: &'a [u8],
+    line: &'a [u8],
+    upto: Lsn,
+) -> Result<(), SinkFault>
+    ensures { Puts (O.taken out.old) (O.taken out.new) (O.faults out.old) (O.faults out.new)
+        (joined (backend.now ∷ codes " " ∷ line.now ∷ answer_text (Told.Idle upto))) result }
+{
+    put_all(
+        out,
+        &[
+            backend,
+            b" ",
+            line,
+            b" idle ",
+            upto.text().as_bytes(),
             b"\n",
         ],
     )

@@ -50,6 +50,8 @@ fn read_replay<S: Source>(alloc: Global, source: &mut S) -> Result<Replay, Outco
     Ok(parse_replay(alloc, &script)?)
 }
 
+// What a line asks of the machine. The last two kinds do not come: `parse_replay` refuses a script
+// with such a line, since a replay has neither commits answered ahead nor flushes behind.
 fn machine_line(line: Line) -> PlainLine
     ensures { result ≡ machine_line_of line.action }
 {
@@ -57,6 +59,8 @@ fn machine_line(line: Line) -> PlainLine
         Action::Insert(body) => PlainLine::Insert(body),
         Action::Commit(body) => PlainLine::Commit(body),
         Action::Flush => PlainLine::Flush,
+        Action::CommitAsync(body) => PlainLine::Commit(body),
+        Action::WriteBehind => PlainLine::Flush,
     }
 }
 
@@ -95,6 +99,8 @@ fn begin(
 ) -> Result<ReplayBegun, AllocError>
     requires in_range { IsShapeInRange options.now.ring_pages options.now.cap_segments }
     requires few { length backends.items ≤ most_backends }
+    // The lines do what some script asks for, so the records can be inserted, and none is a switch.
+    requires asked { (asked : List (List AskedLine)) × AreBackendsOf asked backends.items }
     ensures { (asked : List (List AskedLine)) → AreBackendsOf asked backends.items
         → IfOk result (λ begun. IsReplayBegun options.now asked begun) }
 {

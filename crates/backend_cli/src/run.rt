@@ -24,14 +24,14 @@ use crate::setup::setup_asked;
 use crate::told::ToldLists;
 use backend_lanes::{AnsweredLines, Gate, PlayedRun, Room, play_backends};
 use byte_position::Geometry;
-use command_words::RunOptions;
+use command_words::{RunOptions, ScriptRunOptions};
 use segment_disk::{Disk, Sink, Source};
 use std::alloc::{AllocError, Global};
 use std::sync::Wait;
 use std::thread::Threads;
 use told_lines::Told;
 use wal_log::{Closed, OpenFaultKind, Wal};
-use wal_script::{Line, parse_backends};
+use wal_script::{Line, parse_run};
 use wal_types::Lsn;
 use waldump_text::SinkFault;
 
@@ -43,22 +43,26 @@ pub(crate) struct Finished<D> {
     pub told: ToldLists,
 }
 
-fn backends_of<S: Source>(alloc: Global, source: &mut S) -> Result<Vec<Vec<Line>>, Outcome>
-    ensures { ReadsBackends
+fn backends_of<S: Source>(
+    alloc: Global,
+    writer: Option<u32>,
+    source: &mut S,
+) -> Result<Vec<Vec<Line>>, Outcome>
+    ensures { ReadsBackends writer
         (source_view S.left S.handed S.ends_told S.faults source.old)
         (source_view S.left S.handed S.ends_told S.faults source.new) result }
 {
     let script = read_script(alloc, source)?;
-    Ok(parse_backends(alloc, &script)?)
+    Ok(parse_run(alloc, &script, writer)?)
 }
 
 // Reads the script and takes all room that its backends need.
-fn prepare<S: Source>(alloc: Global, source: &mut S) -> Result<Room, Outcome>
-    ensures { Prepares
+fn prepare<S: Source>(alloc: Global, writer: Option<u32>, source: &mut S) -> Result<Room, Outcome>
+    ensures { Prepares writer
         (source_view S.left S.handed S.ends_told S.faults source.old)
         (source_view S.left S.handed S.ends_told S.faults source.new) result }
 {
-    let backends = backends_of(alloc, source)?;
+    let backends = backends_of(alloc, writer, source)?;
     match Room::of(alloc, backends) {
         Ok(room) => Ok(room),
         Err(AllocError) => Err(Outcome::OutOfMemory),
@@ -276,13 +280,13 @@ fn conclude<O: Sink, D>(options: &RunOptions, played: PlayedRun<D>, out: &mut O)
 pub(crate) fn run<R: Threads + Wait + Sync, S: Source, O: Sink, D: Disk + Send, G: Gate + Sync>(
     rt: &R,
     alloc: Global,
-    options: &RunOptions,
+    options: &ScriptRunOptions,
     source: &mut S,
     disk: D,
     out: &mut O,
     gate: &G,
 ) -> Finished<D>
-    requires in_range { IsShapeInRange options.now.ring_pages options.now.cap_segments }
+    requires in_range { IsShapeInRange options.now.run.ring_pages options.now.run.cap_segments }
     ensures holds { RunHolds (outside_of
         (source_view S.left S.handed S.ends_told S.faults source.old)
         (source_view S.left S.handed S.ends_told S.faults source.new)
@@ -290,8 +294,8 @@ pub(crate) fn run<R: Threads + Wait + Sync, S: Source, O: Sink, D: Disk + Send, 
         options.now result.outcome result.told }
     ensures as_handed_in { result.outcome ≡ Outcome.OutOfMemory → result.disk ≡ disk }
 {
-    match prepare(alloc, source) {
-        Ok(room) => run_prepared(rt, alloc, options, room, disk, out, gate),
+    match prepare(alloc, options.writer, source) {
+        Ok(room) => run_prepared(rt, alloc, &options.run, room, disk, out, gate),
         Err(outcome) => Finished {
             outcome,
             disk,

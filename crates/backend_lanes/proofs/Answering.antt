@@ -1,15 +1,17 @@
 -- What a line leaves of a session, by what the log answered.
 use Rattle.std.proofs.Math.Logic.{∥∥₁_elim}
 use mathlib.Core.Bool.{Bool-set}
-use Rattle.std.specs.Prelude.{Result, Ok, Err, Option, Some, None}
-use Rattle.std.proofs.Common.{◌≡◌, ◌⊎◌, ℕ, ◌<◌, ◌≤◌, max, List, [], ◌∷◌, ◌++◌, refl, sym, ap, ◌∙◌, subst, inl, inr, arith}
+use Rattle.std.specs.Prelude.{Result, Ok, Err, IfOk, Option, Some, None}
+use Rattle.std.proofs.Common.{◌≡◌, ◌⊎◌, false, ℕ, ◌<◌, ◌≤◌, max, List, [], ◌∷◌, ◌++◌, refl, sym, ap, ◌∙◌, subst, inl, inr, arith}
 use Rattle.std.proofs.lemmas.Bool.{cases_lt}
 use Rattle.byte_position.specs.Geometry.{IsSegmentSize}
 use Rattle.byte_position.specs.Position.{end_address_of, first_position}
 use Rattle.byte_position.proofs.EndAddresses.{end_address_of-mono, le-position_of}
 use Rattle.wal_types.specs.declared.lsn.Lsn.{Lsn}
 use Rattle.wal_types.specs.declared.record.Record.{Record}
-use Rattle.record_spelling.specs.Spelling.{Assembled, IsWritable, assembled}
+use Rattle.record_spelling.specs.Spelling as spelling
+use Rattle.record_spelling.specs.Spelling.{Assembled, IsLogRecord, assembled, is_assembled_switch}
+use Rattle.record_spelling.proofs.SwitchLaws.{is_assembled_switch-inserted}
 use Rattle.wal_page.specs.Order.{Entry, assembled_room_at, finish_of, position_behind, start_of}
 use Rattle.wal_types.specs.declared.answers.Cause.{Cause}
 use Rattle.wal_types.specs.declared.answers.Cause.TheVariants as causes
@@ -17,10 +19,10 @@ use Rattle.wal_types.specs.declared.answers.Hard as hard
 use Rattle.wal_types.specs.declared.answers.Receipt.{Receipt}
 use Rattle.wal_types.specs.declared.answers.Refused as refused
 use Rattle.wal_types.specs.declared.answers.Sealed.{Sealed}
-use Rattle.told_lines.specs.Answered.{told_of_commit, told_of_insert}
+use Rattle.told_lines.specs.Answered.{told_of_commit, told_of_commit_async, told_of_insert}
 use Rattle.told_lines.specs.declared.told.Told.{Told}
-use Rattle.told_lines.specs.declared.told.Told.TheVariants.{Wrote, Hard, Flushed, Refused}
-use Rattle.wal_script.specs.Asked.{Asked, Commit, Flush, Insert}
+use Rattle.told_lines.specs.declared.told.Told.TheVariants.{Wrote, Hard, Flushed, Async, Idle, Refused}
+use Rattle.wal_script.specs.Asked.{Asked, Commit, CommitAsync, Flush, Insert, WriteBehind}
 use Rattle.wal_script.specs.Bodies.{IsActionOf, IsBodyOf}
 use Rattle.wal_script.specs.declared.line.Action.TheVariants as actions
 use Rattle.wal_core.specs.declared.setup.Setup.{Setup}
@@ -31,11 +33,14 @@ use Rattle.wal_rule.specs.Stepping.{Stands}
 use Rattle.wal_rule.specs.Passes.{view_of_pass}
 use Rattle.wal_core.specs.Views.{View}
 use Rattle.wal_rule.specs.declared.pass.Pass.{Pass}
+use Rattle.wal_log.specs.declared.behind.Caught.{Caught}
+use Rattle.wal_log.specs.declared.behind.Caught.TheVariants as caught
 use Rattle.wal_log.specs.declared.flushing.FlushErr.{FlushErr}
 use Rattle.wal_log.specs.declared.flushing.FlushErr.TheVariants as flushes
 use Rattle.wal_log.specs.declared.inserting.InsertErr.{InsertErr}
 use Rattle.wal_log.specs.declared.inserting.InsertErr.TheVariants as inserts
 use Rattle.wal_log.specs.declared.wal.Wal.{Wal}
+use Rattle.wal_log.specs.Behind.{AnswersBehind, SeesTarget, behind_known_down, page_of_end, page_start, view_met_up}
 use Rattle.wal_log.specs.Committing.{AnswersCommit, RefusesCommit, commit_known_down, refused_of_insert}
 use Rattle.wal_log.specs.Flushing.{AnswersFlush, IsUnreserved, flush_err_known_down}
 use Rattle.wal_log.specs.Inserting.{AnswersInsert, IsOwnEntry, IsStarted, RefusesInsert}
@@ -97,17 +102,28 @@ abbrev pub told_of_inserted : Result Receipt InsertErr → Told
 told_of_inserted (Ok receipt) = Wrote receipt.start receipt.end
 told_of_inserted (Err e) = told_of_insert (Err (refused_of_insert e))
 
+abbrev pub told_of_ahead : Result Receipt InsertErr → Told
+told_of_ahead (Ok receipt) = Async receipt.start receipt.end
+told_of_ahead (Err e) = told_of_commit_async (Err (refused_of_insert e))
+
 abbrev pub told_of_flushed : Result hard.Hard FlushErr → Told
 told_of_flushed (Ok done) = Flushed done.upto done.moment
 told_of_flushed (Err (flushes.Disk faults)) = Refused (causes.Disk faults) None
 told_of_flushed (Err (flushes.Down faults)) = Refused (causes.Down faults) None
 told_of_flushed (Err (flushes.Unreserved found)) = Refused (causes.Down 0) None
 
+abbrev pub told_of_caught : Result Caught FlushErr → Told
+told_of_caught (Ok (caught.Flushed done)) = Flushed done.upto done.moment
+told_of_caught (Ok (caught.Idle upto)) = Idle upto
+told_of_caught (Err e) = told_of_flushed (Err e)
+
 -- the end kept behind an answer
 abbrev pub end_behind : ℕ → Told → ℕ
 end_behind end (Wrote start last) = max end last.0
 end_behind end (Hard start last moment) = max end last.0
 end_behind end (Flushed upto moment) = end
+end_behind end (Async start last) = max end last.0
+end_behind end (Idle upto) = end
 end_behind end (Refused cause reserved) = end
 
 pub flush_keeps_end : (end : ℕ) (answer : Result hard.Hard FlushErr)
@@ -117,16 +133,32 @@ flush_keeps_end end (Err (flushes.Disk faults)) = refl
 flush_keeps_end end (Err (flushes.Down faults)) = refl
 flush_keeps_end end (Err (flushes.Unreserved found)) = refl
 
+pub caught_keeps_end : (end : ℕ) (answer : Result Caught FlushErr)
+    → end_behind end (told_of_caught answer) ≡ end
+caught_keeps_end end (Ok (caught.Flushed done)) = refl
+caught_keeps_end end (Ok (caught.Idle upto)) = refl
+caught_keeps_end end (Err e) = flush_keeps_end end (Err e)
+
+-- a commit that is answered ahead has its end told as an insert has
+ahead_keeps_end : (end : ℕ) (answer : Result Receipt InsertErr)
+    → end_behind end (told_of_inserted answer) ≡ end_behind end (told_of_ahead answer)
+ahead_keeps_end end (Ok receipt) = refl
+ahead_keeps_end end (Err e) = refl
+
 pub ends_by_end_behind : (end : ℕ) (told : Told) → EndsBy (end_behind end told) told
 ends_by_end_behind end (Wrote start last) = omega arith
 ends_by_end_behind end (Hard start last moment) = omega arith
 ends_by_end_behind end (Flushed upto moment) = tt
+ends_by_end_behind end (Async start last) = omega arith
+ends_by_end_behind end (Idle upto) = tt
 ends_by_end_behind end (Refused cause reserved) = tt
 
 pub le-end_behind : (end : ℕ) (told : Told) → end ≤ end_behind end told
 le-end_behind end (Wrote start last) = omega arith
 le-end_behind end (Hard start last moment) = omega arith
 le-end_behind end (Flushed upto moment) = omega arith
+le-end_behind end (Async start last) = omega arith
+le-end_behind end (Idle upto) = omega arith
 le-end_behind end (Refused cause reserved) = omega arith
 
 -- an insert is refused as its commit would be
@@ -225,11 +257,27 @@ module _ (setup : Setup) (valid : IsSegmentSize setup.segment_size) (old new : V
   end_flushed asked (Ok done) told = end_stays (ap (λ (l : PassLog). l.entries) told.0.log_is)
   end_flushed asked (Err e) why = end_stays (ap (λ (l : PassLog). l.entries) why.0)
 
+  pub end_caught : (answer : Result Caught FlushErr) → AnswersBehind old answer new
+      → HasEnd setup end new
+  end_caught (Ok (caught.Flushed done)) told =
+      end_stays (ap (λ (l : PassLog). l.entries) told.told.log_is)
+  end_caught (Ok (caught.Idle upto)) told =
+      end_stays (ap (λ (l : PassLog). l.entries) told.log_is)
+  end_caught (Err e) why = end_stays (ap (λ (l : PassLog). l.entries) why.0)
+
+-- ---- a line's record
+
+-- its body is of one that can be inserted, so of no segment switch
+pub no_switch : (body : Assembled) (value : Record) → IsBodyOf value body
+    → is_assembled_switch body ≡ false
+no_switch body value is_body =
+    ap is_assembled_switch is_body.0 ∙ is_assembled_switch-inserted value is_body.1
+
 -- ---- what a line leaves of its pass
 
 -- a body is one of a single record, as `body_knows_its_record` of wal_record says
 abbrev pub KnowsRecords : Type 0
-KnowsRecords = (r other : Record) → IsWritable r → IsWritable other
+KnowsRecords = (r other : Record) → IsLogRecord r → IsLogRecord other
     → assembled r ≡ assembled other → r ≡ other
 
 module _ (knows_record : KnowsRecords) (setup : Setup) (body : Assembled)
@@ -237,7 +285,8 @@ module _ (knows_record : KnowsRecords) (setup : Setup) (body : Assembled)
   entry_is : (e : Entry) (own : IsOwnEntry setup body old e)
       → e ≡ entry_reserved (old.reserving).number own.at value
   entry_is e own = own.entry_is ∙ ap (entry_reserved (old.reserving).number own.at)
-      (knows_record own.value value own.writable is_body.1 (own.of_body ∙ is_body.0))
+      (knows_record own.value value (spelling.inserted own.writable) (spelling.inserted is_body.1)
+      (own.of_body ∙ is_body.0))
 
   reserves : (e : Entry) (own : IsOwnEntry setup body old e) (start : ℕ) (after : PassLog)
       → start ≡ start_of setup.segment_size e → after ≡ log_with_entry e (log_of_pass old)
@@ -328,31 +377,68 @@ module _ (knows_record : KnowsRecords) (setup : Setup) (body : Assembled)
   }
   committed (Err e) why = refuses e.cause e.reserved why
 
-  pub plays_insert : (answer : Result Receipt InsertErr) (told : Told)
+  ahead : (answer : Result Receipt InsertErr) → AnswersInsert setup body old answer new
+      → IfOk answer (λ receipt. receipt.end.0 ≤ new.async_met)
+      → Leaves setup.segment_size (log_limit setup) (old.reserving).number (CommitAsync value)
+      (told_of_ahead answer) (pass_state_of old) (pass_state_of new)
+  ahead (Ok receipt) told counted =
+      record { reserved = inserted (Ok receipt) told; counted = counted }
+  ahead (Err e) why counted = inserted (Err e) why
+
+  ahead_caused : (answer : Result Receipt InsertErr) → AnswersInsert setup body old answer new
+      → TellsCause (told_of_ahead answer) (pass_state_of old) (pass_state_of new)
+  ahead_caused (Ok receipt) told = (told.up.met, told.up.set)
+  ahead_caused (Err e) why = insert_caused (Err e) why
+
+  pub plays_ahead : KeepsPass old new → (answer : Result Receipt InsertErr) (told : Told)
+      → told ≡ told_of_ahead answer → AnswersInsert setup body old answer new
+      → IfOk answer (λ receipt. receipt.end.0 ≤ new.async_met)
+      → ((faults : ℕ) → KnowsDown faults old → answer ≡ Err (inserts.Down faults None))
+      → PlaysLine setup.segment_size (log_limit setup) (old.reserving).number (CommitAsync value)
+      told (pass_state_of old) (pass_state_of new)
+  plays_ahead keeps answer told is answers counted again = record {
+    writable = is_body.1;
+    leaves = subst (λ (t : Told). Leaves setup.segment_size (log_limit setup)
+        (old.reserving).number (CommitAsync value) t (pass_state_of old) (pass_state_of new))
+        (sym is) (ahead answer answers counted);
+    cause = subst (λ (t : Told). TellsCause t (pass_state_of old) (pass_state_of new)) (sym is)
+        (ahead_caused answer answers);
+    counts = keeps.counts;
+    sees = keeps.rises;
+    again = λ faults knows. is ∙ ap told_of_ahead (again faults knows);
+  }
+
+  pub plays_insert : KeepsPass old new → (answer : Result Receipt InsertErr) (told : Told)
       → told ≡ told_of_inserted answer → AnswersInsert setup body old answer new
       → ((faults : ℕ) → KnowsDown faults old → answer ≡ Err (inserts.Down faults None))
       → PlaysLine setup.segment_size (log_limit setup) (old.reserving).number (Insert value) told
       (pass_state_of old) (pass_state_of new)
-  plays_insert answer told is answers again = record {
+  plays_insert keeps answer told is answers again = record {
+    writable = is_body.1;
     leaves = subst (λ (t : Told). Leaves setup.segment_size (log_limit setup)
         (old.reserving).number (Insert value) t (pass_state_of old) (pass_state_of new)) (sym is)
         (inserted answer answers);
     cause = subst (λ (t : Told). TellsCause t (pass_state_of old) (pass_state_of new)) (sym is)
         (insert_caused answer answers);
+    counts = keeps.counts;
+    sees = keeps.rises;
     again = λ faults knows. is ∙ ap told_of_inserted (again faults knows);
   }
 
-  pub plays_commit : (answer : Result Sealed refused.Refused) (told : Told)
+  pub plays_commit : KeepsPass old new → (answer : Result Sealed refused.Refused) (told : Told)
       → told ≡ told_of_commit answer → AnswersCommit setup body old answer new
       → ((faults : ℕ) → KnowsDown faults old → answer ≡ commit_known_down faults)
       → PlaysLine setup.segment_size (log_limit setup) (old.reserving).number (Commit value) told
       (pass_state_of old) (pass_state_of new)
-  plays_commit answer told is answers again = record {
+  plays_commit keeps answer told is answers again = record {
+    writable = is_body.1;
     leaves = subst (λ (t : Told). Leaves setup.segment_size (log_limit setup)
         (old.reserving).number (Commit value) t (pass_state_of old) (pass_state_of new)) (sym is)
         (committed answer answers);
     cause = subst (λ (t : Told). TellsCause t (pass_state_of old) (pass_state_of new)) (sym is)
         (commit_caused answer answers);
+    counts = keeps.counts;
+    sees = keeps.rises;
     again = λ faults knows. is ∙ ap told_of_commit (again faults knows);
   }
 
@@ -401,18 +487,127 @@ module _ (setup : Setup) (valid : IsSegmentSize setup.segment_size) (old new : V
     flush_caused (Err (flushes.Unreserved found)) why =
         absurd (never_unreserved had.reserved found.0 why.1)
 
-    pub plays_flush : (answer : Result hard.Hard FlushErr) (told : Told)
+    pub plays_flush : KeepsPass old new → (answer : Result hard.Hard FlushErr) (told : Told)
         → told ≡ told_of_flushed answer → AnswersFlush end old answer new
         → ((faults : ℕ) → KnowsDown faults old → answer ≡ flush_err_known_down faults)
         → PlaysLine setup.segment_size (log_limit setup) (old.reserving).number Flush told
         (pass_state_of old) (pass_state_of new)
-    plays_flush answer told is answers again = record {
+    plays_flush keeps answer told is answers again = record {
+      writable = tt;
       leaves = subst (λ (t : Told). Leaves setup.segment_size (log_limit setup)
           (old.reserving).number Flush t (pass_state_of old) (pass_state_of new)) (sym is)
           (flushed answer answers again);
       cause = subst (λ (t : Told). TellsCause t (pass_state_of old) (pass_state_of new)) (sym is)
           (flush_caused answer answers);
+      counts = keeps.counts;
+      sees = keeps.rises;
       again = λ faults knows. is ∙ ap told_of_flushed (again faults knows);
+    }
+
+-- a flush behind, by a pass beside which this end is kept
+module _ (setup : Setup) (valid : IsSegmentSize setup.segment_size) (old : View)
+    (own : (old.opening).setup ≡ setup) (end : ℕ) (had : HasEnd setup end old) where
+  page_rises : (a b : ℕ) → a ≤ b → page_start a ≤ page_start b
+  page_rises a b low = omega (arith, low)
+
+  -- it sees no less reserved than what the pass has
+  module _ (flushed target : ℕ) (sight : View)
+      (sees : SeesTarget flushed target (view_met_up old) sight) where
+    same_form : end_form (old.opening).setup (sight.reserving).seen
+        ≡ end_form setup (sight.reserving).seen
+    same_form = ap (λ (s : Setup). end_form s (sight.reserving).seen) own
+
+    sees_own : end_of_own setup.segment_size (old.reserving).entries ≤ end
+        → end_of_own setup.segment_size (old.reserving).entries
+        ≤ end_form (old.opening).setup (sight.reserving).seen
+    sees_own low =
+        let size = ap (λ (s : Setup). s.segment_size) own in
+        let begun = sees.begun in
+        elim (reserved_since setup valid end old sight sees.rises had.reserved) [
+          | inl below ↦ omega (arith, low, below, size, begun)
+          | inr below ↦ omega (arith, low, below, same_form)
+        ]
+
+    page_seen : end_of_own setup.segment_size (old.reserving).entries ≤ end
+        → page_start (end_of_own setup.segment_size (old.reserving).entries)
+        ≤ page_of_end old (sight.reserving).seen
+    page_seen low = page_rises (end_of_own setup.segment_size (old.reserving).entries)
+        (end_form (old.opening).setup (sight.reserving).seen) (sees_own low)
+
+    reaches_page : end_of_own setup.segment_size (old.reserving).entries ≤ end
+        → flushed < target
+        → page_start (end_of_own setup.segment_size (old.reserving).entries) ≤ target
+    reaches_page low above = elim sees.target_is [
+      | inl page ↦ (let is = page.1 in omega (arith, page_seen low, is))
+      | inr async ↦ (let below = async.0 in omega (arith, page_seen low, below, above))
+    ]
+
+  -- unless it is told that the disk has failed, what is kept is no less than the pass's own end
+  own_low : {A : Type 0} (answer : Result A FlushErr) (done : A) → answer ≡ Ok done
+      → ((faults : ℕ) → KnowsDown faults old → answer ≡ Err (flushes.Down faults))
+      → end_of_own setup.segment_size (old.reserving).entries ≤ end
+  own_low answer done is again = elim had.own [
+    | inl low ↦ low
+    | inr known ↦ absurd (never_both answer done (flushes.Down known.0) is
+        (again known.0 known.1))
+  ]
+
+  module _ (new : View) where
+    caught_up : (answer : Result Caught FlushErr) → AnswersBehind old answer new
+        → ((faults : ℕ) → KnowsDown faults old → answer ≡ behind_known_down faults)
+        → Leaves setup.segment_size (log_limit setup) (old.reserving).number WriteBehind
+        (told_of_caught answer) (pass_state_of old) (pass_state_of new)
+    caught_up (Ok (caught.Flushed done)) told again =
+        let low = own_low (Ok (caught.Flushed done)) (caught.Flushed done) refl again in
+        let page = reaches_page told.found.flushed told.target told.found.sight told.found.sees low
+        told.found.above in
+        record {
+          behind = record {
+            page = (let far = told.told.reached in omega (arith, page, far));
+            furthest = told.told.latest.addresses;
+          };
+          log_is = told.told.log_is;
+        }
+    caught_up (Ok (caught.Idle upto)) told again =
+        let low = own_low (Ok (caught.Idle upto)) (caught.Idle upto) refl again in
+        let page = page_seen upto.0 new.async_met new told.sees low in record {
+          behind = record {
+            page = (let below = told.page in omega (arith, page, below));
+            furthest = told.sees.furthest;
+          };
+          ahead = told.async;
+          reserved = (let within = told.sees.flushed_low in
+              omega (arith, within, same_form upto.0 new.async_met new told.sees));
+          log_is = told.log_is;
+        }
+    caught_up (Err (flushes.Disk faults)) why again =
+        (why.0, (why.1.2.down.some, inr why.1.2.down.set))
+    caught_up (Err (flushes.Down faults)) why again = (why.0, (why.1.some, inl why.1.met))
+    caught_up (Err (flushes.Unreserved found)) why again = absurd why.1
+
+    caught_caused : (answer : Result Caught FlushErr) → AnswersBehind old answer new
+        → TellsCause (told_of_caught answer) (pass_state_of old) (pass_state_of new)
+    caught_caused (Ok (caught.Flushed done)) told = (told.told.up.met, told.told.up.set)
+    caught_caused (Ok (caught.Idle upto)) told = (told.up.met, told.up.set)
+    caught_caused (Err (flushes.Disk faults)) why = why.1.2.down.set
+    caught_caused (Err (flushes.Down faults)) why = (why.1.met, why.1.set_none)
+    caught_caused (Err (flushes.Unreserved found)) why = absurd why.1
+
+    pub plays_behind : KeepsPass old new → (answer : Result Caught FlushErr) (told : Told)
+        → told ≡ told_of_caught answer → AnswersBehind old answer new
+        → ((faults : ℕ) → KnowsDown faults old → answer ≡ behind_known_down faults)
+        → PlaysLine setup.segment_size (log_limit setup) (old.reserving).number WriteBehind told
+        (pass_state_of old) (pass_state_of new)
+    plays_behind keeps answer told is answers again = record {
+      writable = tt;
+      leaves = subst (λ (t : Told). Leaves setup.segment_size (log_limit setup)
+          (old.reserving).number WriteBehind t (pass_state_of old) (pass_state_of new)) (sym is)
+          (caught_up answer answers again);
+      cause = subst (λ (t : Told). TellsCause t (pass_state_of old) (pass_state_of new)) (sym is)
+          (caught_caused answer answers);
+      counts = keeps.counts;
+      sees = keeps.rises;
+      again = λ faults knows. is ∙ ap told_of_caught (again faults knows);
     }
 
 -- ---- what an action asks for
@@ -424,12 +619,24 @@ module _ (P : Asked → Type 0) (body : Assembled) where
   holds_of_insert at (Insert value) is = at value is
   holds_of_insert at (Commit value) is = absurd is
   holds_of_insert at Flush is = absurd is
+  holds_of_insert at (CommitAsync value) is = absurd is
+  holds_of_insert at WriteBehind is = absurd is
 
   pub holds_of_commit : ((value : Record) → IsBodyOf value body → P (Commit value))
       → (asked : Asked) → IsActionOf asked (actions.Commit body) → P asked
   holds_of_commit at (Insert value) is = absurd is
   holds_of_commit at (Commit value) is = at value is
   holds_of_commit at Flush is = absurd is
+  holds_of_commit at (CommitAsync value) is = absurd is
+  holds_of_commit at WriteBehind is = absurd is
+
+  pub holds_of_ahead : ((value : Record) → IsBodyOf value body → P (CommitAsync value))
+      → (asked : Asked) → IsActionOf asked (actions.CommitAsync body) → P asked
+  holds_of_ahead at (Insert value) is = absurd is
+  holds_of_ahead at (Commit value) is = absurd is
+  holds_of_ahead at Flush is = absurd is
+  holds_of_ahead at (CommitAsync value) is = at value is
+  holds_of_ahead at WriteBehind is = absurd is
 
 -- ---- what a line leaves of a session
 
@@ -500,7 +707,29 @@ module _ {D : Type 0} (wal : Wal D) (old new : Session) (pass : Pass) (here : Is
           → (value : Record) → IsBodyOf value body → PlaysAnswer wal (Insert value) told old new
       insert_plays_answer knows_record again value is_body = plays_answer (Insert value)
           (plays_insert knows_record (setup_of_log wal) body (view_of_session old)
-          (view_of_pass pass) value is_body answer told is answers again)
+          (view_of_pass pass) value is_body keeps answer told is answers again)
+
+    module _ (answer : Result Receipt InsertErr) (is : told ≡ told_of_ahead answer)
+        (answers : AnswersInsert (setup_of_log wal) body (view_of_session old) answer
+        (view_of_pass pass)) where
+      pub ahead_leaves_session : new.end.0 ≡ end_behind old.end.0 told
+          → LeavesSession wal told old new
+      ahead_leaves_session end_is = leaves_session end_is
+          (subst (λ (end : ℕ). HasEnd (setup_of_log wal) end (view_of_pass pass))
+          (ahead_keeps_end old.end.0 answer ∙ ap (end_behind old.end.0) (sym is))
+          (end_inserted (setup_of_log wal) (has_valid_size wal old.pass here.pass)
+          (view_of_session old) (view_of_pass pass) keeps old.end.0 has_end body answer answers))
+
+      pub ahead_plays_answer : KnowsRecords
+          → IfOk answer (λ receipt. receipt.end.0 ≤ (view_of_pass pass).async_met)
+          → ((faults : ℕ) → KnowsDown faults (view_of_session old)
+          → answer ≡ Err (inserts.Down faults None))
+          → (value : Record) → IsBodyOf value body
+          → PlaysAnswer wal (CommitAsync value) told old new
+      ahead_plays_answer knows_record counted again value is_body =
+          plays_answer (CommitAsync value)
+          (plays_ahead knows_record (setup_of_log wal) body (view_of_session old)
+          (view_of_pass pass) value is_body keeps answer told is answers counted again)
 
     module _ (answer : Result Sealed refused.Refused) (is : told ≡ told_of_commit answer)
         (answers : AnswersCommit (setup_of_log wal) body (view_of_session old) answer
@@ -519,7 +748,7 @@ module _ {D : Type 0} (wal : Wal D) (old new : Session) (pass : Pass) (here : Is
           → (value : Record) → IsBodyOf value body → PlaysAnswer wal (Commit value) told old new
       commit_plays_answer knows_record again value is_body = plays_answer (Commit value)
           (plays_commit knows_record (setup_of_log wal) body (view_of_session old)
-          (view_of_pass pass) value is_body answer told is answers again)
+          (view_of_pass pass) value is_body keeps answer told is answers again)
 
   module _ (answer : Result hard.Hard FlushErr) (is : told ≡ told_of_flushed answer)
       (answers : AnswersFlush old.end.0 (view_of_session old) answer (view_of_pass pass)) where
@@ -539,7 +768,26 @@ module _ {D : Type 0} (wal : Wal D) (old new : Session) (pass : Pass) (here : Is
     flush_plays_answer again = plays_answer Flush
         (plays_flush (setup_of_log wal) (has_valid_size wal old.pass here.pass)
         (view_of_session old) (view_of_pass pass) (has_setup wal old.pass here.pass) old.end.0
-        has_end answer told is answers again)
+        has_end keeps answer told is answers again)
+
+  module _ (answer : Result Caught FlushErr) (is : told ≡ told_of_caught answer)
+      (answers : AnswersBehind (view_of_session old) answer (view_of_pass pass)) where
+    pub behind_leaves_session : new.end.0 ≡ old.end.0 → LeavesSession wal told old new
+    behind_leaves_session end_is =
+        let stays : end_behind old.end.0 told ≡ old.end.0 =
+        ap (end_behind old.end.0) is ∙ caught_keeps_end old.end.0 answer in
+        leaves_session (end_is ∙ sym stays)
+        (subst (λ (end : ℕ). HasEnd (setup_of_log wal) end (view_of_pass pass)) (sym stays)
+        (end_caught (setup_of_log wal) (has_valid_size wal old.pass here.pass)
+        (view_of_session old) (view_of_pass pass) keeps old.end.0 has_end answer answers))
+
+    pub behind_plays_answer : ((faults : ℕ) → KnowsDown faults (view_of_session old)
+        → answer ≡ behind_known_down faults)
+        → PlaysAnswer wal WriteBehind told old new
+    behind_plays_answer again = plays_answer WriteBehind
+        (plays_behind (setup_of_log wal) (has_valid_size wal old.pass here.pass)
+        (view_of_session old) (has_setup wal old.pass here.pass) old.end.0 has_end
+        (view_of_pass pass) keeps answer told is answers again)
 
 -- a flush of the end kept is not found unreserved
 pub session_never_unreserved : {D : Type 0} (wal : Wal D) (session : Session)

@@ -15,7 +15,7 @@ use Rattle.wal_log.specs.Logs.{IsPassOfLog, setup_of_log}
 use Rattle.wal_log.specs.declared.wal.Wal.{Wal}
 use Rattle.wal_script.specs.Asked.{AskedLine}
 use Rattle.wal_script.specs.ReplayReading.{AreBackendsOf}
-use Rattle.run_laws.specs.Played.{end_of_own, pass_state_of}
+use Rattle.run_laws.specs.Played.{end_of_own, pass_state_of, state_at_first}
 use Rattle.wal_log.specs.Sharing.{ShareNumbers}
 use Rattle.wal_log.proofs.Lanes.{views_with_one_more}
 use Rattle.backend_lanes.specs.Backends.{HasRoom, scripts_of}
@@ -81,7 +81,8 @@ module _ {D : Type 0} (wal : Wal D) where
       joined = ap (λ (w : View). (w.reserving).joined) split;
       none_to_give = ap (λ (w : View). (w.reserving).spare_end) split;
     };
-    unplayed = ap pass_state_of split;
+    unplayed = ap pass_state_of split
+        ∙ ap (λ (w : View). state_at_first (w.reserving).seen) (sym split);
     room = room;
   }
 

@@ -13,8 +13,8 @@ use Rattle.wal_script.specs.Asked.{Asked, AskedLine}
 use Rattle.wal_script.specs.Bodies.{AreLinesOf, IsActionOf}
 use Rattle.wal_script.specs.declared.line.Line.{Line}
 use Rattle.told_lines.specs.declared.told.Told.{Told}
-use Rattle.told_lines.specs.declared.told.Told.TheVariants.{Wrote, Hard, Flushed, Refused}
-use Rattle.run_laws.specs.Played.{PassState, PlaysLine, PlaysLines, state_at_first}
+use Rattle.told_lines.specs.declared.told.Told.TheVariants.{Wrote, Hard, Flushed, Async, Idle, Refused}
+use Rattle.run_laws.specs.Played.{PassState, PlaysAllLines, PlaysLine, PlaysLines, state_at_first}
 use Rattle.run_laws.specs.Reached.{EndsBy}
 use Rattle.backend_lanes.specs.Sessions.{IsSessionOf, LeavesSession, PlaysAnswer, state_of_session, view_of_session}
 use Rattle.backend_lanes.specs.declared.session.Session.{Session}
@@ -26,6 +26,8 @@ pub ends_further : (address further : ℕ) → address ≤ further → (told : T
 ends_further address further more (Wrote start end) ends = omega (arith, more, ends)
 ends_further address further more (Hard start end moment) ends = omega (arith, more, ends)
 ends_further address further more (Flushed upto moment) ends = tt
+ends_further address further more (Async start end) ends = omega (arith, more, ends)
+ends_further address further more (Idle upto) ends = tt
 ends_further address further more (Refused cause reserved) ends = tt
 
 -- ---- the asked lines before a place, and the one that stands there
@@ -37,7 +39,7 @@ same_count [] (line ∷ lines) are = absurd are
 same_count (first ∷ asked) [] are = absurd are
 same_count (first ∷ asked) (line ∷ lines) are = ap suc (same_count asked lines are.2)
 
-asked_at : (asked : List AskedLine) (lines : List Line) (i : ℕ) (line : Line)
+pub asked_at : (asked : List AskedLine) (lines : List Line) (i : ℕ) (line : Line)
     → AreLinesOf asked lines → i < length lines → line ≡ get_or lines i line
     → (one : AskedLine) × IsActionOf one.asked line.action
     × (take (i + 1) asked ≡ take i asked ++ one ∷ [])
@@ -64,11 +66,13 @@ FollowOn = (size limit pass : ℕ) (before mid after : PassState) (lines : List 
     → PlaysLine size limit pass line.asked answer mid after
     → PlaysLines size limit pass before (lines ++ line ∷ []) (told ++ answer ∷ []) after
 
--- the lines that ask for this, played by a pass of this number, leave this state
-abbrev pub PlaysFor : {D : Type 0} → Wal D → ℕ → List AskedLine → List Told → PassState → Type 0
-PlaysFor wal pass asked told after =
-    PlaysLines (setup_of_log wal).segment_size (log_limit (setup_of_log wal)) pass state_at_first
-    asked told after
+-- the lines that ask for this, played by a pass of this number, which had seen so much reserved,
+-- leave this state
+abbrev pub PlaysFor : {D : Type 0} → Wal D → (pass seen : ℕ) → List AskedLine → List Told
+    → PassState → Type 0
+PlaysFor wal pass seen asked told after =
+    PlaysLines (setup_of_log wal).segment_size (log_limit (setup_of_log wal)) pass
+    (state_at_first seen) asked told after
 
 -- the lines before a place were played by a session that began with this view, and told these
 -- answers
@@ -76,14 +80,16 @@ pub record HasPlayedUpto {D : Type 0} (wal : Wal D) (begun : View) (lines : List
     (told : List Told) (session : Session) : Type 0 where
   pub each : length told ≡ i
   pub plays : (asked : List AskedLine) → AreLinesOf asked lines
-      → PlaysFor wal (begun.reserving).number (take i asked) told (state_of_session session)
+      → PlaysFor wal (begun.reserving).number (begun.reserving).seen (take i asked) told
+      (state_of_session session)
   pub of_log : IsSessionOf wal session
   pub keeps : KeepsPass begun (view_of_session session)
   pub ends : All (EndsBy session.end.0) told
 
 module _ (D : Type 0) (wal : Wal D) (begun : View) (lines : List Line) where
   pub none_played : (told : List Told) (session : Session) → told ≡ [] → IsSessionOf wal session
-      → state_of_session session ≡ state_at_first → begun ≡ view_of_session session
+      → state_of_session session ≡ state_at_first (begun.reserving).seen
+      → begun ≡ view_of_session session
       → HasPlayedUpto wal begun lines 0 told session
   none_played told session none is first same =
       subst (λ (answers : List Told). HasPlayedUpto wal begun lines 0 answers session) (sym none)
@@ -116,30 +122,34 @@ module _ (D : Type 0) (wal : Wal D) (begun : View) (lines : List Line) where
       })
     where
       more_plays : (asked : List AskedLine) → AreLinesOf asked lines
-          → PlaysFor wal (begun.reserving).number (take (i + 1) asked) (told ++ answer ∷ [])
-          (state_of_session new)
+          → PlaysFor wal (begun.reserving).number (begun.reserving).seen (take (i + 1) asked)
+          (told ++ answer ∷ []) (state_of_session new)
       more_plays asked are =
           let setup : Setup = setup_of_log wal in
           let number = (begun.reserving).number in
+          let seen = (begun.reserving).seen in
           let found = asked_at asked lines i line are within is in
           let step = subst (λ (pass : ℕ). PlaysLine setup.segment_size (log_limit setup) pass
           (found.0).asked answer (state_of_session old) (state_of_session new))
           (played.keeps).number (plays (found.0).asked found.1) in
-          subst (λ (front : List AskedLine). PlaysFor wal number front (told ++ answer ∷ [])
-          (state_of_session new)) (sym found.2)
-          (follow setup.segment_size (log_limit setup) number state_at_first
-          (state_of_session old) (state_of_session new) (take i asked) told found.0 answer
+          subst (λ (front : List AskedLine). PlaysFor wal number seen front
+          (told ++ answer ∷ []) (state_of_session new)) (sym found.2)
+          (follow setup.segment_size (log_limit setup) number
+          (state_at_first seen) (state_of_session old) (state_of_session new) (take i asked) told found.0 answer
           (played.plays asked are) step)
 
   pub all_played : (i : ℕ) (told : List Told) (session : Session)
       → HasPlayedUpto wal begun lines i told session → length lines ≤ i
       → (asked : List AskedLine) → AreLinesOf asked lines
-      → PlaysFor wal ((view_of_session session).reserving).number asked told
-      (state_of_session session)
+      → PlaysAllLines (setup_of_log wal).segment_size (log_limit (setup_of_log wal))
+      ((view_of_session session).reserving).number asked told (state_of_session session)
   all_played i told session played end asked are =
-      subst (λ (pass : ℕ). PlaysFor wal pass asked told (state_of_session session))
-      (sym (played.keeps).number)
-      (subst (λ (front : List AskedLine). PlaysFor wal (begun.reserving).number front told
-      (state_of_session session))
-      (take_all i asked (omega (arith, end, same_count asked lines are)))
-      (played.plays asked are))
+      let seen = (begun.reserving).seen in record {
+        seen = seen;
+        plays = subst (λ (pass : ℕ). PlaysFor wal pass seen asked told (state_of_session session))
+            (sym (played.keeps).number)
+            (subst (λ (front : List AskedLine). PlaysFor wal (begun.reserving).number seen front told
+            (state_of_session session))
+            (take_all i asked (omega (arith, end, same_count asked lines are)))
+            (played.plays asked are));
+      }

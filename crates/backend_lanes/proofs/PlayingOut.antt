@@ -1,7 +1,7 @@
 -- Lanes that played their lines, and the last flush behind them.
 use Rattle.std.proofs.Common.{◌≡◌, ℕ, suc, ◌+◌, ◌<◌, ◌++◌, [], ◌∷◌, All, Global, List, Result, Vec, Ok, Err, inl, inr, ap, arith, length, map, refl, slice_index_or, subst, sym, take, ◌∙◌}
 use Rattle.std.proofs.lemmas.List.{length-map, take-append-le, take_all}
-use Rattle.std.proofs.lemmas.List.Elements.{Contains-append_right}
+use Rattle.std.proofs.lemmas.List.Elements.{All-cons, All-nil, Contains-append_right}
 use Rattle.std.specs.Prelude.{Contains}
 use Rattle.byte_position.specs.Geometry.{IsSegmentSize}
 use Rattle.wal_types.specs.declared.answers.Hard.{Hard}
@@ -30,11 +30,23 @@ use Rattle.run_laws.proofs.TakingIn.{still_taken_in}
 use Rattle.run_laws.specs.ClosedRuns.{HasFlushedAll}
 use Rattle.wal_log.specs.Sharing.{KeepEach, ShareNumbers}
 use Rattle.wal_log.proofs.Lanes.{views_keep_each}
-use Rattle.backend_lanes.specs.Lanes.{BegunLanes, IsFreshLane, IsIdle, MayBeTakenIn, PlayedLanes, PlaysAsked, PlaysLane, view_of_lane}
+use Rattle.backend_lanes.specs.Lanes.{BegunLanes, IsFreshLane, IsIdle, IsReadyLane, MayBeTakenIn, PlayedLanes, PlaysAsked, PlaysLane, view_of_lane}
 use Rattle.backend_lanes.specs.Sessions.{IsReserved}
 use Rattle.backend_lanes.specs.declared.lane.Lane.{Lane}
 use Rattle.backend_lanes.proofs.Answering.{never_unreserved}
 use Rattle.backend_lanes.proofs.JoinLanes.{reaches_further}
+
+-- ---- lanes that may play
+
+pub ready_lanes : {D : Type 0} (wal : Wal D) (pass : ℕ) (script : List (List AskedLine))
+    (lanes : List Lane) → BegunLanes wal pass script lanes → All (IsReadyLane wal) lanes
+ready_lanes {D} wal pass [] [] begun = All-nil (IsReadyLane wal)
+ready_lanes {D} wal pass [] (lane ∷ lanes) begun = absurd begun
+ready_lanes {D} wal pass (asked ∷ script) [] begun = absurd begun
+ready_lanes {D} wal pass (asked ∷ script) (lane ∷ lanes) begun =
+    All-cons (IsReadyLane wal) lane lanes
+    (record { fresh = begun.0; asked = asked; lines = begun.2 })
+    (ready_lanes wal (pass + 1) script lanes begun.3)
 
 -- ---- lanes that played their lines
 
@@ -167,7 +179,7 @@ pub taken_behind_flush : (opening : Opening) (asked : ℕ) (v w : View)
     → HasTakenIn opening w script lists
 taken_behind_flush opening asked v w answer told again keeps script lists taken =
     still_taken_in opening v w script lists taken keeps.number
-    (same_entries asked v w answer told) keeps.joined (λ faults knows. keeps.down faults knows)
+    (same_entries asked v w answer told) keeps.joined keeps.rises (λ faults knows. keeps.down faults knows)
     (sets_none asked v w answer told again)
 
 module _ (setup : Setup) (valid : IsSegmentSize setup.segment_size) (asked : ℕ) (v w : View)

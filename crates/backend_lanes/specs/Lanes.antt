@@ -7,7 +7,7 @@ use Rattle.wal_log.specs.Standing.{KeepsPass}
 use Rattle.wal_log.specs.declared.wal.Wal.{Wal}
 use Rattle.wal_script.specs.Asked.{AskedLine}
 use Rattle.wal_script.specs.Bodies.{AreLinesOf}
-use Rattle.run_laws.specs.Played.{PlaysLines, state_at_first}
+use Rattle.run_laws.specs.Played.{PlaysAllLines, state_at_first}
 use Rattle.run_laws.specs.Reached.{EndsBy}
 use Rattle.backend_lanes.specs.declared.lane.Lane.{Lane}
 use Rattle.backend_lanes.specs.Backends.{HasRoom, HasToldEach}
@@ -33,14 +33,21 @@ pub record HasLaneSession {D : Type 0} (wal : Wal D) (lane : Lane) : Type 0 wher
 -- a lane before its first line
 pub record IsFreshLane {D : Type 0} (wal : Wal D) (lane : Lane) : Type 0 where
   pub session : HasLaneSession wal lane
-  pub unplayed : state_of_session lane.session ≡ state_at_first
+  pub unplayed : state_of_session lane.session
+      ≡ state_at_first ((view_of_lane lane).reserving).seen
   pub room : HasRoom lane.backend
+
+-- a lane that may play: it is before its first line, and its lines do what is asked for
+pub record IsReadyLane {D : Type 0} (wal : Wal D) (lane : Lane) : Type 0 where
+  pub fresh : IsFreshLane wal lane
+  pub asked : List AskedLine
+  pub lines : AreLinesOf asked lane.backend.lines.items
 
 -- the lines that ask for this, played from the first on by a pass of a number, leave this lane
 abbrev pub PlaysAsked : {D : Type 0} → Wal D → ℕ → List AskedLine → Lane → Type 0
 PlaysAsked wal pass asked lane =
-    PlaysLines (setup_of_log wal).segment_size (log_limit (setup_of_log wal)) pass state_at_first
-    asked lane.backend.told.items (state_of_session lane.session)
+    PlaysAllLines (setup_of_log wal).segment_size (log_limit (setup_of_log wal)) pass asked
+    lane.backend.told.items (state_of_session lane.session)
 
 -- what playing its lines leaves of a lane
 pub record PlaysLane {D : Type 0} (wal : Wal D) (old new : Lane) : Type 0 where

@@ -8,9 +8,9 @@ ghost use Rattle.wal_log.specs.Logs.{setup_of_log};
 ghost use Rattle.wal_log.specs.Standing.{KeepsPass};
 ghost use Rattle.wal_script.specs.Asked.{AskedLine};
 ghost use Rattle.wal_script.specs.Bodies.{AreLinesOf};
-ghost use Rattle.run_laws.specs.Played.{PlaysLines, state_at_first};
+ghost use Rattle.run_laws.specs.Played.{PlaysAllLines, state_at_first};
 ghost use Rattle.run_laws.specs.Reached.{EndsBy};
-ghost use Rattle.backend_lanes.specs.Lanes.{IsFreshLane, PlaysLane};
+ghost use Rattle.backend_lanes.specs.Lanes.{IsReadyLane, PlaysLane};
 ghost use Rattle.backend_lanes.specs.Sessions.{IsSessionOf, state_of_session, view_of_session};
 
 use crate::backend::AnsweredLines;
@@ -36,7 +36,7 @@ impl Lane {
     // refused does not end the backend: the next is tried, and where the disk has failed it is told
     // that, without a device call.
     pub(crate) fn play<R: Wait, D: Disk, G: Gate>(&mut self, rt: &R, log: &Wal<D>, gate: &G)
-        requires { IsFreshLane log.now self.old }
+        requires { IsReadyLane log.now self.old }
         ensures { PlaysLane log.now self.old self.new }
     {
         play_lines(
@@ -63,14 +63,17 @@ fn play_lines<R: Wait, D: Disk, G: Gate>(
     // The session's pass is the log's and about nothing; it has no entry and no promise, and no
     // line was told anything.
     requires session { IsSessionOf log.now session.old }
-    requires unplayed { state_of_session session.old ≡ state_at_first }
+    requires unplayed { state_of_session session.old
+        ≡ state_at_first (view_of_session session.old).reserving.seen }
     requires none { told.old.items ≡ [] }
     requires room { length lines.now ≤ vec_capacity told.old }
+    // The records that the lines insert can be inserted.
+    requires asked { (asked : List AskedLine) × AreLinesOf asked lines.now }
     ensures each { length told.new.items ≡ length lines.now }
     // Whatever the lines ask for, their answers say, one by one, what they added to the pass's log.
     ensures plays { (asked : List AskedLine) → AreLinesOf asked lines.now
-        → PlaysLines (setup_of_log log.now).segment_size (log_limit (setup_of_log log.now))
-        (view_of_session session.new).reserving.number state_at_first asked told.new.items
+        → PlaysAllLines (setup_of_log log.now).segment_size (log_limit (setup_of_log log.now))
+        (view_of_session session.new).reserving.number asked told.new.items
         (state_of_session session.new) }
     // The pass is about nothing again, and no line was told an end above the one that is kept.
     ensures session { IsSessionOf log.now session.new }

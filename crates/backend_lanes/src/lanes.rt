@@ -13,7 +13,7 @@ ghost use Rattle.run_laws.specs.Reached.{ReachesAll};
 ghost use Rattle.wal_log.specs.Sharing.{ShareNumbers};
 ghost use Rattle.wal_script.specs.ReplayReading.{AreBackendsOf};
 ghost use Rattle.backend_lanes.specs.Backends.{HasRoom, HaveToldEach, lists_of, scripts_of};
-ghost use Rattle.backend_lanes.specs.Lanes.{BegunLanes, IsFreshLane, IsIdle, MayBeTakenIn, PlayedLanes, PlaysLane, view_of_lane};
+ghost use Rattle.backend_lanes.specs.Lanes.{BegunLanes, IsFreshLane, IsIdle, IsReadyLane, MayBeTakenIn, PlayedLanes, PlaysLane, view_of_lane};
 ghost use Rattle.backend_lanes.specs.Sessions.{IsReserved};
 ghost use Rattle.backend_lanes.specs.declared.lane.Lane.{Lane};
 
@@ -78,7 +78,7 @@ pub(crate) fn run_lanes<R: Threads + Wait + Sync, D: Disk + Send, G: Gate + Sync
     gate: &G,
     lanes: &mut [Lane],
 )
-    requires { All (IsFreshLane log.now) lanes.old }
+    requires ready { All (IsReadyLane log.now) lanes.old }
     ensures same { length lanes.new ≡ length lanes.old }
     ensures each { (k : ℕ) (d : Lane) → k < length lanes.old
         → PlaysLane log.now (slice_index_or lanes.old k d) (slice_index_or lanes.new k d) }

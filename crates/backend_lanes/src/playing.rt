@@ -79,6 +79,9 @@ pub fn play_backends<R: Threads + Wait + Sync, D: Disk + Send, G: Gate + Sync>(
     requires passes { (setup_of_log log).passes ≡ 1 + vec_len room.backends }
     requires room { (scripts : _) × IsRoomFor scripts room }
     requires start { start.0 ≡ (setup_of_log log).segment_size }
+    // The backends' lines do what some script asks for, so the records can be inserted.
+    requires asked { (script : List (List AskedLine))
+        × AreBackendsOf script (scripts_of room.backends.items) }
     // Each line was told an answer, the answers are what the passes' logs came to have, the log was
     // closed, and the first pass was promised all that was told or knows of a failed disk.
     ensures { (script : List (List AskedLine))

@@ -5,7 +5,7 @@
 // seen: so no flush asks for what nobody reserved.
 ghost use Rattle.std.specs.Prelude.{◌≡◌, ◌-◌, max};
 ghost use Rattle.wal_types.specs.declared.record.Record.{Record};
-ghost use Rattle.wal_script.specs.Asked.{Asked, Commit, Flush, Insert};
+ghost use Rattle.wal_script.specs.Asked.{Asked, Commit, CommitAsync, Flush, Insert, WriteBehind};
 ghost use Rattle.wal_script.specs.Bodies.{IsActionOf, IsBodyOf};
 ghost use Rattle.backend_lanes.specs.Sessions.{IsSessionOf, LeavesSession, PlaysAnswer};
 
@@ -13,7 +13,7 @@ use record_spelling::Body;
 use segment_disk::Disk;
 use std::sync::Wait;
 use told_lines::Told;
-use wal_log::{Cause, CommitErr, FlushErr, Pass, Wal};
+use wal_log::{Caught, Cause, CommitErr, FlushErr, Pass, Wal};
 use wal_record::laws::body_knows_its_record;
 use wal_script::Action;
 use wal_types::Lsn;
@@ -36,7 +36,8 @@ impl Session {
 
     // Does what a line asks for.
     pub(crate) fn answer<R: Wait, D: Disk>(&mut self, rt: &R, log: &Wal<D>, action: &Action) -> Told
-        requires { IsSessionOf log.now self.old }
+        requires session { IsSessionOf log.now self.old }
+        requires asked { (asked : Asked) × IsActionOf asked action.now }
         ensures plays { (asked : Asked) → IsActionOf asked action.now
             → PlaysAnswer log.now asked result self.old self.new }
         ensures leaves { LeavesSession log.now result self.old self.new }
@@ -45,11 +46,14 @@ impl Session {
             Action::Insert(body) => self.insert(rt, log, body),
             Action::Commit(body) => self.commit(rt, log, body),
             Action::Flush => self.flush(rt, log),
+            Action::CommitAsync(body) => self.commit_async(rt, log, body),
+            Action::WriteBehind => self.write_behind(rt, log),
         }
     }
 
     fn insert<R: Wait, D: Disk>(&mut self, rt: &R, log: &Wal<D>, body: &Body) -> Told
-        requires { IsSessionOf log.now self.old }
+        requires session { IsSessionOf log.now self.old }
+        requires record { (value : Record) × IsBodyOf value body.now }
         ensures plays { (value : Record) → IsBodyOf value body.now
             → PlaysAnswer log.now (Insert value) result self.old self.new }
         ensures leaves { LeavesSession log.now result self.old self.new }
@@ -65,7 +69,8 @@ impl Session {
     }
 
     fn commit<R: Wait, D: Disk>(&mut self, rt: &R, log: &Wal<D>, body: &Body) -> Told
-        requires { IsSessionOf log.now self.old }
+        requires session { IsSessionOf log.now self.old }
+        requires record { (value : Record) × IsBodyOf value body.now }
         ensures plays { (value : Record) → IsBodyOf value body.now
             → PlaysAnswer log.now (Commit value) result self.old self.new }
         ensures leaves { LeavesSession log.now result self.old self.new }
@@ -91,6 +96,38 @@ impl Session {
             Err(FlushErr::Disk { faults }) => refused_flush(Cause::Disk { faults }),
             Err(FlushErr::Down { faults }) => refused_flush(Cause::Down { faults }),
             // The pass has seen its own records reserved.
+            Err(FlushErr::Unreserved { .. }) => unreachable!(),
+        }
+    }
+
+    fn commit_async<R: Wait, D: Disk>(&mut self, rt: &R, log: &Wal<D>, body: &Body) -> Told
+        requires session { IsSessionOf log.now self.old }
+        requires record { (value : Record) × IsBodyOf value body.now }
+        ensures plays { (value : Record) → IsBodyOf value body.now
+            → PlaysAnswer log.now (CommitAsync value) result self.old self.new }
+        ensures leaves { LeavesSession log.now result self.old self.new }
+    {
+        body_knows_its_record();
+        match log.commit_async(rt, &mut self.pass, body) {
+            Ok(receipt) => {
+                self.note(receipt.end);
+                Told::of_commit_async(Ok(receipt))
+            }
+            Err(e) => Told::of_commit_async(Err(e.into())),
+        }
+    }
+
+    fn write_behind<R: Wait, D: Disk>(&mut self, rt: &R, log: &Wal<D>) -> Told
+        requires { IsSessionOf log.now self.old }
+        ensures plays { PlaysAnswer log.now WriteBehind result self.old self.new }
+        ensures leaves { LeavesSession log.now result self.old self.new }
+    {
+        match log.write_behind(rt, &mut self.pass) {
+            Ok(Caught::Flushed(hard)) => Told::of_flush(Ok(hard)),
+            Ok(Caught::Idle { upto }) => Told::Idle { upto },
+            Err(FlushErr::Disk { faults }) => refused_flush(Cause::Disk { faults }),
+            Err(FlushErr::Down { faults }) => refused_flush(Cause::Down { faults }),
+            // What it flushes is reserved.
             Err(FlushErr::Unreserved { .. }) => unreachable!(),
         }
     }

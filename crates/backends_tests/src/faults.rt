@@ -4,7 +4,7 @@ use crate::listed::{DUMP, front_listed};
 use crate::meeting::{NOBODY, THREE, TWO};
 use crate::played::{Run, play};
 use crate::rows::{Lines, NO_CALL, ROW, Row, ended, played};
-use crate::told::{OWN_FAULT, cause_of, count_for, starts_told};
+use crate::told::{OWN_FAULT, Which, cause_of, count_for, durable, starts_told};
 use backend_cli::Cause;
 use segment_disk::{Disk, MemDisk, Pick};
 use std::alloc::Global;
@@ -88,6 +88,20 @@ static EACH_CALL: &[Failing] = &[
         },
         calls: 7,
         lines: 7,
+        times: 1,
+        moments: ALL,
+    },
+    // The segment is made, its page is written and synced by the second line, and so again by the
+    // fourth: no line waits for its own commit, which the next one flushes.
+    Failing {
+        row: Row {
+            what: "commits answered ahead, each flushed behind",
+            backends: &[(2, b"A 1 0\nL\n")],
+            told: (1, 4),
+            ..ONE
+        },
+        calls: 5,
+        lines: 5,
         times: 1,
         moments: ALL,
     },
@@ -215,17 +229,17 @@ fn all_are_down_at_last<R: Abort>(rt: &R, run: &Run) {
     }
 }
 
-// What crashes leave at each moment from one on is a front of the records, with the commits that
-// were told to be durable by then.
+// What crashes leave at each moment from one on is a front of the records, with those that were
+// told to be durable by then, by whichever backend.
 fn outlive<R: Abort + Threads + Wait + Sync>(
     rt: &R,
     alloc: Global,
     run: &Run,
     first: u64,
 ) -> Result<(), Fail> {
-    let all = starts_told(alloc, &run.told, None)?;
+    let all = starts_told(alloc, &run.told, Which::All)?;
     for moment in first..run.disk.moment().saturating_add(1) {
-        let durable = starts_told(alloc, &run.told, Some(moment))?;
+        let durable = starts_told(alloc, &run.told, durable(&run.told, moment))?;
         for pick in [Pick::Old, Pick::New, Pick::Odd] {
             let left = run.disk.crash(alloc, moment, pick)?;
             assert!(rt;

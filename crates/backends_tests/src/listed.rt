@@ -2,7 +2,7 @@
 
 use crate::meeting::NOBODY;
 use crate::played::{Run, play};
-use crate::told::starts_told;
+use crate::told::{Which, starts_told};
 use segment_disk::MemDisk;
 use std::alloc::Global;
 use std::sync::Wait;
@@ -49,11 +49,11 @@ fn lists<R: Threads + Wait + Sync>(
     Ok((is_just_these && dumped.status == 0, dumped.disk))
 }
 
-/// Whether a run's records are listed where they were told, and as transactions just those that
-/// were told to be durable.
+/// Whether a run's records are listed where they were told, and as transactions just those of the
+/// commits.
 pub fn is_listed<R: Threads + Wait + Sync>(rt: &R, alloc: Global, run: Run) -> Result<bool, Fail> {
-    let all = starts_told(alloc, &run.told, None)?;
-    let commits = starts_told(alloc, &run.told, Some(u64::MAX))?;
+    let all = starts_told(alloc, &run.told, Which::All)?;
+    let commits = starts_told(alloc, &run.told, Which::Commits)?;
     let (is_whole, disk) = lists(rt, alloc, &DUMP, run.disk, &all)?;
     let (has_commits, _) = lists(rt, alloc, &DUMP_OF_COMMITS, disk, &commits)?;
     Ok(is_whole && has_commits)

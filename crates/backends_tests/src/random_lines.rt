@@ -1,4 +1,4 @@
-//! Random lines of eight backends.
+//! Random lines of eight backends, and a log writer beside them.
 
 use crate::listed::is_listed;
 use crate::meeting::EIGHT;
@@ -10,15 +10,15 @@ use std::test::Fail;
 
 const IMAGE: &[u8] = b"I 1 10 00 - 1663/5/16384:0:7:-:0+0+5a\n";
 
-// Commits, flushes, and inserts of several sizes.
+// Commits, some answered ahead, flushes, some behind, and inserts of several sizes.
 static LINES: [&[u8]; 16] = [
     b"C 1 0\n",
     b"C 1 0\n",
     b"C 1 0\n",
-    b"C 1 0\n",
-    b"C 1 0\n",
+    b"A 1 0\n",
+    b"A 1 0\n",
     b"F\n",
-    b"F\n",
+    b"L\n",
     b"I 1 10 00 2000*5a\n",
     b"I 1 10 00 500*5a\n",
     b"I 1 10 00 500*5a\n",
@@ -62,12 +62,12 @@ const RUNS: [(u32, u64); 2] = [(150, 0), (50, 4)];
 fn random_lines_are_listed_where_they_were_told(rt: HostRuntime) -> Result<(), Fail> {
     let alloc = rt.alloc();
     let mut random = SplitMix64::seed_from_u64(0);
-    let words = ["run", "--seg", "1048576", "--ring", "4"];
+    let words = ["run", "--seg", "1048576", "--ring", "4", "--writer", "100"];
     for (count, images) in RUNS {
         for _ in 0..count {
             let script = random_script(alloc, &mut random, images)?;
             let run = play(&rt, alloc, &words, script, disk_of(alloc, 1, &[])?, EIGHT)?;
-            assert!(rt; (run.status, run.told.len()) == (0, 8));
+            assert!(rt; (run.status, run.told.len()) == (0, 9));
             assert!(rt; is_listed(&rt, alloc, run)?);
         }
     }

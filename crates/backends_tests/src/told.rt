@@ -5,19 +5,70 @@ use std::alloc::Global;
 use std::test::Fail;
 use wal_types::Lsn;
 
-// Whether an answer tells that its record is durable by a moment; where none is given, each does.
-fn is_durable_by(answer: &Told, latest: Option<u64>) -> bool {
-    match latest {
-        Some(latest) => match answer {
-            Told::Hard { moment, .. } => *moment <= latest,
-            _ => false,
-        },
-        None => true,
+/// Which records are looked at.
+#[derive(Clone, Copy)]
+pub enum Which {
+    /// All that were reserved.
+    All,
+    /// Those of commits that were not refused.
+    Commits,
+    /// Those that end at or below an address.
+    Upto(Lsn),
+}
+
+// The end of a record, where it is told.
+fn end_told(answer: &Told) -> Option<Lsn> {
+    match answer {
+        Told::Wrote { end, .. } | Told::Hard { end, .. } | Told::Async { end, .. } => Some(*end),
+        _ => None,
     }
 }
 
+// Whether a line's record is one of these.
+fn is_one(answer: &Told, which: Which) -> bool {
+    match which {
+        Which::All => true,
+        Which::Commits => match answer {
+            Told::Hard { .. } | Told::Async { .. } => true,
+            _ => false,
+        },
+        Which::Upto(address) => match end_told(answer) {
+            Some(end) => end <= address,
+            None => false,
+        },
+    }
+}
+
+// Up to where an answer tells that all is durable by a moment; 0 where it does not.
+fn durable_by(answer: &Told, latest: u64) -> Lsn {
+    match answer {
+        Told::Hard { end, moment, .. } if *moment <= latest => *end,
+        Told::Flushed { upto, moment } if *moment <= latest => *upto,
+        _ => Lsn(0),
+    }
+}
+
+/// The records that lie below an address that some line was told to be durable by a moment: those
+/// of inserts and of commits that were answered ahead too.
+pub fn durable(told: &ToldLists, latest: u64) -> Which {
+    let mut address = Lsn(0);
+    for backend in 0..told.len() {
+        address = address.max(durable_of(told.of(backend), latest));
+    }
+    Which::Upto(address)
+}
+
+// The highest address that a backend's answers tell so.
+fn durable_of(told: &[Told], latest: u64) -> Lsn {
+    let mut address = Lsn(0);
+    for answer in told {
+        address = address.max(durable_by(answer, latest));
+    }
+    address
+}
+
 // Adds where the records of a backend start. An error if they do not rise.
-fn add_starts(starts: &mut Vec<Lsn>, told: &[Told], latest: Option<u64>) -> Result<(), Fail> {
+fn add_starts(starts: &mut Vec<Lsn>, told: &[Told], which: Which) -> Result<(), Fail> {
     let mut last = Lsn(0);
     for answer in told {
         if let Some(start) = answer.reserved() {
@@ -25,7 +76,7 @@ fn add_starts(starts: &mut Vec<Lsn>, told: &[Told], latest: Option<u64>) -> Resu
                 return Err(Fail::from("records in the order of the lines"));
             }
             last = start;
-            if is_durable_by(answer, latest) {
+            if is_one(answer, which) {
                 starts.push(start)?;
             }
         }
@@ -33,12 +84,11 @@ fn add_starts(starts: &mut Vec<Lsn>, told: &[Told], latest: Option<u64>) -> Resu
     Ok(())
 }
 
-/// Where the records of all backends start, sorted: those that were told to be durable by a moment,
-/// or all that were reserved. An error if those of a backend do not rise.
-pub fn starts_told(alloc: Global, told: &ToldLists, latest: Option<u64>) -> Result<Vec<Lsn>, Fail> {
+/// Where such records of all backends start, sorted. An error if those of a backend do not rise.
+pub fn starts_told(alloc: Global, told: &ToldLists, which: Which) -> Result<Vec<Lsn>, Fail> {
     let mut starts = Vec::new(alloc);
     for backend in 0..told.len() {
-        add_starts(&mut starts, told.of(backend), latest)?;
+        add_starts(&mut starts, told.of(backend), which)?;
     }
     starts.sort()?;
     Ok(starts)

@@ -1,4 +1,8 @@
-//! What the backends are to do.
+//! What the backends are to do. No record ends its segment, which a core asks of its lines.
+
+ghost use Rattle.std.specs.Prelude.{◌≡◌, false, All, IfOk};
+ghost use Rattle.record_spelling.specs.Spelling.{is_assembled_switch};
+ghost use Rattle.machine_core.specs.Lines.{InsertsNoSwitch};
 
 use machine_core::{PlainLine, Script};
 use record_spelling::{Body, BodyErr};
@@ -10,7 +14,9 @@ pub const BACKENDS: u32 = 8;
 const LINES: u32 = 400;
 
 /// For each backend inserts of records of 40 bytes, each fiftieth a commit's.
-pub fn scripts(alloc: Global) -> Result<Vec<Script>, BodyErr> {
+pub fn scripts(alloc: Global) -> Result<Vec<Script>, BodyErr>
+    ensures { IfOk result (λ scripts. All (All InsertsNoSwitch) scripts.items) }
+{
     let mut scripts = Vec::new(alloc);
     for _ in 0..BACKENDS {
         scripts.push(script(alloc)?)?;
@@ -18,20 +24,29 @@ pub fn scripts(alloc: Global) -> Result<Vec<Script>, BodyErr> {
     Ok(scripts)
 }
 
-fn script(alloc: Global) -> Result<Script, BodyErr> {
+fn script(alloc: Global) -> Result<Script, BodyErr>
+    ensures { IfOk result (λ script. All InsertsNoSwitch script) }
+{
     let mut lines = Vec::new(alloc);
     for number in 0..LINES {
-        let line = if number % 50 == 49 {
-            PlainLine::Commit(body(alloc, 1, 8)?)
-        } else {
-            PlainLine::Insert(body(alloc, 10, 14)?)
-        };
-        lines.push(line)?;
+        lines.push(line(alloc, number)?)?;
     }
     Ok(Script::of(lines))
 }
 
-fn body(alloc: Global, rmid: u8, len: usize) -> Result<Body, BodyErr> {
+fn line(alloc: Global, number: u32) -> Result<PlainLine, BodyErr>
+    ensures { IfOk result InsertsNoSwitch }
+{
+    if number % 50 == 49 {
+        Ok(PlainLine::Commit(body(alloc, 1, 8)?))
+    } else {
+        Ok(PlainLine::Insert(body(alloc, 10, 14)?))
+    }
+}
+
+fn body(alloc: Global, rmid: u8, len: usize) -> Result<Body, BodyErr>
+    ensures { IfOk result (λ body. is_assembled_switch body ≡ false) }
+{
     let record = Record {
         xid: Xid(1),
         rmid,

@@ -1,5 +1,8 @@
 //! A machine that is played.
 
+ghost use Rattle.std.specs.Prelude.{All};
+ghost use Rattle.machine_core.specs.Lines.{InsertsNoSwitch};
+
 use machine_core::{Core, CoreErr, Script, Turn};
 use std::alloc::Global;
 use std::marker::Model;
@@ -29,7 +32,9 @@ impl PlayedCore {
         setup: Setup,
         scripts: Vec<Script>,
         fail: Vec<u64>,
-    ) -> Result<PlayedCore, CoreErr> {
+    ) -> Result<PlayedCore, CoreErr>
+        requires { All (All InsertsNoSwitch) scripts.items }
+    {
         Ok(PlayedCore {
             core: Core::new(alloc, setup, scripts, fail)?,
         })

@@ -12,7 +12,7 @@ use Rattle.clap.specs.Walk.{Walk, at_row, bundle_met, has_row, idle, more_values
 use Rattle.clap.specs.declared.builder.value_parser.Reading.TheVariants as reading
 use Rattle.clap.specs.declared.parser.matches.ValueSource.TheVariants.{CommandLine}
 use Rattle.command_line.specs.Syntax.{declared_command}
-use Rattle.command_line.specs.Plain.{Letter, Switch, SwitchLetter, Valued, begins_with_hyphen, block_letter, block_option, cap_option, crash_option, end_letter, end_option, fork_letter, fork_option, fullpage_letter, fullpage_switch, letter_of, lettered_option, lettered_switch, limit_letter, limit_option, list_switch, option_name, quiet_letter, quiet_switch, relation_letter, relation_option, ring_option, rmgr_letter, rmgr_option, seg_option, start_letter, start_option, stats_letter, stats_switch, switch_letter_of, switch_name, times_switch, xid_letter, xid_option}
+use Rattle.command_line.specs.Plain.{Letter, Switch, SwitchLetter, Valued, begins_with_hyphen, block_letter, block_option, cap_option, crash_option, end_letter, end_option, fork_letter, fork_option, fullpage_letter, fullpage_switch, letter_of, lettered_option, lettered_switch, limit_letter, limit_option, list_switch, option_name, quiet_letter, quiet_switch, relation_letter, relation_option, ring_option, rmgr_letter, rmgr_option, seg_option, start_letter, start_option, stats_letter, stats_switch, switch_letter_of, switch_name, times_switch, writer_option, xid_letter, xid_option}
 
 abbrev pub level : Shape
 level = (built declared_command).top
@@ -74,6 +74,7 @@ pub opens : (position : ℕ) (o : Valued) (rows : List Row) (pending : Option (T
 opens position seg_option rows pending into h = ap (λ kinds. or_else kinds []) h.sound
 opens position ring_option rows pending into h = ap (λ kinds. or_else kinds []) h.sound
 opens position cap_option rows pending into h = ap (λ kinds. or_else kinds []) h.sound
+opens position writer_option rows pending into h = ap (λ kinds. or_else kinds []) h.sound
 opens position crash_option rows pending into h = ap (λ kinds. or_else kinds []) h.sound
 opens position rmgr_option rows pending into h = ap (λ kinds. or_else kinds []) h.sound
 opens position xid_option rows pending into h = ap (λ kinds. or_else kinds []) h.sound
@@ -89,6 +90,7 @@ unfolding walked
 opened position seg_option rows pending into h = ap (awaiting position (codes "seg")) h.rows_are
 opened position ring_option rows pending into h = ap (awaiting position (codes "ring")) h.rows_are
 opened position cap_option rows pending into h = ap (awaiting position (codes "cap")) h.rows_are
+opened position writer_option rows pending into h = ap (awaiting position (codes "writer")) h.rows_are
 opened position crash_option rows pending into h = ap (awaiting position (codes "crash")) h.rows_are
 opened position rmgr_option rows pending into h = ap (awaiting position (codes "rmgr")) h.rows_are
 opened position xid_option rows pending into h = ap (awaiting position (codes "xid")) h.rows_are
@@ -137,6 +139,7 @@ pub value_passes : (position : ℕ) (o : Valued) (value : Text) (rows : List Row
 value_passes position seg_option value rows plain = rw (plain.dashes, plain.long, plain.short) refl
 value_passes position ring_option value rows plain = rw (plain.dashes, plain.long, plain.short) refl
 value_passes position cap_option value rows plain = rw (plain.dashes, plain.long, plain.short) refl
+value_passes position writer_option value rows plain = rw (plain.dashes, plain.long, plain.short) refl
 value_passes position crash_option value rows plain = rw (plain.dashes, plain.long, plain.short) refl
 value_passes position rmgr_option value rows plain = rw (plain.dashes, plain.long, plain.short) refl
 value_passes position xid_option value rows plain = rw (plain.dashes, plain.long, plain.short) refl
@@ -152,6 +155,7 @@ unfolding walked
 value_taken position seg_option value rows plain = rw (plain.dashes, plain.long, plain.short) refl
 value_taken position ring_option value rows plain = rw (plain.dashes, plain.long, plain.short) refl
 value_taken position cap_option value rows plain = rw (plain.dashes, plain.long, plain.short) refl
+value_taken position writer_option value rows plain = rw (plain.dashes, plain.long, plain.short) refl
 value_taken position crash_option value rows plain = rw (plain.dashes, plain.long, plain.short) refl
 value_taken position rmgr_option value rows plain = rw (plain.dashes, plain.long, plain.short) refl
 value_taken position xid_option value rows plain = rw (plain.dashes, plain.long, plain.short) refl
@@ -166,6 +170,7 @@ pub value_settles : (o : Valued) (value : Text) (rows : List Row) → has_row (o
 value_settles seg_option value rows absent = record { rows_are = new_row (codes "seg") value rows absent; sound = rw absent refl }
 value_settles ring_option value rows absent = record { rows_are = new_row (codes "ring") value rows absent; sound = rw absent refl }
 value_settles cap_option value rows absent = record { rows_are = new_row (codes "cap") value rows absent; sound = rw absent refl }
+value_settles writer_option value rows absent = record { rows_are = new_row (codes "writer") value rows absent; sound = rw absent refl }
 value_settles crash_option value rows absent = record { rows_are = new_row (codes "crash") value rows absent; sound = rw absent refl }
 value_settles rmgr_option value rows absent = record { rows_are = new_row (codes "rmgr") value rows absent; sound = rw absent refl }
 value_settles xid_option value rows absent = record { rows_are = new_row (codes "xid") value rows absent; sound = rw absent refl }

@@ -15,7 +15,7 @@ use Rattle.command_words.specs.declared.commands.Command.{Command as Task}
 use Rattle.command_line.specs.declared.asking.Request.TheVariants.{Command}
 use Rattle.command_line.specs.Asking.{asks, given_in, is_set, request_of}
 use Rattle.command_line.specs.Syntax.{declared_command}
-use Rattle.command_line.specs.Plain.{Switch, Use, Valued, are_plain, are_plain_behind, begins_with_hyphen, block_letter, block_option, cap_option, crash_option, end_letter, end_option, fork_letter, fork_option, fullpage_letter, fullpage_switch, given_by, is_switched, letter_of, lettered, lettered_option, lettered_switch, limit_letter, limit_option, list_switch, name_words, option_name, pair_given, quiet_letter, quiet_switch, relation_letter, relation_option, ring_option, rmgr_letter, rmgr_option, seg_option, start_letter, start_option, stats_letter, stats_switch, switch_letter_of, switch_name, switched, switched_by_letter, times_switch, value_for, valued, words_of_uses, xid_letter, xid_option}
+use Rattle.command_line.specs.Plain.{Switch, Use, Valued, are_plain, are_plain_behind, begins_with_hyphen, block_letter, block_option, cap_option, crash_option, end_letter, end_option, fork_letter, fork_option, fullpage_letter, fullpage_switch, given_by, is_switched, letter_of, lettered, lettered_option, lettered_switch, limit_letter, limit_option, list_switch, name_words, option_name, pair_given, quiet_letter, quiet_switch, relation_letter, relation_option, ring_option, rmgr_letter, rmgr_option, seg_option, start_letter, start_option, stats_letter, stats_switch, switch_letter_of, switch_name, switched, switched_by_letter, times_switch, value_for, valued, words_of_uses, writer_option, xid_letter, xid_option}
 use Rattle.command_line.proofs.PlainWalk.{IsPlainWord, Settles, absent_row, between, is_plain_word, letter_opened, letter_opens, level, opened, opens, row_with, rules, switch_letter_passes, switch_letter_taken, switch_passes, switch_taken, value_passes, value_settles, value_taken}
 use Rattle.command_line.proofs.Requests.{asks-taken, none_entered}
 use Rattle.clap.specs.declared.parser.matches.ValueSource.TheVariants.{DefaultValue}
@@ -57,6 +57,7 @@ no_option_row : (o : Valued) (command : Text) (topic : Option Text) (pairs : Lis
 no_option_row seg_option command topic pairs absent = no_row_behind (codes "seg") command topic pairs refl refl absent
 no_option_row ring_option command topic pairs absent = no_row_behind (codes "ring") command topic pairs refl refl absent
 no_option_row cap_option command topic pairs absent = no_row_behind (codes "cap") command topic pairs refl refl absent
+no_option_row writer_option command topic pairs absent = no_row_behind (codes "writer") command topic pairs refl refl absent
 no_option_row crash_option command topic pairs absent = no_row_behind (codes "crash") command topic pairs refl refl absent
 no_option_row rmgr_option command topic pairs absent = no_row_behind (codes "rmgr") command topic pairs refl refl absent
 no_option_row xid_option command topic pairs absent = no_row_behind (codes "xid") command topic pairs refl refl absent
@@ -322,6 +323,7 @@ no_topic [] = refl
 no_topic (valued seg_option value ∷ uses) = no_topic uses
 no_topic (valued ring_option value ∷ uses) = no_topic uses
 no_topic (valued cap_option value ∷ uses) = no_topic uses
+no_topic (valued writer_option value ∷ uses) = no_topic uses
 no_topic (valued crash_option value ∷ uses) = no_topic uses
 no_topic (valued rmgr_option value ∷ uses) = no_topic uses
 no_topic (valued xid_option value ∷ uses) = no_topic uses
@@ -370,6 +372,7 @@ all_given command topic uses =
     let seg_is : first_of (codes "seg") (fold with_default rows rules) ≡ value_for (codes "seg") pairs = first_kept_by_all (codes "seg") rules rows refl ∙ first_of-behind (codes "seg") command topic pairs refl refl in
     let ring_is : first_of (codes "ring") (fold with_default rows rules) ≡ value_for (codes "ring") pairs = first_kept_by_all (codes "ring") rules rows refl ∙ first_of-behind (codes "ring") command topic pairs refl refl in
     let cap_is : first_of (codes "cap") (fold with_default rows rules) ≡ value_for (codes "cap") pairs = first_kept_by_all (codes "cap") rules rows refl ∙ first_of-behind (codes "cap") command topic pairs refl refl in
+    let writer_is : first_of (codes "writer") (fold with_default rows rules) ≡ value_for (codes "writer") pairs = first_kept_by_all (codes "writer") rules rows refl ∙ first_of-behind (codes "writer") command topic pairs refl refl in
     let crash_is : first_of (codes "crash") (fold with_default rows rules) ≡ value_for (codes "crash") pairs = first_kept_by_all (codes "crash") rules rows refl ∙ first_of-behind (codes "crash") command topic pairs refl refl in
     let list_is : is_set (codes "list") (fold with_default rows rules) ≡ is_switched (codes "list") pairs = switch_kept_by_all (codes "list") rules rows refl ∙ ap is_on (first_of-behind (codes "list") command topic pairs refl refl) in
     let rmgr_is : first_of (codes "rmgr") (fold with_default rows rules) ≡ value_for (codes "rmgr") pairs = first_kept_by_all (codes "rmgr") rules rows refl ∙ first_of-behind (codes "rmgr") command topic pairs refl refl in
@@ -384,7 +387,7 @@ all_given command topic uses =
     let quiet_is : is_set (codes "quiet") (fold with_default rows rules) ≡ is_switched (codes "quiet") pairs = switch_kept_by_all (codes "quiet") rules rows refl ∙ ap is_on (first_of-behind (codes "quiet") command topic pairs refl refl) in
     let stats_is : is_set (codes "stats") (fold with_default rows rules) ≡ is_switched (codes "stats") pairs = switch_kept_by_all (codes "stats") rules rows refl ∙ ap is_on (first_of-behind (codes "stats") command topic pairs refl refl) in
     let times_is : is_set (codes "times") (fold with_default rows rules) ≡ is_switched (codes "times") pairs = switch_kept_by_all (codes "times") rules rows refl ∙ ap is_on (first_of-behind (codes "times") command topic pairs refl refl) in
-    rw (command_is, topic_is, seg_is, ring_is, cap_is, crash_is, list_is, rmgr_is, xid_is, relation_is, block_is, fork_is, fullpage_is, start_is, end_is, limit_is, quiet_is, stats_is, times_is) refl
+    rw (command_is, topic_is, seg_is, ring_is, cap_is, crash_is, list_is, writer_is, rmgr_is, xid_is, relation_is, block_is, fork_is, fullpage_is, start_is, end_is, limit_is, quiet_is, stats_is, times_is) refl
 
 none_of : (a b c d e : Kinds) → a ≡ [] → b ≡ [] → c ≡ [] → d ≡ [] → e ≡ [] → or_else a (or_else b (or_else c (or_else d e))) ≡ []
 none_of a b c d e none_a none_b none_c none_d none_e = rw (none_a, none_b, none_c, none_d) none_e

@@ -24,6 +24,7 @@ given_in rows = record {
   ring = first_of (codes "ring") rows;
   cap = first_of (codes "cap") rows;
   list = is_set (codes "list") rows;
+  writer = first_of (codes "writer") rows;
   crash = first_of (codes "crash") rows;
   rmgr = first_of (codes "rmgr") rows;
   xid = first_of (codes "xid") rows;

@@ -12,6 +12,7 @@ pub data Valued : Type 0 where
   seg_option : Valued
   ring_option : Valued
   cap_option : Valued
+  writer_option : Valued
   crash_option : Valued
   rmgr_option : Valued
   xid_option : Valued
@@ -35,6 +36,7 @@ abbrev pub option_name : Valued → Text
 option_name seg_option = codes "seg"
 option_name ring_option = codes "ring"
 option_name cap_option = codes "cap"
+option_name writer_option = codes "writer"
 option_name crash_option = codes "crash"
 option_name rmgr_option = codes "rmgr"
 option_name xid_option = codes "xid"
@@ -172,6 +174,7 @@ given_by command topic uses =
       ring = value_for (codes "ring") pairs;
       cap = value_for (codes "cap") pairs;
       list = is_switched (codes "list") pairs;
+      writer = value_for (codes "writer") pairs;
       crash = value_for (codes "crash") pairs;
       rmgr = value_for (codes "rmgr") pairs;
       xid = value_for (codes "xid") pairs;

@@ -71,6 +71,7 @@ fn given_words<'a>(matches: &ArgMatches<'a>) -> GivenWords<'a>
         ring: word_of(matches, "ring"),
         cap: word_of(matches, "cap"),
         list: is_set(matches, "list"),
+        writer: word_of(matches, "writer"),
         crash: word_of(matches, "crash"),
         rmgr: word_of(matches, "rmgr"),
         xid: word_of(matches, "xid"),

@@ -8,7 +8,7 @@ const VERSION_LINE: &str = "pgwal 0.1
 
 const HELP: &str = "pgwal writes a write-ahead log in PostgreSQL 16's format, and lists it.
 
-pgwal run [--seg N] [--ring N] [--cap N] [--list]
+pgwal run [--seg N] [--ring N] [--cap N] [--list] [--writer N]
     Writes a log into the folder pg_wal, from the script on standard input. The script has the
     lines of at most 64 backends, with a line B between two of them; the backends do their lines
     side by side.
@@ -17,8 +17,12 @@ pgwal run [--seg N] [--ring N] [--cap N] [--list]
     --ring N   how many pages the log keeps in memory, 4 to 64 (64)
     --cap N    how many segments the log may fill, 1 to 4096 (64)
     --list     prints a line for each line of the script
+    --writer N a log writer, which is one backend more behind the script's last: N times, 1 to
+               1000, it flushes what lines A had answered before it was durable
     Example: an insert and a commit
         printf 'I 700 10 00 aabb\\nC 700 0\\n' | pgwal run --list
+    Example: a commit that is answered before it is durable, and a writer that flushes behind it
+        printf 'A 700 0\\n' | pgwal run --list --writer 10
 
 pgwal gen N [--seg N] [--ring N] [--cap N] [--list]
     Writes a log into the folder pg_wal as run does, of lines that are made in place of a script:

@@ -1,11 +1,11 @@
 -- The command that the words of a command line make, each word in the place that it was given for.
-use Rattle.std.specs.Prelude.{ℕ, ◌≤◌, Bool, ◌&&◌, ◌||◌, not, List, Option, Some, None, is_some, option_and_then, option_map, codes, if◌then◌else◌}
+use Rattle.std.specs.Prelude.{ℕ, ◌≤◌, Bool, IfSome, ◌&&◌, ◌||◌, not, List, Option, Some, None, is_some, option_and_then, option_map, codes, if◌then◌else◌}
 use Rattle.std.specs.Borrow.{Bor}
 use Rattle.std.specs.Str.{bytes_eq}
 use Rattle.listing_filter.specs.Keeping.{everything_from}
 use Rattle.listing_filter.specs.Names.{fork_named}
 use Rattle.listing_filter.specs.declared.Filter.{Filter}
-use Rattle.command_words.specs.Meanings.{block_number_of, cap_segments_of, crash_of, limit_of, line_count_of, lsn_of, manager_of, relation_of, ring_pages_of, segment_size_of, xid_of}
+use Rattle.command_words.specs.Meanings.{block_number_of, cap_segments_of, crash_of, limit_of, line_count_of, lsn_of, manager_of, relation_of, ring_pages_of, segment_size_of, writer_lines_of, xid_of}
 use Rattle.command_words.specs.declared.commands.Command.{Command}
 use Rattle.command_words.specs.declared.commands.Command.TheVariants.{Run, Gen, Dump, Replay, Redo}
 use Rattle.command_words.specs.declared.commands.CrashPick.TheVariants.{New}
@@ -20,6 +20,7 @@ pub record Given : Type 0 where
   pub ring : Option (List ℕ)
   pub cap : Option (List ℕ)
   pub list : Bool
+  pub writer : Option (List ℕ)
   pub crash : Option (List ℕ)
   pub rmgr : Option (List ℕ)
   pub xid : Option (List ℕ)
@@ -47,6 +48,7 @@ given_of words = record {
   ring = text_of words.ring;
   cap = text_of words.cap;
   list = words.list;
+  writer = text_of words.writer;
   crash = text_of words.crash;
   rmgr = text_of words.rmgr;
   xid = text_of words.xid;
@@ -93,7 +95,8 @@ default_cap_segments = 64
 
 -- an option is given that only `run`, `gen` or `replay` takes
 abbrev pub gives_run_gen_or_replay : Given → Bool
-gives_run_gen_or_replay g = is_some g.ring || is_some g.cap || g.list || is_some g.crash
+gives_run_gen_or_replay g =
+    is_some g.ring || is_some g.cap || g.list || is_some g.writer || is_some g.crash
 
 -- one that says which records are listed
 abbrev pub gives_selection : Given → Bool
@@ -122,7 +125,7 @@ shape_of g = do
   cap_segments ← or_default default_cap_segments cap_segments_of g.cap
   Some (size, ring_pages, cap_segments)
 
--- the options of a run, with no others
+-- the options that `run` and `gen` share, where none of `dump` and `replay` is given
 abbrev pub run_options_of : Given → Option RunOptions
 run_options_of g = if gives_dump g || is_some g.crash then None else do
   shape ← shape_of g
@@ -133,14 +136,18 @@ run_options_of g = if gives_dump g || is_some g.crash then None else do
     list = g.list;
   })
 
--- what `run` is asked to do, with its own options alone
+-- what `run` is asked to do, with its own options alone: it has a log writer where its option is
+-- given
 abbrev pub run_of : Given → Option Command
-run_of g = if is_some g.topic then None else option_map Run (run_options_of g)
+run_of g = if is_some g.topic then None else do
+  options ← run_options_of g
+  writer ← read writer_lines_of g.writer
+  Some (Run (record { run = options; writer = writer }))
 
--- what `gen` is asked to do: a run, with its options, of as many lines of each backend as the word
--- behind the command's name says
+-- what `gen` is asked to do: a run, with its options but the writer's, of as many lines of each
+-- backend as the word behind the command's name says
 abbrev pub gen_of : Given → Option Command
-gen_of g = do
+gen_of g = if is_some g.writer then None else do
   lines ← option_and_then line_count_of g.topic
   options ← run_options_of g
   Some (Gen (record { lines = lines; run = options }))
@@ -148,7 +155,7 @@ gen_of g = do
 -- what `replay` is asked to do, with its own options alone; a crash leaves what was written last
 -- where nothing else is given
 abbrev pub replay_of : Given → Option Command
-replay_of g = if is_some g.topic || gives_dump g || g.list then None else do
+replay_of g = if is_some g.topic || gives_dump g || g.list || is_some g.writer then None else do
   shape ← shape_of g
   crash ← or_default New crash_of g.crash
   Some (Replay (record {
@@ -229,9 +236,12 @@ abbrev pub IsShapeInRange : ℕ → ℕ → Type 0
 IsShapeInRange ring_pages cap_segments =
     (4 ≤ ring_pages) × (ring_pages ≤ 64) × (1 ≤ cap_segments) × (cap_segments ≤ 4096)
 
--- the log of a run or a replay has such a shape, and `gen` makes 1 to 100000 lines of each backend
+-- the log of a run or a replay has such a shape, a writer has 1 to 1000 lines, and `gen` makes 1 to
+-- 100000 lines of each backend
 abbrev pub IsInRange : Command → Type 0
-IsInRange (Run options) = IsShapeInRange options.ring_pages options.cap_segments
+IsInRange (Run options) =
+    IsShapeInRange options.run.ring_pages options.run.cap_segments
+    × IfSome options.writer (λ n. (1 ≤ n) × (n ≤ 1000))
 IsInRange (Gen options) =
     (1 ≤ options.lines) × (options.lines ≤ 100000)
     × IsShapeInRange options.run.ring_pages options.run.cap_segments

@@ -35,6 +35,10 @@ cap_segments_of word = number_within 1 4096 word
 abbrev pub line_count_of : List ℕ → Option ℕ
 line_count_of word = number_within 1 100000 word
 
+-- `--writer`: how many lines the log writer has
+abbrev pub writer_lines_of : List ℕ → Option ℕ
+writer_lines_of word = number_within 1 1000 word
+
 -- `--crash`: which words of the disk a crash leaves, in exact case
 abbrev pub crash_of : List ℕ → Option CrashPick
 crash_of word =

@@ -1,7 +1,7 @@
 use byte_position::Geometry;
 use listing_filter::Filter;
 
-/// What `run` is asked to do.
+/// The log of a run, and what the run prints.
 #[derive(Clone, Copy, Debug)]
 pub struct RunOptions {
     pub geometry: Geometry,
@@ -11,6 +11,16 @@ pub struct RunOptions {
     pub cap_segments: u32,
     /// Whether a line is printed for each line told.
     pub list: bool,
+}
+
+/// What `run` is asked to do.
+#[derive(Clone, Copy, Debug)]
+pub struct ScriptRunOptions {
+    /// The run of the script's lines.
+    pub run: RunOptions,
+    /// How many lines the log writer has, which is one backend more behind the script's last.
+    /// `None` if none is asked for.
+    pub writer: Option<u32>,
 }
 
 /// What `gen` is asked to do.
@@ -64,7 +74,7 @@ pub struct RedoOptions {
 #[derive(Clone, Copy, Debug)]
 pub enum Command {
     /// Runs a script.
-    Run(RunOptions),
+    Run(ScriptRunOptions),
     /// Runs lines that are made.
     Gen(GenOptions),
     /// Plays a script of several backends turn by turn, and lists the log that a crash leaves.

@@ -1,14 +1,15 @@
 ghost use Rattle.std.specs.Prelude.{◌≡◌, ◌||◌, IfSome, is_some, option_map};
-ghost use Rattle.command_words.specs.Meanings.{block_number_of, cap_segments_of, crash_of, limit_of, line_count_of, lsn_of, manager_of, relation_of, ring_pages_of, segment_size_of, xid_of};
+ghost use Rattle.command_words.specs.Meanings.{block_number_of, cap_segments_of, crash_of, limit_of, line_count_of, lsn_of, manager_of, relation_of, ring_pages_of, segment_size_of, writer_lines_of, xid_of};
 ghost use Rattle.command_words.specs.declared.commands.CrashPick.TheVariants.{New};
 ghost use Rattle.command_words.specs.Given.{IsInRange, IsShapeInRange, command_of, default_segment_size, dump_of, filter_of, gen_of, given_of, gives_dump, gives_extent, gives_form, gives_run_gen_or_replay, gives_selection, lacks_relation, or_default, redo_of, replay_of, run_of, run_options_of, settled, shape_of, text_of, with_block_rules, with_extent, with_form, with_record_rules};
 
 use crate::commands::{
     Command, CrashPick, DumpOptions, GenOptions, RedoOptions, ReplayOptions, RunOptions,
+    ScriptRunOptions,
 };
 use crate::meanings::{
     block_number, cap_segments, crash, fork, limit, line_count, lsn, manager, relation, ring_pages,
-    segment_size, xid,
+    segment_size, writer_lines, xid,
 };
 use byte_position::Geometry;
 use listing_filter::Filter;
@@ -35,6 +36,8 @@ pub struct GivenWords<'a> {
     pub cap: Option<&'a str>,
     /// Whether a line is printed for each line told: `run` and `gen` alone take it.
     pub list: bool,
+    /// How many lines the log writer has: `run` alone takes it.
+    pub writer: Option<&'a str>,
     /// Which words of the disk a crash leaves: `replay` alone takes it.
     pub crash: Option<&'a str>,
     /// The manager of the records that are listed.
@@ -87,13 +90,18 @@ impl GivenWords<'_> {
         if self.topic.is_some() {
             return None;
         }
-        Some(Command::Run(self.run_options()?))
+        let run = self.run_options()?;
+        let writer = settled(self.writer.map(writer_lines))?;
+        Some(Command::Run(ScriptRunOptions { run, writer }))
     }
 
     fn generated_run(&self) -> Option<Command>
         ensures command { result ≡ gen_of (given_of self.now) }
         ensures in_range { IfSome result IsInRange }
     {
+        if self.writer.is_some() {
+            return None;
+        }
         let lines = line_count(self.topic?)?;
         let run = self.run_options()?;
         Some(Command::Gen(GenOptions { lines, run }))
@@ -103,7 +111,7 @@ impl GivenWords<'_> {
         ensures command { result ≡ replay_of (given_of self.now) }
         ensures in_range { IfSome result IsInRange }
     {
-        if self.topic.is_some() || self.gives_dump() || self.list {
+        if self.topic.is_some() || self.gives_dump() || self.list || self.writer.is_some() {
             return None;
         }
         let (geometry, ring_pages, cap_segments) = self.shape()?;
@@ -143,7 +151,11 @@ impl GivenWords<'_> {
     fn gives_run_gen_or_replay(&self) -> bool
         ensures { result ≡ gives_run_gen_or_replay (given_of self.now) }
     {
-        self.ring.is_some() || self.cap.is_some() || self.list || self.crash.is_some()
+        self.ring.is_some()
+            || self.cap.is_some()
+            || self.list
+            || self.writer.is_some()
+            || self.crash.is_some()
     }
 
     // Whether an option is given that only `dump` takes.
@@ -179,7 +191,7 @@ impl GivenWords<'_> {
         self.quiet || self.stats || self.times
     }
 
-    // The options of a run, where no other is given.
+    // The options that `run` and `gen` share, where none of `dump` and `replay` is given.
     fn run_options(&self) -> Option<RunOptions>
         ensures value { result ≡ run_options_of (given_of self.now) }
         ensures in_range { IfSome result (λ options.

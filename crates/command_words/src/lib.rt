@@ -7,9 +7,10 @@ mod meanings;
 
 pub use commands::{
     Command, CrashPick, DumpOptions, GenOptions, RedoOptions, ReplayOptions, RunOptions,
+    ScriptRunOptions,
 };
 pub use given::GivenWords;
 pub use meanings::{
     block_number, cap_segments, crash, fork, limit, line_count, lsn, manager, relation, ring_pages,
-    segment_size, xid,
+    segment_size, writer_lines, xid,
 };

@@ -2,7 +2,7 @@
 
 ghost use Rattle.std.specs.Prelude.{◌≡◌, ◌<◌, ◌≤◌, IfSome, codes, is_some, option_map};
 ghost use Rattle.listing_filter.specs.Names.{fork_named, is_same_name};
-ghost use Rattle.command_words.specs.Meanings.{block_number_of, cap_segments_of, crash_of, cut_at_slash, hexadecimal_of, limit_of, line_count_of, lsn_of, manager_of, number_behind_custom, number_within, object_of, relation_of, ring_pages_of, segment_size_of, xid_of};
+ghost use Rattle.command_words.specs.Meanings.{block_number_of, cap_segments_of, crash_of, cut_at_slash, hexadecimal_of, limit_of, line_count_of, lsn_of, manager_of, number_behind_custom, number_within, object_of, relation_of, ring_pages_of, segment_size_of, writer_lines_of, xid_of};
 
 use crate::commands::CrashPick;
 use byte_position::Geometry;
@@ -16,6 +16,8 @@ const MAX_RING_PAGES: u64 = 64;
 const MAX_CAP_SEGMENTS: u64 = 4096;
 
 const MAX_LINES: u64 = 100_000;
+
+const MAX_WRITER_LINES: u64 = 1000;
 
 const MIN_CUSTOM_MANAGER: u8 = 128;
 
@@ -65,6 +67,15 @@ pub fn line_count(word: &str) -> Option<u32>
     ensures within { IfSome result (λ n. (1 ≤ n) × (n ≤ 100000)) }
 {
     let lines = number_within(word, 1, MAX_LINES)?;
+    Some(lines as u32)
+}
+
+/// How many lines the log writer has, as the word of `--writer` says: 1 to 1000.
+pub fn writer_lines(word: &str) -> Option<u32>
+    ensures value { result ≡ writer_lines_of word.now }
+    ensures within { IfSome result (λ n. (1 ≤ n) × (n ≤ 1000)) }
+{
+    let lines = number_within(word, 1, MAX_WRITER_LINES)?;
     Some(lines as u32)
 }
 

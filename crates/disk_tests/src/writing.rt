@@ -1,7 +1,7 @@
-//! A log's pages as they are put on a disk, and made durable.
+//! A log's pages as they are put on a disk, and made durable; a log that was found, and settled.
 use crate::calls::smallest;
-use crate::played::{Answer, Call, play};
-use flush_core::{DiskFault, Writer};
+use crate::played::{Answer, Call, DONE, play};
+use flush_core::{DiskFault, Writer, settle};
 use segment_disk::{Disk, MemDisk};
 use std::alloc::Global;
 use std::process::Abort;
@@ -111,5 +111,35 @@ fn full_segment_is_synced_and_the_next_one_made(rt: HostRuntime) -> Result<(), F
     assert_eq!(rt; answers, [Ok(130), Ok(132)]);
     assert_eq!(rt; writer.disk().faults(), 0);
     play(&rt, &mut writer.into_disk(), TWO_SEGMENTS);
+    Ok(())
+}
+
+static FOUND: &[(Call, Answer)] = &[
+    (Call::Create(1), DONE),
+    (Call::Write(1, 0, 7), DONE),
+    (Call::Write(1, 1, 8), DONE),
+    (Call::Create(2), DONE),
+    (Call::Write(2, 0, 9), DONE),
+];
+
+static SETTLED: &[(Call, Answer)] = &[
+    (Call::Read(1, 0), Ok(Some([7, 7, 0, 0]))),
+    (Call::Read(1, 1), Ok(Some([0; 4]))),
+    (Call::Read(2, 0), Ok(Some([0; 4]))),
+    (Call::Read(3, 0), Ok(None)),
+];
+
+// Two syncs, three pages that are cleared, and two syncs; then the first two again.
+#[test]
+fn found_log_is_settled(rt: HostRuntime) -> Result<(), Fail> {
+    let alloc = rt.alloc();
+    let mut disk = MemDisk::new(alloc, 4, 1000, Vec::new(alloc), Vec::new(alloc))?;
+    play(&rt, &mut disk, FOUND);
+    let mut page = [0; 8192];
+    for moment in [12, 14] {
+        let count = settle(alloc, &mut disk, smallest(), Lsn(0x10_0010), &mut page);
+        assert_eq!(rt; (count, disk.moment()), (Ok(2), moment));
+        play(&rt, &mut disk, SETTLED);
+    }
     Ok(())
 }

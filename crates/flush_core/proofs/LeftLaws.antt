@@ -190,7 +190,7 @@ module _ (size : ℕ) (IsThere : ℕ → Type 0) (Fits : ℕ → ℕ → List �
       (TapeAssures-with_call moment old (failed_call failed.0 call) (failed_fits call.geometry call.segment call.kind call.done failed.0 fits) assures)
   TapeAssures-failed moment old new old_moment new_moment call fits (inr not_made) assures = subst (λ (t : Option Tape). IfSome t (TapeAssures size IsThere Fits moment)) (sym not_made.same_tape) assures
 
-  front_fits : (front : List Call) (next : Call) (others : List Call) → AllFit (front ++ next ∷ others) → AllFit front × CallFits size Fits next
+  pub front_fits : (front : List Call) (next : Call) (others : List Call) → AllFit (front ++ next ∷ others) → AllFit front × CallFits size Fits next
   front_fits [] next others fit = (tt, fit.0)
   front_fits (c ∷ front) next others fit = let behind = front_fits front next others fit.1 in ((fit.0, behind.0), behind.1)
 

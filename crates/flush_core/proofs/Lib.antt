@@ -7,3 +7,11 @@ pub mod LeftLaws
 pub mod LeftPuts
 pub mod GrowingTapes
 pub mod LawfulLaws
+pub mod SettleCalls
+pub mod SettleReads
+pub mod Clearing
+pub mod SettleGroups
+pub mod SettledPages
+pub mod SettledLeft
+pub mod SettledTapes
+pub mod SettledLogs

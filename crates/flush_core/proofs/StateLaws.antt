@@ -51,7 +51,7 @@ stands_created size segment state pages positive zeros stands = record {
   synced = λ n other. after_each state (create_call size segment) (λ (s : Option Segment). unsynced_writes s ≡ []) n (λ same. absurd (other same)) (λ _. stands.synced n other);
 }
 
-after_writes-push : (writes : List (ℕ × List ℕ)) (w : ℕ × List ℕ) (page : ℕ) (bytes : List ℕ) → after_writes (writes ++ w ∷ []) page bytes ≡ (if w.0 == page then w.1 else after_writes writes page bytes)
+pub after_writes-push : (writes : List (ℕ × List ℕ)) (w : ℕ × List ℕ) (page : ℕ) (bytes : List ℕ) → after_writes (writes ++ w ∷ []) page bytes ≡ (if w.0 == page then w.1 else after_writes writes page bytes)
 after_writes-push [] w page bytes = refl
 after_writes-push (v ∷ writes) w page bytes = after_writes-push writes w page (if v.0 == page then v.1 else bytes)
 

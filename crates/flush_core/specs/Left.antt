@@ -1,14 +1,9 @@
 -- What a crash leaves of a log: the pages below a position whole and as they were put, and nothing
 -- anywhere but what was put.
-use Rattle.std.specs.Prelude.{◌≡◌, ℕ, ◌+◌, ◌*◌, ◌<◌, ◌≤◌, ◌⊎◌, All, List, [], ◌∷◌, drop, Option, Some, None, ◌==◌, if◌then◌else◌}
-use Rattle.byte_position.specs.Geometry.{pages_of}
-use Rattle.segment_disk.specs.declared.disk.Call.{Call}
-use Rattle.segment_disk.specs.declared.disk.CallKind.{CallKind}
-use Rattle.segment_disk.specs.declared.disk.CallKind.TheVariants.{Create, Write, Sync}
-use Rattle.segment_disk.specs.Tape.{Segment, DiskState, Tape, state_now, zero_page}
-use Rattle.segment_disk.specs.DiskImage.{DiskImage, ImageSegment, word_of, IsWritten, LeftAt}
+use Rattle.std.specs.Prelude.{◌≡◌, ℕ, ◌+◌, ◌*◌, ◌<◌, ◌≤◌, ◌⊎◌, List, [], ◌∷◌, ◌==◌, if◌then◌else◌}
+use Rattle.segment_disk.specs.Tape.{zero_page}
+use Rattle.segment_disk.specs.DiskImage.{word_of}
 use Rattle.flush_core.specs.Pages.{PutPages}
-use Rattle.segment_disk.specs.Assured.{made_upto}
 
 -- ---- the pages below a position are kept
 

@@ -4,3 +4,5 @@ pub mod Left
 pub mod Writer
 pub mod Puts
 pub mod Lawful
+pub mod Settled
+pub mod SettledLog

@@ -1,6 +1,6 @@
 -- The pages of a log as they were put, by their numbers counted from the log's address 0, and how
 -- images and disks hold them. Everywhere `size` is the size of a segment in bytes.
-use Rattle.std.specs.Prelude.{◌≡◌, ◌≢◌, ℕ, ◌+◌, ◌-◌, ◌*◌, ◌/◌, ◌<◌, ◌≤◌, ◌⊎◌, Bool, false, List, [], length, Option, Some, None, IfSome, ◌==◌, if◌then◌else◌}
+use Rattle.std.specs.Prelude.{◌≡◌, ◌≢◌, ℕ, ◌+◌, ◌*◌, ◌/◌, ◌<◌, ◌≤◌, ◌⊎◌, Bool, false, List, [], length, Option, Some, None, IfSome, ◌==◌, if◌then◌else◌}
 use Rattle.byte_position.specs.Geometry.{pages_of}
 use Rattle.segment_disk.specs.Tape.{Segment, DiskState, Tape, state_now, zero_page}
 use Rattle.segment_disk.specs.DiskImage.{DiskImage, ImageSegment, image_as_read}

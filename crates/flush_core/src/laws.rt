@@ -5,6 +5,7 @@ ghost use Rattle.std.specs.Prelude.{ℕ, ◌<◌, ◌++◌, false, List, length}
 ghost use Rattle.segment_disk.specs.declared.disk.Call.{Call};
 ghost use Rattle.segment_disk.specs.Tape.{DiskState, Tape};
 ghost use Rattle.segment_disk.specs.DiskImage.{DiskImage, LeftAt, MayLeave};
+ghost use Rattle.flush_core.specs.SettledLog.{SettledLogsAreWhole, SettlingKeepsLawful, SyncedLogsAreLawful};
 ghost use Rattle.flush_core.specs.Pages.{ArePutUpto, HoldsPages, HoldsPut, PutPages};
 
 /// A law: where nothing waits for a sync, every image that a crash leaves holds just the pages that
@@ -21,4 +22,13 @@ pub fn later_calls_change_no_earlier_image()
         → moment < length tape.calls
         → LeftAt (record tape { calls = tape.calls ++ more }) moment image
         → LeftAt tape moment image }
+{}
+
+/// A law: once a log was settled, whatever a crash leaves is the log that was found and nothing
+/// else. While it is settled each image that a crash leaves is lawful for the order for which it
+/// was before; and from the end of the first syncs on, up to where the log was found to end.
+pub fn settled_logs_are_found_again()
+    ensures whole { SettledLogsAreWhole }
+    ensures lawful { SettlingKeepsLawful }
+    ensures synced { SyncedLogsAreLawful }
 {}

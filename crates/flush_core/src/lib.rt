@@ -5,8 +5,13 @@
 #![tactic(auto)]
 
 mod laws;
+mod settling;
 mod store;
 mod writer;
 
-pub use laws::{later_calls_change_no_earlier_image, synced_images_hold_what_was_put};
+pub use laws::{
+    later_calls_change_no_earlier_image, settled_logs_are_found_again,
+    synced_images_hold_what_was_put,
+};
+pub use settling::{SettleFault, settle};
 pub use writer::{DiskFault, Writer};

@@ -2,8 +2,7 @@
 use Rattle.std.proofs.Common.{◌≡◌, ℕ, ◌%◌, ◌≤◌, map, sym, subst, arith}
 use Rattle.byte_position.proofs.Words.{end_address_of-mod_word}
 use Rattle.wal_page.specs.Order.{end_position}
-use Rattle.wal_page.proofs.OwnerLaws.{rooms_of-whole}
-use Rattle.wal_page.proofs.WordPositions.{first_position-whole}
+use Rattle.wal_page.proofs.OwnerLaws.{end_position-whole}
 use Rattle.machine_laws.proofs.OrderSteps.{unlocked-is}
 use Rattle.wal_core.specs.declared.setup.Setup.{Setup}
 use Rattle.wal_core.specs.Words.{end_form, position_word, prev_word}
@@ -46,4 +45,4 @@ module _ (v : View) (met : ℕ) (m : Meets v load_position met) where
       let valid = ((s.sound).setup_is).size in
       subst (λ (n : ℕ). end_form setup n % 8 ≡ 0) (sym end_is_met)
       (end_address_of-mod_word size valid end
-      (omega (arith, rooms_of-whole size (s.sound).order, first_position-whole size valid)))
+      (end_position-whole size valid (s.sound).order ((s.sound).reserved).chained))

@@ -2,3 +2,4 @@ pub mod Sees
 pub mod Visits
 pub mod Knows
 pub mod Begun
+pub mod Runs

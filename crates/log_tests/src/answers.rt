@@ -1,7 +1,7 @@
 //! What passes of one table are answered while another one is under way.
 
 use crate::records::record;
-use crate::tables::open;
+use crate::tables::{open, resume};
 use insert_locks::{AllHeld, Watched, try_take, watch};
 use reserve_lock::{ReserveErr, try_reserve};
 use segment_disk::MemDisk;
@@ -55,6 +55,13 @@ fn pages_and_turns_are_told(rt: HostRuntime) -> Result<(), Fail> {
 #[test]
 fn a_log_is_answered_up_to_its_start(rt: HostRuntime) -> Result<(), Fail> {
     let (table, mut first) = open(rt.alloc())?;
+    assert_eq!(rt; first.seat(&table).load_async(), 1 << 20);
+    Ok(())
+}
+
+#[test]
+fn a_log_that_was_found_empty_is_answered_up_to_its_start(rt: HostRuntime) -> Result<(), Fail> {
+    let (table, mut first) = resume(rt.alloc())?;
     assert_eq!(rt; first.seat(&table).load_async(), 1 << 20);
     Ok(())
 }

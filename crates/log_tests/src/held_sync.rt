@@ -1,6 +1,7 @@
 //! A flush that is tried while another pass's sync is under way.
 
-ghost use Rattle.std.specs.Prelude.{IfOk};
+ghost use Rattle.std.specs.Prelude.{◌≡◌, false, IfOk};
+ghost use Rattle.record_spelling.specs.Spelling.{is_assembled_switch};
 ghost use Rattle.wal_log.specs.Logs.{IsPassOfLog};
 
 use crate::filled::SETUP;
@@ -113,7 +114,8 @@ fn committed<'a, R: Wait>(
     pass: Pass,
     body: &Body,
 ) -> Result<Sealed, CommitErr>
-    requires { IsPassOfLog log.now pass }
+    requires pass { IsPassOfLog log.now pass }
+    requires inserted { is_assembled_switch body.now ≡ false }
 {
     let mut pass = pass;
     log.commit(rt, &mut pass, body)
@@ -145,11 +147,13 @@ fn beside<'a, R: Threads + Wait + Sync>(
 ) -> (Result<Sealed, CommitErr>, Result<Hard, TryFlushErr>)
     requires first { IsPassOfLog log.now first }
     requires second { IsPassOfLog log.now second }
+    requires inserted { is_assembled_switch body.now ≡ false }
 {
     thread::join(
         rt,
         move ||
-            requires { IsPassOfLog log.now first }
+            requires first { IsPassOfLog log.now first }
+            requires inserted { is_assembled_switch body.now ≡ false }
         { committed(rt, log, first, body) },
         move ||
             requires { IsPassOfLog log.now second }

@@ -1,6 +1,7 @@
 //! Records that are inserted step by step, on one thread with several passes.
 
-ghost use Rattle.std.specs.Prelude.{◌≡◌, [], ◌∷◌, IfOk};
+ghost use Rattle.std.specs.Prelude.{◌≡◌, false, [], ◌∷◌, IfOk};
+ghost use Rattle.record_spelling.specs.Spelling.{is_assembled_switch};
 ghost use Rattle.wal_rule.specs.Passes.{view_of_pass};
 ghost use Rattle.wal_log.specs.Flights.{IsInFlightOf, view_of_flight};
 ghost use Rattle.wal_log.specs.Logs.{IsPassOfLog, setup_of_log};
@@ -156,6 +157,7 @@ fn shared(alloc: Global, setup: Setup) -> Result<(Log, Pass, Pass), Fail>
 // A record's place is reserved.
 fn begun<'a, R: Abort>(rt: &R, log: &Log, pass: Pass, body: &'a Body) -> Inflight<'a>
     requires pass { IsPassOfLog log.now pass }
+    requires inserted { is_assembled_switch body.now ≡ false }
     ensures flight { IsInFlightOf log.now result }
     ensures keeps { KeepsPass (view_of_pass pass) (view_of_flight result) }
 {
@@ -263,6 +265,8 @@ fn other_way_round<R: Abort>(
     two: &Body,
 ) -> (Pass, Pass)
     requires passes { AreOfLog log.now passes }
+    requires one { is_assembled_switch one.now ≡ false }
+    requires two { is_assembled_switch two.now ≡ false }
     ensures passes { AreOfLog log.now result }
     ensures keeps { KeepsBoth passes result }
 {
@@ -288,6 +292,8 @@ fn second_in_part<R: Abort>(
     two: &Body,
 ) -> (Pass, Pass)
     requires passes { AreOfLog log.now passes }
+    requires one { is_assembled_switch one.now ≡ false }
+    requires two { is_assembled_switch two.now ≡ false }
     ensures passes { AreOfLog log.now result }
     ensures keeps { KeepsBoth passes result }
 {
@@ -311,6 +317,7 @@ fn second_in_part<R: Abort>(
 // the log begins makes no device call, one up to where the copy has come makes room.
 fn ring_full<R: Abort>(rt: &R, log: &Log, passes: (Pass, Pass), one: &Body) -> (Pass, Pass)
     requires passes { AreOfLog log.now passes }
+    requires one { is_assembled_switch one.now ≡ false }
     ensures passes { AreOfLog log.now result }
     ensures keeps { KeepsBoth passes result }
 {
@@ -332,6 +339,8 @@ fn played<R: Abort>(
     two: &Body,
 ) -> (Pass, Pass)
     requires passes { AreOfLog log.now passes }
+    requires one { is_assembled_switch one.now ≡ false }
+    requires two { is_assembled_switch two.now ≡ false }
     ensures passes { AreOfLog log.now result }
     ensures keeps { KeepsBoth passes result }
 {
@@ -391,6 +400,7 @@ fn told_behind<R: Abort>(
     count: u32,
 ) -> Option<TryErr>
     requires pass { IsPassOfLog log.now first.old }
+    requires inserted { is_assembled_switch body.now ≡ false }
     ensures pass { IsPassOfLog log.now first.new }
 {
     if count == 0 || first.spare() == 0 {

@@ -4,7 +4,7 @@ use crate::filled::{Ended, SETUP, filled};
 use crate::reading::{Found, end_behind, records_on};
 use crate::records::record;
 use crate::told::{is_down_behind, records_told, rises};
-use log_workers::{Job, LogCall, commits, transaction};
+use log_workers::{Insertion, Job, LogCall, commits, transaction};
 use segment_disk::{Disk, MemDisk, Pick};
 use std::alloc::Global;
 use std::process::Abort;
@@ -70,8 +70,9 @@ fn two_backends_commit_side_by_side(rt: HostRuntime) -> Result<(), Fail> {
 fn a_record_longer_than_the_ring_goes_in_beside_commits(rt: HostRuntime) -> Result<(), Fail> {
     let alloc = rt.alloc();
     let mut jobs = Vec::new(alloc);
-    jobs.push(Job::of(LogCall::Insert(record(alloc, 1, 59_971)?)))?;
-    jobs.push(Job::of(LogCall::Commit(transaction(alloc, 2)?)))?;
+    let long = Insertion::of(record(alloc, 1, 59_971)?);
+    jobs.push(Job::of(LogCall::Insert(long)))?;
+    jobs.push(Job::of(LogCall::Commit(Insertion::of(transaction(alloc, 2)?))))?;
     let mut work = Vec::new(alloc);
     work.push(jobs)?;
     work.push(commits(alloc, 3, 5)?)?;

@@ -1,8 +1,7 @@
 //! Calls with what they have to be told.
 
 use crate::records::record;
-use log_workers::{Job, LogAnswer, LogCall};
-use record_spelling::Body;
+use log_workers::{Insertion, Job, LogAnswer, LogCall};
 use std::alloc::Global;
 use std::test::Fail;
 use wal_log::{CommitErr, FlushErr, Hard, InsertErr, Receipt, Sealed};
@@ -27,17 +26,17 @@ impl Step {
     }
 
     // The call with its record, which a flush does not need.
-    fn call(&self, body: Body) -> LogCall {
+    fn call(&self, record: Insertion) -> LogCall {
         match self {
-            Step::Insert(..) => LogCall::Insert(body),
-            Step::Commit(_) => LogCall::Commit(body),
+            Step::Insert(..) => LogCall::Insert(record),
+            Step::Commit(_) => LogCall::Commit(record),
             Step::Flush(upto, _) => LogCall::Flush(*upto),
         }
     }
 
     fn job(&self, alloc: Global) -> Result<Job, Fail> {
         let body = record(alloc, 1, self.len())?;
-        Ok(Job::of(self.call(body)))
+        Ok(Job::of(self.call(Insertion::of(body))))
     }
 
     /// What its call has to be told.

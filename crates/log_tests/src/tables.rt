@@ -1,8 +1,8 @@
-//! Tables of logs that hold nothing, on disks in memory.
+//! Tables of logs that hold nothing, new ones and one that was found, on disks in memory.
 
-ghost use Rattle.std.specs.Prelude.{◌≡◌, IfOk};
+ghost use Rattle.std.specs.Prelude.{◌≡◌, [], IfOk};
 ghost use Rattle.wal_core.specs.Opened.{first_view};
-ghost use Rattle.wal_rule.specs.Founded.{empty_log_opening};
+ghost use Rattle.wal_rule.specs.Founded.{empty_log_opening, found_log_opening};
 ghost use Rattle.wal_rule.specs.Passes.{view_of_pass};
 ghost use Rattle.wal_rule.specs.Tables.{IsPassOn};
 
@@ -11,7 +11,7 @@ use segment_disk::MemDisk;
 use std::alloc::Global;
 use std::test::Fail;
 use wal_core::Setup;
-use wal_rule::{Founding, LogTable, LogWriter, Pass};
+use wal_rule::{FoundEntries, Founding, LogTable, LogWriter, Pass};
 
 pub type Table = LogTable<MemDisk>;
 
@@ -42,6 +42,24 @@ pub fn open(alloc: Global) -> Result<(Table, Pass), Fail>
     let words = MachineWords::first(alloc, SETUP, founding.moment)?;
     let writer = LogWriter::new(disk, shape.geometry());
     match LogTable::open(alloc, words.as_slice(), writer, shape, &founding) {
+        Ok((table, seat)) => Ok((table, Pass::of_seat(seat, 0, 1, SETUP.passes))),
+        Err(_) => Err(Fail::from("memory for a table")),
+    }
+}
+
+/// A table behind a log that was found to hold nothing, with its first pass; its first segment is
+/// taken to be there.
+pub fn resume(alloc: Global) -> Result<(Table, Pass), Fail>
+    ensures pass { IfOk result (λ t. IsPassOn t.0 t.1) }
+    ensures view { IfOk result (λ t. view_of_pass t.1
+        ≡ first_view (found_log_opening SETUP [] 1 0 0)) }
+{
+    let shape = shape()?;
+    let disk = MemDisk::new(alloc, 4, 100, Vec::new(alloc), Vec::new(alloc))?;
+    let founding = Founding::of_found(SETUP, &disk, FoundEntries::none(), 1);
+    let words = MachineWords::first(alloc, SETUP, founding.moment)?;
+    let writer = LogWriter::resume(disk, shape.geometry(), SETUP.segment_size, 1);
+    match LogTable::resume(alloc, words.as_slice(), writer, shape, &founding) {
         Ok((table, seat)) => Ok((table, Pass::of_seat(seat, 0, 1, SETUP.passes))),
         Err(_) => Err(Fail::from("memory for a table")),
     }

@@ -2,10 +2,12 @@
 //! share them.
 #![tactic(auto)]
 
+mod insertion;
 mod records;
 mod worker;
 mod workers;
 
+pub use insertion::Insertion;
 pub use records::{commits, transaction};
 pub use worker::{Job, LogAnswer, LogCall, Worker};
 pub use workers::work_side_by_side;

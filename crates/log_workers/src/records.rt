@@ -1,6 +1,8 @@
 // Transactions' records.
-ghost use Rattle.std.specs.Prelude.{◌≡◌, IfOk, vec_len};
+ghost use Rattle.std.specs.Prelude.{◌≡◌, false, IfOk, vec_len};
+ghost use Rattle.record_spelling.specs.Spelling.{is_assembled_switch};
 
+use crate::insertion::Insertion;
 use crate::worker::{Job, LogCall};
 use record_spelling::{Body, BodyErr};
 use std::alloc::Global;
@@ -8,7 +10,9 @@ use wal_types::{BlockList, Bytes, Record, Xid};
 
 /// A transaction's record of 34 bytes, which takes up 40 of the log: a header of 24, one of 2, and
 /// 8 of main data.
-pub fn transaction(alloc: Global, xid: u32) -> Result<Body, BodyErr> {
+pub fn transaction(alloc: Global, xid: u32) -> Result<Body, BodyErr>
+    ensures inserted { IfOk result (λ body. is_assembled_switch body ≡ false) }
+{
     let record = Record {
         xid: Xid(xid),
         rmid: 1,
@@ -28,7 +32,7 @@ pub fn commits(alloc: Global, first: u32, count: u32) -> Result<Vec<Job>, BodyEr
     let mut commits = Vec::with_capacity(alloc, count as usize)?;
     for number in 0..count {
         let body = transaction(alloc, first.wrapping_add(number))?;
-        commits.push(Job::of(LogCall::Commit(body)))?;
+        commits.push(Job::of(LogCall::Commit(Insertion::of(body))))?;
     }
     Ok(commits)
 }

@@ -5,7 +5,7 @@ ghost use Rattle.wal_rule.specs.Passes.{view_of_pass};
 ghost use Rattle.wal_log.specs.Logs.{IsPassOfLog};
 ghost use Rattle.wal_log.specs.Standing.{KeepsPass};
 
-use record_spelling::Body;
+use crate::insertion::Insertion;
 use segment_disk::Disk;
 use std::sync::Wait;
 use wal_log::{CommitErr, FlushErr, Hard, InsertErr, Pass, Receipt, Sealed, Wal};
@@ -14,8 +14,8 @@ use wal_types::Lsn;
 /// A call of a log.
 #[derive(Drop)]
 pub enum LogCall {
-    Insert(Body),
-    Commit(Body),
+    Insert(Insertion),
+    Commit(Insertion),
     Flush(Lsn),
 }
 
@@ -76,8 +76,8 @@ fn answer<D: Disk, R: Wait>(rt: &R, log: &Wal<D>, pass: &mut Pass, call: &LogCal
     ensures keeps { KeepsPass (view_of_pass pass.old) (view_of_pass pass.new) }
 {
     match call {
-        LogCall::Insert(body) => LogAnswer::Inserted(log.insert(rt, pass, body)),
-        LogCall::Commit(body) => LogAnswer::Committed(log.commit(rt, pass, body)),
+        LogCall::Insert(record) => LogAnswer::Inserted(log.insert(rt, pass, record.body())),
+        LogCall::Commit(record) => LogAnswer::Committed(log.commit(rt, pass, record.body())),
         LogCall::Flush(upto) => LogAnswer::Flushed(log.flush(rt, pass, *upto)),
     }
 }

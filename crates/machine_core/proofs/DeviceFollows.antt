@@ -1,7 +1,7 @@
 -- At the calls of the device a turn on plain data follows the machine's, whether the call fails or
 -- not.
 use Rattle.std.proofs.Math.Dec.{ltb}
-use Rattle.std.proofs.Common.{◌≡◌, ℕ, ◌+◌, ◌*◌, ◌/◌, ◌%◌, Bool, true, false, not, cond, eqb, List, Option, min, refl, sym, ap, ◌∙◌}
+use Rattle.std.proofs.Common.{◌≡◌, ℕ, ◌+◌, ◌-◌, ◌*◌, ◌/◌, ◌%◌, Bool, true, false, not, cond, eqb, List, Option, min, refl, sym, ap, ◌∙◌}
 use mathlib.Core.Option.{none, some}
 use Rattle.byte_position.specs.Geometry.{pages_of}
 use Rattle.segment_disk.specs.Failing.{is_listed}
@@ -150,6 +150,7 @@ module _ (m : Machine) (number : ℕ) (v : View) (ask : Ask) (line : PlainLine) 
       written_by o = record writer {
         plain = after_write (segment_at writer) upto
             (write_call size (segment_at writer) on_segment w.page) o w.plain;
+        room = w.room - 1;
       }
 
       machine_writer : Bool → Plain
@@ -196,6 +197,7 @@ module _ (m : Machine) (number : ℕ) (v : View) (ask : Ask) (line : PlainLine) 
       synced_by : CallOutcome → WriterState
       synced_by o = record writer {
         plain = after_sync (sync_call size (segment_waiting (w.plain).waiting)) o w.plain;
+        room = w.room - 1;
       }
 
       machine_writer : Bool → Plain

@@ -1,14 +1,18 @@
 -- Plain data begin as the machine's.
-use Rattle.std.proofs.Common.{◌≡◌, ⊎_elim, ℕ, zero, suc, ◌+◌, ◌≤◌, ◌<◌, All, false, List, [], ◌∷◌, length, map, min, take, slice_get, slice_index_or, Option, Some, IfSome, refl, sym, ap, ◌∙◌, subst, arith}
+use Rattle.std.proofs.Common.{◌≡◌, ⊎_elim, ℕ, zero, suc, ◌+◌, ◌-◌, ◌*◌, ◌/◌, ◌%◌, ◌≤◌, ◌<◌, All, false, List, [], ◌∷◌, length, map, min, take, slice_get, slice_index_or, Option, Some, None, IfSome, refl, sym, ap, ◌∙◌, subst, arith}
 use Rattle.std.proofs.lemmas.List.{take_all, take_more}
 use Rattle.std.proofs.lemmas.List.Elements.{All-cons, All-head, All-tail, All-push}
 use mathlib.Core.Option.{some-injective, some-ne-none}
 use Rattle.byte_position.specs.Position.{end_address_of}
-use Rattle.record_spelling.specs.Spelling.{RecordOf}
+use Rattle.byte_position.proofs.PositionLaws.{end_address_of-zero}
+use Rattle.byte_position.proofs.SegmentSizes.{segment_size_in_pages}
+use Rattle.wal_page.proofs.WordPositions.{end_address_of-first_position, first_position-whole}
+use Rattle.record_spelling.specs.Spelling.{Assembled, RecordOf, is_assembled_switch}
+use Rattle.record_spelling.proofs.SwitchLaws.{logged_no_switch}
 use Rattle.segment_disk.specs.declared.disk.Call.{Call}
 use Rattle.wal_core.specs.declared.setup.Setup.{Setup}
-use Rattle.wal_core.specs.Words.{Opening, log_limit, log_start}
-use Rattle.wal_core.specs.Moves.{no_writing, split_off}
+use Rattle.wal_core.specs.Words.{Opening, flushed_word, log_limit, log_start, position_word}
+use Rattle.wal_core.specs.Moves.{no_writing, split_off, unlocked}
 use Rattle.wal_core.proofs.NothingFound.{nothing_ends, nothing_opens}
 use Rattle.wal_core.specs.Opened.{AreFirstWords, IsFirstWriter}
 use Rattle.wal_core.specs.Sound.{IsSetup}
@@ -19,16 +23,19 @@ use Rattle.wal_turns.specs.Doing.{Ask, Inserts, Commits, Flushes, Backend, Machi
 use Rattle.wal_turns.specs.Standing.{IsLine}
 use Rattle.wal_turns.proofs.FirstMachine.{runs_first, spares, split_at}
 use Rattle.machine_words.specs.Numbers.{WordsState}
+use Rattle.machine_turns.specs.declared.lane.PlainBackend.{PlainBackend}
 use Rattle.machine_turns.specs.declared.script.PlainLine.{PlainLine}
 use Rattle.machine_turns.specs.declared.script.PlainLine.TheVariants.{Insert, Commit, Flush}
 use Rattle.machine_turns.specs.Lanes.{start_of_line}
-use Rattle.machine_turns.specs.Scripts.{body_of, rooms_of_lines}
+use Rattle.machine_turns.specs.Scripts.{InsertsLogRecord, rooms_of_lines}
 use Rattle.machine_turns.specs.Writer.{IsFreshWriter, WriterState}
-use Rattle.machine_core.specs.Cores.{first_lane, first_lanes, first_opening, first_plain_view, machine_begun, rooms_of_scripts}
-use Rattle.machine_core.specs.Lines.{AreLinesFor, AreScriptsFor, IsAsked, IsLineFor}
+use Rattle.machine_core.specs.Cores.{first_lane, first_lanes, first_opening, first_plain_view, flushes_of_scripts, lines_of_scripts, machine_begun, rooms_of_scripts}
+use Rattle.machine_core.specs.Lines.{AreLinesFor, AreScriptsFor, InsertsNoSwitch, IsBody, IsLineFor}
+use Rattle.machine_core.specs.Marks.{GoesByMarks, TellsAt}
 use Rattle.machine_core.specs.PlainData.{plain_view}
-use Rattle.machine_core.specs.Playing.{CoreState, HasLaneOf, IsLaneOf, PlaysMachine, all_rooms_left, lines_reserved, rooms_left}
+use Rattle.machine_core.specs.Playing.{CoreState, HasCallRoom, HasLaneOf, IsLaneOf, PlaysMachine, all_lines_left, all_rooms_left, all_syncs_left, lines_reserved, rooms_left}
 use Rattle.machine_core.proofs.Rooms.{drop-fewer}
+use Rattle.machine_core.proofs.Syncs.{begins_few}
 use Rattle.machine_core.proofs.NextLanes.{begins_alike, few_at_begin, holds_at_begin}
 
 -- ---- the lines
@@ -123,6 +130,50 @@ rooms_first size base (script ∷ scripts) =
     (first.answered + lines_reserved first.doing) (omega arith) in
     omega (arith, rest, here)
 
+-- and for each line, at most
+lines_first : (size base : ℕ) (scripts : List (List PlainLine))
+    → all_lines_left (first_lanes size base scripts) ≤ lines_of_scripts scripts
+lines_first size base [] = omega arith
+lines_first size base (script ∷ scripts) = omega (arith, lines_first size (base + 1) scripts)
+
+syncs_first : (size base : ℕ) (scripts : List (List PlainLine))
+    → all_syncs_left (first_lanes size base scripts) ≤ flushes_of_scripts scripts
+syncs_first size base [] = omega arith
+syncs_first size base (script ∷ scripts) =
+    omega (arith, begins_few script 0, syncs_first size (base + 1) scripts)
+
+room_first : (segments segments_now full ends ends_now starts starts_now made lines lines_now syncs
+    flushes room : ℕ) → segments ≡ segments_now → ends ≡ ends_now → starts ≡ starts_now → made ≡ 0
+    → lines ≤ lines_now → syncs ≤ flushes
+    → 2 * segments_now + (ends_now - starts_now + lines_now) + flushes ≤ room
+    → segments - made + (segments - full) + (ends - starts + 0 + lines) + syncs ≤ room
+room_first segments segments_now full ends ends_now starts starts_now made lines lines_now syncs
+    flushes room a b c d fewer less has = omega (arith, a, b, c, d, fewer, less, has)
+
+-- no lane knows of anything
+none_tell : (size next : ℕ) (line : Option PlainLine) → TellsAt size [] (start_of_line line) next
+none_tell size next None = tt
+none_tell size next (Some (Insert body)) = tt
+none_tell size next (Some (Commit body)) = tt
+none_tell size next (Some Flush) = tt
+
+lanes_go : (size base : ℕ) (scripts : List (List PlainLine)) (number : ℕ) (lane : PlainBackend)
+    → slice_get (first_lanes size base scripts) number ≡ Some lane
+    → GoesByMarks size [] lane.view lane.doing
+lanes_go size base [] number lane is = absurd (cc)
+lanes_go size base (script ∷ scripts) zero lane is =
+    let same : first_lane size base script ≡ lane = cc in
+    subst (λ (l : PlainBackend). GoesByMarks size [] l.view l.doing) same (
+      record {
+        seen = ap (λ (a : ℕ). a % 8192) (end_address_of-zero size);
+        bound = refl;
+        known = refl;
+      },
+      none_tell size 0 (slice_get script 0),
+    )
+lanes_go size base (script ∷ scripts) (suc number) lane is =
+    lanes_go size (base + 1) scripts number lane is
+
 -- ---- the views
 
 module _ (opening : Opening) where
@@ -172,10 +223,12 @@ module _ (opening : Opening) where
 module _ (setup : Setup) (is : IsSetup setup) (words : WordsState) (w : WriterState)
     (failing : List ℕ) (scripts : List (List PlainLine)) (few : length scripts < setup.passes)
     (first_words : AreFirstWords (first_opening setup) words.words)
-    (pages_are : words.pages ≡ setup.ring_pages) (end : ℕ)
+    (pages_are : words.pages ≡ setup.ring_pages) (end lines flushes : ℕ)
+    (lines_are : lines ≡ lines_of_scripts scripts)
+    (flushes_are : flushes ≡ flushes_of_scripts scripts)
     (end_is : end ≡ end_address_of setup.segment_size
     (min (log_start setup + rooms_of_scripts scripts) (log_limit setup)))
-    (first : IsFreshWriter setup.segment_size end failing w) (whole : length w.page ≡ 8192) where
+    (first : IsFreshWriter setup.segment_size end lines flushes failing w) (whole : length w.page ≡ 8192) where
   abbrev opening : Opening
   opening = first_opening setup
 
@@ -198,6 +251,36 @@ module _ (setup : Setup) (is : IsSetup setup) (words : WordsState) (w : WriterSt
     waiting = first.waiting;
     fault = first.fault;
   }
+
+  calls_first : HasCallRoom setup.segment_size words.words w core.lanes
+  calls_first =
+      let size = setup.segment_size in
+      let whole : size % 8192 ≡ 0 =
+      omega (arith, (segment_size_in_pages size is.size).0) in
+      let starts = end_address_of-first_position size is.size in
+      let position : unlocked (position_word words.words) ≡ log_start setup =
+      omega (arith, first_words.position, first_position-whole size is.size) in
+      let flushed : flushed_word words.words ≡ size =
+      first_words.flushed ∙ nothing_ends opening is.size refl in
+      record {
+        ends = [];
+        tell = record {
+          position = ap (λ (p : ℕ). end_address_of size p % 8192) position
+              ∙ ap (λ (a : ℕ). a % 8192) starts ∙ whole;
+          locks = λ lock low. let none_told = first_words.zeros (2 + lock) (omega arith)
+              (omega (arith, low)) in ap (λ (n : ℕ). (n - 1) % 8192) none_told;
+          flushed = ap (λ (a : ℕ). a % 8192) flushed ∙ whole;
+        };
+        go = lanes_go size 1 scripts;
+        written = ap (λ (a : ℕ). a % 8192) first.written ∙ whole;
+        room = λ up. room_first (w.end / size) (end / size) ((w.plain).written / size)
+            (w.end / 8192) (end / 8192) ((w.plain).written / 8192) (size / 8192) (w.plain).made
+            (all_lines_left core.lanes) lines (all_syncs_left core.lanes) flushes w.room
+            (ap (λ (a : ℕ). a / size) first.end_is) (ap (λ (a : ℕ). a / 8192) first.end_is)
+            (ap (λ (a : ℕ). a / 8192) first.written) first.made
+            (omega (arith, lines_are, lines_first size 1 scripts))
+            (omega (arith, flushes_are, syncs_first size 1 scripts)) first.room;
+      }
 
   module _ (asks : List (List Ask)) (are : AreScriptsFor asks scripts) where
     abbrev begun : Machine
@@ -271,30 +354,46 @@ module _ (setup : Setup) (is : IsSetup setup) (words : WordsState) (w : WriterSt
           rooms_first setup.segment_size 1 scripts,
         );
       };
+      calls = calls_first;
     }
 
 -- ---- the lines are asked for
 
--- a line that inserts a record inserts one that can be written
-pub line_asked : (line : PlainLine) → IfSome (body_of line) RecordOf → IsAsked line
-line_asked (Insert body) known = (Inserts known.value, (known.same, known.writable))
-line_asked (Commit body) known = (Commits known.value, (known.same, known.writable))
-line_asked Flush known = (Flushes, tt)
+-- a record of the log that ends no segment can be inserted
+body_inserted : (body : Assembled) (known : RecordOf body) → is_assembled_switch body ≡ false
+    → IsBody known.value body
+body_inserted body known ends_none = (
+  known.same,
+  logged_no_switch known.value known.logged
+      (sym (ap is_assembled_switch known.same) ∙ ends_none),
+)
 
-pub lines_asked : (lines : List PlainLine) → All IsAsked lines
+line_asked : (line : PlainLine) → InsertsNoSwitch line → InsertsLogRecord line
+    → (ask : Ask) × IsLineFor ask line
+line_asked (Insert body) ends_none known =
+    (Inserts known.value, body_inserted body known ends_none)
+line_asked (Commit body) ends_none known =
+    (Commits known.value, body_inserted body known ends_none)
+line_asked Flush ends_none known = (Flushes, tt)
+
+lines_asked : (lines : List PlainLine) → All InsertsNoSwitch lines → All InsertsLogRecord lines
     → (asks : List Ask) × AreLinesFor asks lines
-lines_asked [] all = ([], tt)
-lines_asked (line ∷ lines) all =
-    let here = All-head IsAsked line lines all in
-    let rest = lines_asked lines (All-tail IsAsked line lines all) in
+lines_asked [] ends_none known = ([], tt)
+lines_asked (line ∷ lines) ends_none known =
+    let here = line_asked line (All-head InsertsNoSwitch line lines ends_none)
+    (All-head InsertsLogRecord line lines known) in
+    let rest = lines_asked lines (All-tail InsertsNoSwitch line lines ends_none)
+    (All-tail InsertsLogRecord line lines known) in
     (here.0 ∷ rest.0, (here.1, rest.1))
 
-pub scripts_asked : (scripts : List (List PlainLine)) → All (All IsAsked) scripts
-    → (asks : List (List Ask)) × AreScriptsFor asks scripts
-scripts_asked [] all = ([], tt)
-scripts_asked (script ∷ scripts) all =
-    let here = lines_asked script (All-head (All IsAsked) script scripts all) in
-    let rest = scripts_asked scripts (All-tail (All IsAsked) script scripts all) in
+pub scripts_asked : (scripts : List (List PlainLine)) → All (All InsertsNoSwitch) scripts
+    → All (All InsertsLogRecord) scripts → (asks : List (List Ask)) × AreScriptsFor asks scripts
+scripts_asked [] ends_none known = ([], tt)
+scripts_asked (script ∷ scripts) ends_none known =
+    let here = lines_asked script (All-head (All InsertsNoSwitch) script scripts ends_none)
+    (All-head (All InsertsLogRecord) script scripts known) in
+    let rest = scripts_asked scripts (All-tail (All InsertsNoSwitch) script scripts ends_none)
+    (All-tail (All InsertsLogRecord) script scripts known) in
     (here.0 ∷ rest.0, (here.1, rest.1))
 
 -- one more of a list holds

@@ -3,12 +3,13 @@ use Rattle.std.proofs.Common.{◌≡◌, ℕ, ◌+◌, ◌*◌, ◌/◌, ◌%◌
 use Rattle.std.proofs.lemmas.Bool.{cases_Bool, eqb-false}
 use native.Mathlib.Nat.{zero-min}
 use Rattle.wal_types.specs.declared.record.Record.{Record}
-use Rattle.record_spelling.specs.Spelling.{Assembled, assembled, assembled_room}
+use Rattle.record_spelling.specs.Spelling.{Assembled, IsWritable, assembled, room_of}
 use Rattle.byte_position.specs.Geometry.{IsSegmentSize}
 use Rattle.byte_position.proofs.Words.{end_address_of-mod_word}
 use Rattle.byte_position.specs.Position.{end_address_of}
 use Rattle.wal_page.specs.EntryWords.{address_of_word, words_owned}
-use Rattle.wal_page.specs.Order.{Entry, finish_of, position_behind}
+use Rattle.wal_page.specs.Order.{Entry, finish_of, position_behind, room_at}
+use Rattle.wal_page.proofs.PaddingLaws.{room_at-inserted, room_at-whole}
 use Rattle.wal_core.specs.Words.{end_form, end_word, lock_word, position_word}
 use Rattle.wal_core.specs.Views.{Place, Free, Locked, Loaded, Stored, Copy, Landed, Copying, Away, Idle, View, Watching}
 use Rattle.wal_core.proofs.WordLists.{word_again}
@@ -27,7 +28,7 @@ use Rattle.machine_turns.specs.declared.view.PlainFlight.TheVariants as flights
 use Rattle.machine_turns.specs.declared.view.PlainView.{PlainView}
 use Rattle.machine_turns.specs.declared.view.PlainWatching.{PlainWatching}
 use Rattle.machine_turns.specs.Writer.{WriterState}
-use Rattle.machine_turns.specs.Inserting.{reserved, watch_begun, watch_visited}
+use Rattle.machine_turns.specs.Inserting.{at_reserves, reserved, watch_begun, watch_visited}
 use Rattle.machine_core.specs.Lines.{InsertsRecord, IsLineFor}
 use Rattle.machine_core.specs.PlainData.{next_of_plain, plain_watching, plain_view}
 use Rattle.machine_core.specs.Following.{Follows, StandsPlain, plain_step}
@@ -73,7 +74,7 @@ asked_end-last v e (f ∷ g ∷ es) = asked_end-last v e (g ∷ es)
 reserved_plain : (lock at prev : ℕ) (u : View) (value : Record)
     → reserved (u.opening).setup
     (plain_view (posed (Stored at prev) (lock ∷ []) Landed Away Idle u))
-    at prev (assembled_room (assembled value))
+    at prev (room_at ((u.opening).setup).segment_size at value)
     ≡ plain_view (with_reserved ((u.opening).setup).segment_size
     (entry_reserved (u.reserving).number at value) prev (lock ∷ [])
     (posed (Stored at prev) (lock ∷ []) Landed Away Idle u))
@@ -84,23 +85,23 @@ reserved_plain lock at prev u value =
     sym (add-zero (end_address_of setup.segment_size at)) in
     let last = sym (asked_end-last u e (u.reserving).entries) in
     λ i. record (reserved setup (plain_view (posed (Stored at prev) (lock ∷ []) Landed Away Idle u))
-    at prev (assembled_room (assembled value))) {
+    at prev (room_at setup.segment_size at value)) {
       last_end = last i;
       flight = flights.Copying at prev (first i) (finish_of setup.segment_size e);
     }
 
--- a line that inserts a record has that record assembled
+-- a line that inserts a record has that record assembled, which can be inserted
 pub by_line : (P : Ask → PlainLine → Type 0)
-    → ((value : Record) → P (Inserts value) (Insert (assembled value)))
-    → ((value : Record) → P (Commits value) (Commit (assembled value)))
+    → ((value : Record) → IsWritable value → P (Inserts value) (Insert (assembled value)))
+    → ((value : Record) → IsWritable value → P (Commits value) (Commit (assembled value)))
     → (a : Ask) (l : PlainLine) → IsLineFor a l → IsRecord a → P a l
 by_line P p q (Inserts value) (Insert body) is record_is =
-    subst (λ (b : Assembled). P (Inserts value) (Insert b)) (sym is.0) (p value)
+    subst (λ (b : Assembled). P (Inserts value) (Insert b)) (sym is.0) (p value record_is)
 by_line P p q (Inserts value) (Commit body) is record_is = absurd is
 by_line P p q (Inserts value) Flush is record_is = absurd is
 by_line P p q (Commits value) (Insert body) is record_is = absurd is
 by_line P p q (Commits value) (Commit body) is record_is =
-    subst (λ (b : Assembled). P (Commits value) (Commit b)) (sym is.0) (q value)
+    subst (λ (b : Assembled). P (Commits value) (Commit b)) (sym is.0) (q value record_is)
 by_line P p q (Commits value) Flush is record_is = absurd is
 by_line P p q Flushes l is record_is = absurd record_is
 
@@ -115,7 +116,7 @@ module _ (size : ℕ) (valid : IsSegmentSize size) (lock : ℕ) (c : Copy) (unde
     (left : IsLeft size c) where
   finish-whole : finish_of size c.entry % 8 ≡ 0
   finish-whole = end_address_of-mod_word size valid (position_behind size c.entry)
-      (let whole = under.whole in omega arith)
+      (omega (arith, under.whole, room_at-whole size valid (c.entry).start (c.entry).value under.whole))
 
   ends_together : eqb (address_of_word size c.entry c.copied + 8) (finish_of size c.entry)
       ≡ eqb (c.copied + 1) (words_owned size c.entry)
@@ -193,6 +194,18 @@ module _ (m : Machine) (number : ℕ) (v : View) (ask : Ask) (line : PlainLine) 
   abbrev at_reserving : ℕ → Place → View → View
   at_reserving lock p u = posed p (lock ∷ []) Landed Away Idle u
 
+  -- the step of a reservation, where the record takes up so many bytes
+  abbrev GoalOfRoom : (lock : ℕ) → Place → View → Ask → (room : ℕ) → Type 0
+  GoalOfRoom lock p u a room = Follows m (at_reserving lock p u) a (doings.Reserves lock)
+      (at_reserves (u.opening).setup (m.state).words (plain_view (at_reserving lock p u)) lock room)
+
+  -- a record that can be inserted takes up its own room, wherever it starts
+  by_room : (lock at : ℕ) (p : Place) (u : View) (a : Ask) (value : Record) → IsWritable value
+      → GoalOfRoom lock p u a (room_at ((u.opening).setup).segment_size at value)
+      → GoalOfRoom lock p u a (room_of value)
+  by_room lock at p u a value writable = subst (GoalOfRoom lock p u a)
+      (room_at-inserted ((u.opening).setup).segment_size at value writable)
+
   locks_at : (lock : ℕ) (u : View) → Goal (doings.Reserves lock) (at_reserving lock Free u)
   locks_at lock u =
       let same = eq-eqb (position_word (m.state).words) (position_word (m.state).words) refl in
@@ -207,7 +220,8 @@ module _ (m : Machine) (number : ℕ) (v : View) (ask : Ask) (line : PlainLine) 
       → Goal (doings.Reserves lock) (at_reserving lock (Locked at) u)
   fits_at lock at u is record_is = by_line
       (GoalFor (doings.Reserves lock) (at_reserving lock (Locked at) u))
-      (λ value. elim (cases_Bool (fits u (Inserts value) at)) [
+      (λ value writable. by_room lock at (Locked at) u (Inserts value) value writable
+      (elim (cases_Bool (fits u (Inserts value) at)) [
         | inl within ↦ record {
           event = rw within refl;
           next = rw within refl;
@@ -220,8 +234,9 @@ module _ (m : Machine) (number : ℕ) (v : View) (ask : Ask) (line : PlainLine) 
           words = rw beyond refl;
           view = rw beyond refl;
         }
-      ])
-      (λ value. elim (cases_Bool (fits u (Commits value) at)) [
+      ]))
+      (λ value writable. by_room lock at (Locked at) u (Commits value) value writable
+      (elim (cases_Bool (fits u (Commits value) at)) [
         | inl within ↦ record {
           event = rw within refl;
           next = rw within refl;
@@ -234,7 +249,7 @@ module _ (m : Machine) (number : ℕ) (v : View) (ask : Ask) (line : PlainLine) 
           words = rw beyond refl;
           view = rw beyond refl;
         }
-      ]) ask line is record_is
+      ])) ask line is record_is
 
   stores_prev_at : (lock at prev : ℕ) (u : View)
       → Goal (doings.Reserves lock) (at_reserving lock (Loaded at prev) u)
@@ -249,18 +264,18 @@ module _ (m : Machine) (number : ℕ) (v : View) (ask : Ask) (line : PlainLine) 
       → Goal (doings.Reserves lock) (at_reserving lock (Stored at prev) u)
   stores_position_at lock at prev u is record_is = by_line
       (GoalFor (doings.Reserves lock) (at_reserving lock (Stored at prev) u))
-      (λ value. record {
+      (λ value writable. by_room lock at (Stored at prev) u (Inserts value) value writable (record {
         event = refl;
         next = refl;
         words = refl;
         view = reserved_plain lock at prev u value;
-      })
-      (λ value. record {
+      }))
+      (λ value writable. by_room lock at (Stored at prev) u (Commits value) value writable (record {
         event = refl;
         next = refl;
         words = refl;
         view = reserved_plain lock at prev u value;
-      }) ask line is record_is
+      })) ask line is record_is
 
   reserves_at : (lock : ℕ) (p : Place) (u : View) → IsLineFor ask line → IsRecord ask
       → Goal (doings.Reserves lock) (at_reserving lock p u)

@@ -15,8 +15,12 @@ pub mod Onward
 pub mod Waiting
 pub mod Ready
 pub mod Rooms
+pub mod Marks
+pub mod Syncs
+pub mod CallRoom
 pub mod Turning
 pub mod PagelessNext
 pub mod Playable
 pub mod Cores
 pub mod FirstData
+pub mod NoSwitches

@@ -183,7 +183,7 @@ module _ (m : Machine) (number : ℕ) (v : View) (ask : Ask) (line : PlainLine) 
       let size = ((u.opening).setup).segment_size in
       let gone = sym (lands lock c under) in
       by_line (GoalFor (doings.Releases lock false) (at_map lock c Away u))
-      (λ value. record {
+      (λ value writable. record {
         event = refl;
         next = refl;
         words = refl;
@@ -191,7 +191,7 @@ module _ (m : Machine) (number : ℕ) (v : View) (ask : Ask) (line : PlainLine) 
           flight = plain_flight size (gone i);
         };
       })
-      (λ value. record {
+      (λ value writable. record {
         event = refl;
         next = refl;
         words = refl;

@@ -2,8 +2,7 @@
 use Rattle.std.proofs.Common.{◌≡◌, ⊎_elim, ℕ, ◌+◌, ◌≤◌, List, min, slice_get, Some, None, sym, ap, ◌∙◌, subst, arith}
 use Rattle.byte_position.specs.Geometry.{IsSegmentSize}
 use Rattle.byte_position.proofs.EndAddresses.{end_address_of-mono}
-use Rattle.wal_page.proofs.OwnerLaws.{rooms_of-whole}
-use Rattle.wal_page.proofs.WordPositions.{first_position-whole}
+use Rattle.wal_page.proofs.OwnerLaws.{end_position-whole}
 use Rattle.wal_core.specs.declared.setup.Setup.{Setup}
 use Rattle.wal_core.specs.Words.{Opening, end_form, log_limit, position_word}
 use Rattle.wal_core.specs.Moves.{unlocked}
@@ -14,9 +13,14 @@ use Rattle.wal_turns.specs.Standing.{StandsToDo}
 use Rattle.machine_turns.specs.declared.lane.PlainBackend.{PlainBackend}
 use Rattle.machine_turns.specs.declared.script.PlainLine.{PlainLine}
 use Rattle.machine_turns.specs.declared.view.PlainView.{PlainView}
+use Rattle.machine_turns.specs.Writing.{known_in}
 use Rattle.machine_turns.specs.Lanes.{IsLow, IsReadyFor, MayPlay}
 use Rattle.machine_core.specs.Lines.{IsLineFor}
-use Rattle.machine_core.specs.Playing.{CoreState, IsLaneOf, PlaysMachine}
+use Rattle.machine_core.specs.Marks.{IsMark}
+use Rattle.machine_core.specs.Playing.{CoreState, IsLaneOf, PlaysMachine, all_lines_left, all_syncs_left, syncs_under_way}
+use Rattle.machine_turns.specs.Scripts.{flushes_of_line}
+use Rattle.machine_core.proofs.Syncs.{made_ahead, one_of_all}
+use Rattle.machine_core.proofs.CallRoom.{HasRoom}
 use Rattle.machine_core.proofs.Lists.{below_got, got_below, lines_agree}
 use Rattle.machine_core.proofs.Ready.{live_is_low, stands_is_ready}
 
@@ -27,8 +31,7 @@ module _ (core : CoreState) (m : Machine) (k : PlaysMachine core m) where
       let sound = (k.running).sound in
       let size = ((m.opening).setup).segment_size in omega (
         arith,
-        rooms_of-whole size sound.order,
-        first_position-whole size (sound.setup_is).size,
+        end_position-whole size (sound.setup_is).size sound.order (sound.reserved).chained,
         (sound.reserved).position_is,
         (sound.reserved).one_bit,
         (sound.reserved).within,
@@ -88,6 +91,18 @@ module _ (core : CoreState) (m : Machine) (k : PlaysMachine core m) where
             (slice_get lane.script lane.copied) of.copies core.writer k.writer_is
             (k.size_is ∙ ap (λ (s : Setup). s.segment_size) (sym setup_own))
             (subst (λ (s : Setup). end_form s (unlocked (position_word (m.state).words))
-            ≤ (core.writer).end) (sym setup_own) end_low) of.few))
+            ≤ (core.writer).end) (sym setup_own) end_low)
+            (k.calls).ends (all_lines_left core.lanes) (all_syncs_left core.lanes)
+            (subst (λ (y : ℕ × PlainView). IsMark y.0 (k.calls).ends (known_in y.1.hold))
+            (λ i. ((sym setup_own i).segment_size, of.view i)) (((k.calls).go number lane at).0).known)
+            (subst (λ (s : Setup). HasRoom s.segment_size (core.writer).end (k.calls).ends
+            (core.writer).plain (all_lines_left core.lanes) (all_syncs_left core.lanes)
+            (core.writer).room) (sym setup_own) (k.calls).room)
+            (omega (
+              arith,
+              made_ahead lane.doing (flushes_of_line x.1),
+              ap (syncs_under_way lane.doing) x.3,
+              one_of_all core.lanes number lane at,
+            )) of.few))
             (lines_agree b.asks lane.script of.lines lane.answered);
       }

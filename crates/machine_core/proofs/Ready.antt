@@ -16,8 +16,7 @@ use Rattle.segment_disk.specs.Tape.{DiskState}
 use Rattle.wal_page.specs.Order.{Entry, IsChained, end_position, position_behind, rooms_of}
 use Rattle.wal_page.specs.EntryWords.{address_of_word, words_owned}
 use Rattle.wal_page.proofs.OrderLaws.{FollowsFrom-parts, rooms_of-append, rooms_of_cons}
-use Rattle.wal_page.proofs.OwnerLaws.{rooms_of-whole}
-use Rattle.wal_page.proofs.WordPositions.{first_position-whole}
+use Rattle.wal_page.proofs.OwnerLaws.{end_position-whole}
 use Rattle.wal_core.specs.declared.setup.Setup.{Setup}
 use Rattle.wal_core.specs.Words.{end_form, log_limit, position_word, written_word, initialised_word, word_of_ring, write_turn}
 use Rattle.wal_core.specs.Views.{HasAt, Place, Free, Locked, Loaded, Stored, Copy, Flight, Landed, Copying, Stage, Away, Taken, Looked, Ready, Zeroing, Published, Plain, Lent, Hold, Out, View, reserving_of, working_of, flight_of, mapper_of, writer_of, writing_of}
@@ -46,6 +45,9 @@ use Rattle.machine_turns.specs.Writing.{known_in, segment_waiting, upto_next}
 use Rattle.machine_core.specs.Lines.{InsertsRecord}
 use Rattle.machine_core.specs.PlainData.{doing_of, plain_flight, plain_hold, plain_place, plain_stage, plain_view, purpose_of}
 use Rattle.machine_core.specs.Playing.{IsWriterOf, TriesFew}
+use Rattle.machine_core.specs.Marks.{IsMark}
+use Rattle.machine_core.proofs.Syncs.{syncs_made}
+use Rattle.machine_core.proofs.CallRoom.{HasRoom, room_to_create, room_to_sync, room_to_write, segment_fits, upto_mark}
 
 -- ---- the log's limit
 
@@ -246,7 +248,10 @@ module _ {first : DiskState} (words : List ℕ) (home : Maybe Plain) (views : Li
       (copies : (c : Copy) → (v.working).flight ≡ Copying c
       → (l : PlainLine) × (copied ≡ Some l) × InsertsRecord (c.entry).value l)
       (w : WriterState) (writer_is : IsWriterOf w.plain home views) (size_is : w.size ≡ size)
-      (end_is : end_form setup (unlocked (position_word words)) ≤ w.end) where
+      (end_is : end_form setup (unlocked (position_word words)) ≤ w.end) (ends : List ℕ)
+      (lines syncs : ℕ)
+      (known_is : IsMark size ends (known_in (plain_hold (v.writing).hold)))
+      (has : HasRoom size w.end ends w.plain lines syncs w.room) where
     has_next : (c : Copy) → (v.working).flight ≡ Copying c → (c.entry).start % 8 ≡ 0
         → c.copied < words_owned size c.entry
         → HasNextWord setup copied (plain_flight size (v.working).flight)
@@ -261,8 +266,7 @@ module _ {first : DiskState} (words : List ℕ) (home : Maybe Plain) (views : Li
     position-end : unlocked (position_word words) ≡ order_end
     position-end = omega (
       arith,
-      rooms_of-whole size k.order,
-      first_position-whole size valid,
+      end_position-whole size valid k.order (k.reserved).chained,
       (k.reserved).position_is,
       (k.reserved).one_bit,
     )
@@ -293,13 +297,18 @@ module _ {first : DiskState} (words : List ℕ) (home : Maybe Plain) (views : Li
           let low = left on in
           let fresh_here : (w.plain).made < segment_next size w.plain =
           subst (λ (p : Plain). p.made < segment_next size p) same fresh in
+          let begins = next-begins size valid (w.plain).written (w.plain).made fresh_here in
+          let up = (writer_up on.writer_up).up in
           record {
-            up = (writer_up on.writer_up).up;
+            up = up;
             alone = ⊎_elim (λ is. is) (λ is. let made = is.1 in absurd (omega arith))
                 (writer_up on.writer_up).awaits;
             behind = subst (λ (s : ℕ). ((w.plain).made + 1) * s ≤ (w.plain).written)
-                (sym size_is) (next-begins size valid (w.plain).written (w.plain).made fresh_here);
+                (sym size_is) begins;
             within = omega (arith, low, known-low);
+            has_room = room_to_create size w.end ends w.plain lines syncs w.room up
+                (segment_fits size valid size refl (w.plain).made (w.plain).written w.end begins
+                (omega (arith, low, known-low))) has;
           }
 
       write_due : LoadsOn size 1024 l → segment_next size l.writer ≤ (l.writer).made
@@ -313,42 +322,52 @@ module _ {first : DiskState} (words : List ℕ) (home : Maybe Plain) (views : Li
           subst IsKnownAligned hold ((k.aligned).views id v here).known in
           let written_aligned : (w.plain).written % 8 ≡ 0 =
           ap (λ (p : Plain). p.written % 8) (sym same ∙ held_writer) ∙ (k.aligned).writer_at in
+          let up = (writer_up on.writer_up).up in
+          let rises = rises_by_word (w.plain).written l.known written_aligned known_aligned low in
+          let most = min-le_left l.known page_end in
+          let known_mark =
+          subst (λ (h : Hold). IsMark size ends (known_in (plain_hold h))) hold known_is in
           subst (λ (h : Hold). IsWriteDue w (min (known_in (plain_hold h)) page_end)) (sym hold)
           (record {
-            up = (writer_up on.writer_up).up;
-            rises = rises_by_word (w.plain).written l.known written_aligned known_aligned low;
-            within = (let most = min-le_left l.known page_end in omega (arith, most, known-low));
+            up = up;
+            rises = rises;
+            within = omega (arith, most, known-low);
+            has_room = room_to_write size w.end ends w.plain lines syncs w.room (min l.known page_end) up
+                (upto_mark size ends l.known ((w.plain).written / 8192) known_mark)
+                (omega (arith, rises)) (omega (arith, most, known-low)) has;
             is_made = subst (λ (s : ℕ). segment_next s w.plain ≤ (w.plain).made) (sym size_is)
                 made_here;
           })
 
-      sync_due : AwaitsSync l → IsSyncDue w (segment_waiting (w.plain).waiting)
-      sync_due waits =
+      sync_due : 1 ≤ syncs → AwaitsSync l → IsSyncDue w (segment_waiting (w.plain).waiting)
+      sync_due some_left waits =
           let is = subst (λ (p : Plain). p.waiting ≡ some waits.1.0) same waits.1.1 in
+          let up = subst (λ (p : Plain). p.fault ≡ none) same waits.0 in
           record {
-            up = subst (λ (p : Plain). p.fault ≡ none) same waits.0;
+            up = up;
+            has_room = room_to_sync size w.end ends w.plain lines syncs w.room up some_left has;
             waits = is ∙ ap (λ (x : Maybe ℕ). some (segment_waiting x)) (sym is);
           }
 
-    ready_for : (d : PlainDoing) → StandsToDo v (doing_of d) ask → TriesFew d
+    ready_for : (d : PlainDoing) → syncs_made d ≤ syncs → StandsToDo v (doing_of d) ask → TriesFew d
         → IsReadyFor setup words w (plain_view v) copied d
-    ready_for (doings.Copies lock) s few =
+    ready_for (doings.Copies lock) made s few =
         has_next s.0.0 (s.0.1).flight_is (s.0.2).whole s.0.3.0
-    ready_for (doings.Tries taken) s few = few
-    ready_for (doings.Tells lock end) s few = lock-low lock (s.0.1).locks_are
-    ready_for (doings.Releases lock true) s few = lock-low lock s.locks_are
-    ready_for (doings.Releases lock false) s few = lock-low lock (s.0.1).locks_are
-    ready_for (doings.Visits purpose lock) s few = s.1
-    ready_for (doings.LoadsPage purpose loaded) s few = s.1
-    ready_for (doings.Creates purpose) s few =
+    ready_for (doings.Tries taken) made s few = few
+    ready_for (doings.Tells lock end) made s few = lock-low lock (s.0.1).locks_are
+    ready_for (doings.Releases lock true) made s few = lock-low lock s.locks_are
+    ready_for (doings.Releases lock false) made s few = lock-low lock (s.0.1).locks_are
+    ready_for (doings.Visits purpose lock) made s few = s.1
+    ready_for (doings.LoadsPage purpose loaded) made s few = s.1
+    ready_for (doings.Creates purpose) made s few =
         create_due s.0 (hold_of (purpose_of purpose) ask (Out s.0) v s.1) s.2.0 s.2.1
-    ready_for (doings.Writes purpose) s few =
+    ready_for (doings.Writes purpose) made s few =
         write_due s.0 (hold_of (purpose_of purpose) ask (Out s.0) v s.1) s.2.0 s.2.1
-    ready_for (doings.SyncsFull purpose) s few =
-        sync_due s.0 (hold_of (purpose_of purpose) ask (Out s.0) v s.1) s.2
-    ready_for doings.SyncsLast s few =
-        sync_due s.0 (hold_of ForLine ask (Out s.0) v s.1) s.2
-    ready_for other s few = tt
+    ready_for (doings.SyncsFull purpose) made s few =
+        sync_due s.0 (hold_of (purpose_of purpose) ask (Out s.0) v s.1) made s.2
+    ready_for doings.SyncsLast made s few =
+        sync_due s.0 (hold_of ForLine ask (Out s.0) v s.1) made s.2
+    ready_for other made s few = tt
 
 -- ---- a view of a machine that runs
 
@@ -365,9 +384,12 @@ module _ (m : Machine) (run : IsRunning m) (number : ℕ) (v : View)
       → (w : WriterState) → IsWriterOf w.plain (m.state).home (m.state).views
       → w.size ≡ ((v.opening).setup).segment_size
       → end_form (v.opening).setup (unlocked (position_word (m.state).words)) ≤ w.end
-      → TriesFew d
+      → (ends : List ℕ) (lines syncs : ℕ)
+      → IsMark ((v.opening).setup).segment_size ends (known_in (plain_view v).hold)
+      → HasRoom ((v.opening).setup).segment_size w.end ends w.plain lines syncs w.room
+      → syncs_made d ≤ syncs → TriesFew d
       → IsReadyFor (v.opening).setup (m.state).words w (plain_view v) copied d
-  stands_is_ready ask d stands copied copies w writer_is size_is end_is few =
+  stands_is_ready ask d stands copied copies w writer_is size_is end_is ends lines syncs known has made few =
       ready_for (m.state).words (m.state).home (m.state).views (number + 1) v
       (sound m run number v live ask) live.0 live.1 ask copied copies w writer_is size_is end_is
-      d stands few
+      ends lines syncs known has d made stands few

@@ -5,8 +5,7 @@ use Rattle.std.specs.Prelude.{nat_eq, nat_le, nat_lt}
 use Rattle.byte_position.specs.Position.{address_of}
 use Rattle.record_spelling.specs.Spelling.{assembled_size}
 use Rattle.wal_page.specs.Order.{end_position}
-use Rattle.wal_page.proofs.OwnerLaws.{rooms_of-whole}
-use Rattle.wal_page.proofs.WordPositions.{first_position-whole}
+use Rattle.wal_page.proofs.OwnerLaws.{end_position-whole}
 use Rattle.wal_core.specs.declared.setup.Setup.{Setup}
 use Rattle.wal_core.specs.Words.{end_word, flushed_word, lock_word, log_limit, position_word, prev_word, written_word}
 use Rattle.wal_core.specs.Views.{Place, Free, Locked, Loaded, Stored, View, reserving_of}
@@ -249,11 +248,11 @@ module _ (setup : Setup) (words : List ℕ) (w : WriterState) (view : PlainView)
   maps_keeps lock (stages.Published at) =
       stores (doings.Maps lock) _ 12 _ refl (omega arith) (omega arith)
 
-  abbrev IsNotReserving : PlainDoing → Type 0
+  abbrev pub IsNotReserving : PlainDoing → Type 0
   IsNotReserving (doings.Reserves lock) = ⊥
   IsNotReserving other = Unit {0}
 
-  keeps : (d : PlainDoing) → IsNotReserving d
+  pub keeps : (d : PlainDoing) → IsNotReserving d
       → TakesNoRoom words d (stepped setup words w view line copied d).left
   keeps doings.Begins other = loads doings.Begins _ refl (omega arith)
   keeps (doings.Tries taken) other = tries_keeps taken
@@ -314,18 +313,18 @@ module _ (setup : Setup) (words : List ℕ) (w : WriterState) (view : PlainView)
 eights : (n : ℕ) → n / 8 * 8 % 8 ≡ 0
 eights n = omega arith
 
-room-whole : (line : PlainLine) → room_of_line line % 8 ≡ 0
+pub room-whole : (line : PlainLine) → room_of_line line % 8 ≡ 0
 room-whole (Insert body) = eights (assembled_size body + 7)
 room-whole (Commit body) = eights (assembled_size body + 7)
 room-whole LineFlush = omega arith
 
 module _ (words : List ℕ) where
   -- the position is locked behind whole words
-  abbrev IsLockedAt : ℕ → Type 0
+  abbrev pub IsLockedAt : ℕ → Type 0
   IsLockedAt at = (position_word words ≡ at + 1) × (at % 8 ≡ 0)
 
   -- how the position stands at each place: it may be locked, or the view has locked it
-  abbrev RestsOn : PlainPlace → Type 0
+  abbrev pub RestsOn : PlainPlace → Type 0
   RestsOn places.Free = position_word words % 2 ≡ 0
   RestsOn (places.Locked at) = IsLockedAt at
   RestsOn (places.Loaded at prev) = IsLockedAt at
@@ -389,23 +388,28 @@ module _ (m : Machine) (number : ℕ) (v : View) (ask : Ask) (line : PlainLine) 
   place_rests (Stored start met) size end last prev locked holder at is whole can =
       (omega (arith, at.0, at.2, is), omega (arith, at.2, whole))
 
+  -- it rests on whole words
+  pub reserving_rests : (lock : ℕ)
+      → StandsPlain m number v ask line copied w (doings.Reserves lock)
+      → RestsOn (m.state).words (plain_place (v.reserving).place)
+  reserving_rests lock s =
+      let size = ((v.opening).setup).segment_size in
+      let k = sound m s.running number v s.live ask in
+      let valid = (k.setup_is).size in
+      let whole = end_position-whole size valid k.order (k.reserved).chained in
+      let here = (k.reserved).places (number + 1) (reserving_of v)
+      (part_at reserving_of (m.state).views (number + 1) v (s.live).0) (s.live).1 in
+      place_rests (v.reserving).place size (end_position size k.order) _ _ _ _ here
+      (k.reserved).position_is whole s.can
+
   reserving_moves : (lock : ℕ)
       → StandsPlain m number v ask line copied w (doings.Reserves lock)
       → MovesRoom (m.state).words (doings.Reserves lock)
       (plain_step m v line copied w (doings.Reserves lock)).left (room_of_line line)
   reserving_moves lock s =
-      let setup = (v.opening).setup in
-      let size = setup.segment_size in
       let k = sound m s.running number v s.live ask in
-      let valid = (k.setup_is).size in
-      let whole : end_position size k.order % 8 ≡ 0 =
-      omega (arith, rooms_of-whole size k.order, first_position-whole size valid) in
-      let here = (k.reserved).places (number + 1) (reserving_of v)
-      (part_at reserving_of (m.state).views (number + 1) v (s.live).0) (s.live).1 in
-      reserves_moves (m.state).words setup (plain_view v) lock line (omega (arith, k.wide))
-      (plain_place (v.reserving).place)
-      (place_rests (v.reserving).place size (end_position size k.order) _ _ _ _ here
-      (k.reserved).position_is whole s.can)
+      reserves_moves (m.state).words (v.opening).setup (plain_view v) lock line
+      (omega (arith, k.wide)) (plain_place (v.reserving).place) (reserving_rests lock s)
 
   pub step_moves_room : (d : PlainDoing) → StandsPlain m number v ask line copied w d
       → MovesRoom (m.state).words d (plain_step m v line copied w d).left (room_of_line line)

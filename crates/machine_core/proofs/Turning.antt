@@ -1,7 +1,8 @@
 -- A turn on plain data tells what the machine's turn tells, and leaves the plain data of the
 -- machine behind it.
-use Rattle.std.proofs.Common.{◌≡◌, inl, ⊎_elim, ℕ, ◌+◌, Bool, true, false, cond, eqb, not, ◌&&◌, ◌||◌, List, length, slice_get, slice_index, Option, Some, None, is_some, refl, sym, ap, ◌∙◌, subst, arith}
+use Rattle.std.proofs.Common.{◌≡◌, inl, ⊎_elim, ℕ, ◌+◌, Bool, true, false, cond, eqb, not, ◌&&◌, ◌||◌, List, length, set, slice_get, slice_index, Option, Some, None, is_some, refl, sym, ap, ◌∙◌, subst, arith}
 use Rattle.wal_types.specs.declared.record.Record.{Record}
+use Rattle.byte_position.specs.Geometry.{IsSegmentSize}
 use Rattle.wal_page.specs.Order.{Entry}
 use lib.ListN.{get_elem?}
 use Rattle.wal_core.specs.declared.setup.Setup.{Setup}
@@ -25,19 +26,24 @@ use Rattle.machine_turns.specs.declared.event.Turn.TheVariants as turns
 use Rattle.machine_turns.specs.declared.lane.PlainBackend.{PlainBackend}
 use Rattle.machine_turns.specs.declared.script.PlainLine.{PlainLine}
 use Rattle.machine_turns.specs.declared.script.PlainLine.TheVariants.{Insert, Commit, Flush}
-use Rattle.machine_turns.specs.Lanes.{PlayedTurn, Stepped, by_line, by_wait, copied_behind, finds_full, lane_answered, loads_down, moved_to, played, unmoved, word_awaited}
+use Rattle.machine_turns.specs.Lanes.{IsReadyFor, PlayedTurn, Stepped, by_line, by_wait, copied_behind, finds_full, lane_answered, loads_down, moved_to, played, unmoved, word_awaited}
 use Rattle.machine_turns.specs.Writer.{WriterState}
 use Rattle.machine_core.specs.Following.{Follows, StandsPlain, plain_step, step_made, view_left}
 use Rattle.machine_core.proofs.Keeping.{IsLikeWriter, Keeps}
 use Rattle.machine_core.proofs.InsertKeeps.{AsksFor, IsCopyBehind, IsCopyOf}
 use Rattle.machine_core.specs.Lines.{HasRecord, InsertsRecord, IsLineFor}
 use Rattle.machine_core.specs.PlainData.{doing_of, next_of_plain, plain_view, turn_of}
-use Rattle.machine_core.specs.Playing.{CoreState, HasRoomFor, IsLaneOf, PlaysMachine, core_behind}
+use Rattle.machine_core.specs.Playing.{CoreState, HasCallRoom, HasRoomFor, IsLaneOf, PlaysMachine, core_behind}
 use Rattle.machine_core.proofs.EachPlace.{step_follows, step_keeps}
 use Rattle.machine_core.proofs.Lists.{below_got, got_below, lines_agree, none_above, set_same}
 use Rattle.machine_core.proofs.NextLanes.{lane_answers, lane_follows}
 use Rattle.machine_core.proofs.Onward.{plays_on}
 use Rattle.machine_core.proofs.Rooms.{answered_needs_none, lane_keeps_room, lanes_keep_room, step_moves_room}
+use Rattle.machine_core.proofs.CallRoom.{answers_calls, keeps_calls, moves_calls}
+use Rattle.machine_turns.specs.Writing.{upto_next}
+use Rattle.machine_core.proofs.Marks.{step_moves_marks}
+use Rattle.machine_core.proofs.Syncs.{takes_syncs}
+use Rattle.machine_core.proofs.Playable.{may_play}
 use Rattle.machine_core.proofs.Waiting.{WaitsAlike, looks_alike, waits_alike}
 
 -- ---- what is left of a turn, by what comes next
@@ -144,6 +150,24 @@ module _ (m : Machine) (number : ℕ) (v : View) (live : IsLive m.state (number 
           left = omega (arith, kept_room, before, old_position);
         }
 
+    -- the log's setup as the view knows it
+    own_setup : (v.opening).setup ≡ core.setup
+    own_setup = ap (λ (o : Opening). o.setup) own ∙ k.setup_is
+
+    abbrev size : ℕ
+    size = ((v.opening).setup).segment_size
+
+    calls_here : HasCallRoom size words w core.lanes
+    calls_here = subst
+        (λ (y : Setup × List ℕ). HasCallRoom (y.0).segment_size y.1 w core.lanes)
+        (λ i. (sym own_setup i, same_words i)) k.calls
+
+    calls_fallen : HasCallRoom core.setup.segment_size fell.words fell.writer
+        (set core.lanes number fell.lane)
+    calls_fallen = subst
+        (λ (s : Setup). HasCallRoom s.segment_size words w (set core.lanes number fell.lane))
+        own_setup (answers_calls size words w core.lanes calls_here number lane at)
+
     falls : IsRunning (fallen m number backend v ask).1
         → IsTurnOf core number fell (fallen m number backend v ask)
     falls running = (
@@ -155,7 +179,7 @@ module _ (m : Machine) (number : ℕ) (v : View) (live : IsLive m.state (number 
           (λ l is. (k.writer_is).in_hand (number + 1) v l live.0 is)
           (lane_answers (core.writer).page (plain_view v) script copied answered d asks
           (view_behind v load_down (slice_index words 16) (m.state).home) of.lines refl of.copies)
-          refl number_is (same_writer k.page_whole) (k.full_is ∙ sym (off core.full)) room_fallen running,
+          refl number_is (same_writer k.page_whole) (k.full_is ∙ sym (off core.full)) room_fallen calls_fallen running,
     )
 
     -- ---- a step is made
@@ -232,6 +256,30 @@ module _ (m : Machine) (number : ℕ) (v : View) (live : IsLive m.state (number 
             left = omega (arith, kept_room, before, old_position);
           }
 
+      ready : IsReadyFor (v.opening).setup words w (plain_view v) (slice_get script copied) d
+      ready = subst (λ (y : Setup × List ℕ). IsReadyFor y.0 y.1 w (plain_view v)
+          (slice_get script copied) d) (λ i. (sym own_setup i, same_words i))
+          (may_play core m k number lane at).ready
+
+      calls_moved : HasCallRoom core.setup.segment_size moved.words moved.writer
+          (set core.lanes number moved.lane)
+      calls_moved =
+          let goes = calls_here.go number lane at in
+          let marks = step_moves_marks m number v ask line (slice_get script copied) w
+          calls_here.ends calls_here.tell calls_here.written d s ready goes in
+          let valid = subst (λ (o : Opening). IsSegmentSize (o.setup).segment_size) (sym own)
+          ((((k.running).sound).setup_is).size) in
+          let calls = keeps_calls (v.opening).setup valid calls_here.ends words w (plain_view v) line
+          (slice_get script copied) (k.size_is ∙ ap (λ (x : Setup). x.segment_size) (sym own_setup))
+          calls_here.written (goes.0).known d ready in
+          subst (λ (x : Setup). HasCallRoom x.segment_size moved.words moved.writer
+          (set core.lanes number moved.lane)) own_setup
+          (moves_calls size words w core.lanes calls_here number lane at st.left
+          (copied_behind d lane) st.writer (keeps.like).end_kept line line_left calls.at_mark
+          (upto_next (v.opening).setup words (plain_view v) w) calls.has
+          (takes_syncs (v.opening).setup words w (plain_view v) line (slice_get script copied) d)
+          marks)
+
       moves : IsRunning (moved_on m number backend v ask (event_named m v ask (doing_of d))).1
           → IsTurnOf core number moved
           (moved_on m number backend v ask (event_named m v ask (doing_of d)))
@@ -250,7 +298,7 @@ module _ (m : Machine) (number : ℕ) (v : View) (live : IsLive m.state (number 
             keeps.few keeps.page))
             keeps.number_kept number_is keeps.like
             (full_on (sym follows.next))
-            room_moved running,
+            room_moved calls_moved running,
       )
         where
           full_on : {n : Next} → n ≡ next_of_plain next

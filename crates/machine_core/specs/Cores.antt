@@ -1,5 +1,5 @@
 -- A core as plain data, and the machine as which it begins.
-use Rattle.std.specs.Prelude.{◌≡◌, ◌⊎◌, ℕ, ◌+◌, List, [], ◌∷◌, slice_get, Some}
+use Rattle.std.specs.Prelude.{◌≡◌, ◌⊎◌, ℕ, ◌+◌, List, [], ◌∷◌, length, slice_get, Some}
 use mathlib.Core.Option.{some}
 use Rattle.segment_disk.specs.Tape.{empty_state}
 use Rattle.wal_core.specs.declared.setup.Setup.{Setup}
@@ -16,8 +16,8 @@ use Rattle.machine_turns.specs.declared.view.PlainPlace.TheVariants.{Free}
 use Rattle.machine_turns.specs.declared.view.PlainStage.TheVariants.{Away}
 use Rattle.machine_turns.specs.declared.view.PlainView.{PlainView}
 use Rattle.machine_turns.specs.Lanes.{start_of_line}
-use Rattle.machine_turns.specs.Scripts.{rooms_of_lines}
-use Rattle.machine_turns.specs.Writer.{HasCallRoom, state_of}
+use Rattle.machine_turns.specs.Scripts.{flushes_of_lines, rooms_of_lines}
+use Rattle.machine_turns.specs.Writer.{KeepsDisk, state_of}
 use Rattle.machine_core.specs.declared.machine.Core.{Core}
 use Rattle.machine_core.specs.Playing.{CoreState, PlaysMachine}
 
@@ -33,7 +33,7 @@ core_of core = record {
 
 -- a core's writer keeps to its disk, and its plain data are those of some machine that runs
 abbrev pub IsPlayed : Core → Type 0
-IsPlayed core = HasCallRoom core.writer × ((m : Machine) × PlaysMachine (core_of core) m)
+IsPlayed core = KeepsDisk core.writer × ((m : Machine) × PlaysMachine (core_of core) m)
 
 -- ---- how a core begins
 
@@ -73,6 +73,16 @@ first_lanes size number (script ∷ scripts) =
 abbrev pub rooms_of_scripts : List (List PlainLine) → ℕ
 rooms_of_scripts [] = 0
 rooms_of_scripts (script ∷ scripts) = rooms_of_lines script + rooms_of_scripts scripts
+
+-- how many lines all scripts have
+abbrev pub lines_of_scripts : List (List PlainLine) → ℕ
+lines_of_scripts [] = 0
+lines_of_scripts (script ∷ scripts) = length script + lines_of_scripts scripts
+
+-- and how many of them flush
+abbrev pub flushes_of_scripts : List (List PlainLine) → ℕ
+flushes_of_scripts [] = 0
+flushes_of_scripts (script ∷ scripts) = flushes_of_lines script + flushes_of_scripts scripts
 
 -- the machine as which plain data begin, where their scripts ask for these lines
 abbrev pub machine_begun : CoreState → List (List Ask) → Machine

@@ -1,12 +1,17 @@
 -- Lines with their records assembled, and what they ask for.
-use Rattle.std.specs.Prelude.{◌≡◌, ℕ, List, [], ◌∷◌, slice_get, Some}
+use Rattle.std.specs.Prelude.{◌≡◌, ℕ, false, List, [], ◌∷◌, slice_get, Some, IfSome}
 use Rattle.wal_types.specs.declared.record.Record.{Record}
-use Rattle.record_spelling.specs.Spelling.{Assembled, IsWritable, assembled}
+use Rattle.record_spelling.specs.Spelling.{Assembled, IsWritable, assembled, is_assembled_switch}
 use Rattle.wal_turns.specs.Doing.{Ask, Inserts, Commits, Flushes}
 use Rattle.machine_turns.specs.declared.script.PlainLine.{PlainLine}
 use Rattle.machine_turns.specs.declared.script.PlainLine.TheVariants.{Insert, Commit, Flush}
+use Rattle.machine_turns.specs.Scripts.{body_of}
 
--- a record that can be written, assembled
+-- a line inserts no record that ends its segment
+abbrev pub InsertsNoSwitch : PlainLine → Type 0
+InsertsNoSwitch line = IfSome (body_of line) (λ body. is_assembled_switch body ≡ false)
+
+-- a record that can be inserted, assembled
 abbrev pub IsBody : Record → Assembled → Type 0
 IsBody value body = (body ≡ assembled value) × IsWritable value
 
@@ -21,10 +26,6 @@ IsLineFor (Commits value) Flush = ⊥
 IsLineFor Flushes (Insert body) = ⊥
 IsLineFor Flushes (Commit body) = ⊥
 IsLineFor Flushes Flush = Unit {0}
-
--- something is asked for that a line does
-abbrev pub IsAsked : PlainLine → Type 0
-IsAsked line = (ask : Ask) × IsLineFor ask line
 
 -- each does, in order
 abbrev pub AreLinesFor : List Ask → List PlainLine → Type 0

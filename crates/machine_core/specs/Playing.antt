@@ -1,6 +1,6 @@
 -- When plain data are those of a machine that runs.
-use Rattle.std.specs.Prelude.{◌≡◌, ℕ, ◌+◌, ◌*◌, ◌<◌, ◌≤◌, Bool, ◌||◌, List, [], ◌∷◌, length, take, drop, min, set, slice_get, Some, None}
-use mathlib.Core.Option.{Option, some}
+use Rattle.std.specs.Prelude.{◌≡◌, ℕ, ◌+◌, ◌-◌, ◌*◌, ◌/◌, ◌<◌, ◌≤◌, Bool, ◌||◌, List, [], ◌∷◌, length, take, drop, min, set, slice_get, Some, None}
+use mathlib.Core.Option.{Option, none, some}
 use Rattle.byte_position.specs.Position.{end_address_of}
 use Rattle.wal_core.specs.declared.setup.Setup.{Setup}
 use Rattle.wal_core.specs.Words.{log_limit, position_word}
@@ -12,11 +12,15 @@ use Rattle.wal_turns.specs.Standing.{HasBackend, HasLeft, IsRunning}
 use Rattle.machine_words.specs.Numbers.{WordsState}
 use Rattle.machine_turns.specs.declared.doing.PlainDoing.{PlainDoing}
 use Rattle.machine_turns.specs.declared.doing.PlainDoing.TheVariants as doings
+use Rattle.machine_turns.specs.declared.doing.PlainPurpose.{PlainPurpose}
+use Rattle.machine_turns.specs.declared.doing.PlainPurpose.TheVariants as purposes
+use Rattle.machine_turns.specs.declared.script.PlainLine.{PlainLine}
 use Rattle.machine_turns.specs.declared.lane.PlainBackend.{PlainBackend}
 use Rattle.machine_turns.specs.Lanes.{PlayedTurn}
-use Rattle.machine_turns.specs.Scripts.{rooms_of_lines}
+use Rattle.machine_turns.specs.Scripts.{flushes_of_line, flushes_of_lines, rooms_of_lines}
 use Rattle.machine_turns.specs.Writer.{WriterState}
 use Rattle.machine_core.specs.Lines.{AreLinesFor, HasRecord}
+use Rattle.machine_core.specs.Marks.{GoesByMarks, IsMark, TellMarks, ends_above}
 use Rattle.machine_core.specs.PlainData.{doing_of, plain_view}
 
 -- the plain data: the log's setup, the words, the writer, a lane for each backend, and whether a
@@ -98,6 +102,85 @@ pub record HasRoomFor (core : CoreState) : Type 0 where
       ≡ end_address_of core.setup.segment_size (min position (log_limit core.setup))
   pub left : unlocked (position_word (core.words).words) + all_rooms_left core.lanes ≤ position
 
+-- ---- calls of the disk
+
+-- for how many lines a backend is still to reserve a record at most, and all of them
+abbrev pub lines_left : PlainBackend → ℕ
+lines_left lane = length lane.script - (lane.answered + lines_reserved lane.doing)
+
+abbrev pub all_lines_left : List PlainBackend → ℕ
+all_lines_left [] = 0
+all_lines_left (lane ∷ lanes) = lines_left lane + all_lines_left lanes
+
+-- how many flushes are to come where pages are written for this: a line's own, or that of the line
+-- that needs a page
+abbrev pub syncs_for : PlainPurpose → (flushes : ℕ) → ℕ
+syncs_for purposes.Line flushes = 1
+syncs_for (purposes.Page lock end) flushes = flushes
+
+-- and behind that writing
+abbrev pub syncs_behind : PlainPurpose → (flushes : ℕ) → ℕ
+syncs_behind purposes.Line flushes = 0
+syncs_behind (purposes.Page lock end) flushes = flushes
+
+-- how many syncs the line under way can still need, which flushes so often: that of a segment that
+-- is full, and that of its flush
+abbrev pub syncs_ahead : PlainDoing → (flushes : ℕ) → ℕ
+syncs_ahead doings.FlushBegins flushes = 1
+syncs_ahead doings.LoadsPosition flushes = 1
+syncs_ahead doings.LoadsFlushed flushes = 1
+syncs_ahead doings.LoadsMoment flushes = 0
+syncs_ahead (doings.Visits purpose lock) flushes = syncs_for purpose flushes
+syncs_ahead (doings.TakesTurn purpose) flushes = syncs_for purpose flushes
+syncs_ahead (doings.LoadsDown purpose) flushes = syncs_for purpose flushes
+syncs_ahead (doings.TakesOut purpose) flushes = syncs_for purpose flushes
+syncs_ahead (doings.LoadsPage purpose loaded) flushes = syncs_for purpose flushes
+syncs_ahead (doings.Creates purpose) flushes = syncs_for purpose flushes
+syncs_ahead (doings.Writes purpose) flushes = syncs_for purpose flushes
+syncs_ahead (doings.SyncsFull purpose) flushes = syncs_for purpose flushes + 1
+syncs_ahead doings.SyncsLast flushes = 1
+syncs_ahead (doings.StoresWritten purpose) flushes = syncs_behind purpose flushes
+syncs_ahead doings.StoresMoment flushes = 0
+syncs_ahead doings.StoresFlushed flushes = 0
+syncs_ahead (doings.SetsDown purpose) flushes = syncs_behind purpose flushes
+syncs_ahead (doings.PutsBack purpose failed) flushes = syncs_behind purpose flushes
+syncs_ahead (doings.GivesWriteTurn purpose failed) flushes = syncs_behind purpose flushes
+syncs_ahead other flushes = flushes
+
+-- with those of the lines behind it, and of all backends
+abbrev pub syncs_under_way : PlainDoing → Rattle.std.specs.Prelude.Option PlainLine → ℕ
+syncs_under_way doing None = 0
+syncs_under_way doing (Some line) = syncs_ahead doing (flushes_of_line line)
+
+abbrev pub syncs_left : PlainBackend → ℕ
+syncs_left lane = syncs_under_way lane.doing (slice_get lane.script lane.answered)
+    + flushes_of_lines (drop (lane.answered + 1) lane.script)
+
+abbrev pub all_syncs_left : List PlainBackend → ℕ
+all_syncs_left [] = 0
+all_syncs_left (lane ∷ lanes) = syncs_left lane + all_syncs_left lanes
+
+-- how many calls a log that ends at an address can still need, with records that are reserved up to
+-- these byte positions: for the segments that are not made and those that are not full, for the
+-- pages and the records that are not written, for so many lines, each of which may still reserve a
+-- record, and for so many syncs
+abbrev pub calls_needed : (size end : ℕ) → List ℕ → Plain → (lines syncs : ℕ) → ℕ
+calls_needed size end ends w lines syncs = end / size - w.made + (end / size - w.written / size)
+    + (end / 8192 - w.written / 8192 + ends_above size ends w.written + lines) + syncs
+
+-- all goes by marks, and until a call fails the disk has room for the calls that are left
+pub record HasCallRoom (size : ℕ) (words : List ℕ) (w : WriterState) (lanes : List PlainBackend)
+    : Type 0 where
+  pub ends : List ℕ
+  pub tell : TellMarks size ends words
+  pub go : (number : ℕ) (lane : PlainBackend) → slice_get lanes number ≡ Some lane
+      → GoesByMarks size ends lane.view lane.doing
+  pub written : IsMark size ends (w.plain).written
+  pub room : (w.plain).fault ≡ none
+      → calls_needed size w.end ends w.plain (all_lines_left lanes) (all_syncs_left lanes) ≤ w.room
+
+-- ---- a turn
+
 -- the plain data behind a turn of backend number b
 abbrev pub core_behind : CoreState → ℕ → PlayedTurn → CoreState
 core_behind core number p = record core {
@@ -126,3 +209,4 @@ pub record PlaysMachine (core : CoreState) (m : Machine) : Type 0 where
   pub count : length core.lanes ≡ length m.backends
   pub full_is : m.full ≡ core.full
   pub room : HasRoomFor core
+  pub calls : HasCallRoom core.setup.segment_size (core.words).words core.writer core.lanes

@@ -1,12 +1,12 @@
 //! What a core begins with: a lane for each script, about nothing, at its first line; and how far
-//! the log can come, by which the disk's room is taken before the first turn.
+//! the log can come, with how many lines and flushes, by which the disk's room is taken before the
+//! first turn.
 
 ghost use Rattle.std.specs.Prelude.{◌≡◌, ◌+◌, ◌<◌, ◌≤◌, ◌^◌, All, IfOk, min, length};
 ghost use Rattle.byte_position.specs.Position.{end_address_of};
 ghost use Rattle.wal_core.specs.Words.{log_limit, log_start};
-ghost use Rattle.machine_turns.specs.Scripts.{rooms_of_lines};
-ghost use Rattle.machine_core.specs.Cores.{first_lane, first_lanes, first_plain_view, rooms_of_scripts};
-ghost use Rattle.machine_core.specs.Lines.{IsAsked};
+ghost use Rattle.machine_turns.specs.Scripts.{InsertsLogRecord, flushes_of_line, flushes_of_lines, rooms_of_lines};
+ghost use Rattle.machine_core.specs.Cores.{first_lane, first_lanes, first_plain_view, flushes_of_scripts, lines_of_scripts, rooms_of_scripts};
 
 use machine_turns::{
     PlainBackend, PlainDoing, PlainFlight, PlainHold, PlainLine, PlainPlace, PlainStage, PlainView,
@@ -78,8 +78,7 @@ pub(crate) fn log_end(shape: &LogShape, scripts: &[Script]) -> u64
         (min (log_start shape.now + rooms_of_scripts scripts.now) (log_limit shape.now)) }
     ensures low { result < 2 ^ 45 }
     ensures begun { shape.now.segment_size ≤ result }
-    // Each record was assembled of one that can be written.
-    ensures asked { All (All IsAsked) scripts.now }
+    ensures known { All (All InsertsLogRecord) scripts.now }
 {
     let limit = shape.limit();
     let mut position = shape.start();
@@ -89,12 +88,59 @@ pub(crate) fn log_end(shape: &LogShape, scripts: &[Script]) -> u64
     shape.geometry().to_end_lsn(position).0
 }
 
+// More lines than any disk has room for.
+const TOO_MANY_LINES: u64 = 1 << 32;
+
+/// How many lines the scripts have, or too many.
+pub(crate) fn line_count(scripts: &[Script]) -> u64
+    ensures { result ≡ min (lines_of_scripts scripts.now) (2 ^ 32) }
+{
+    let mut count: u64 = 0;
+    for script in scripts {
+        let lines = script.lines().len() as u64;
+        count = count.saturating_add(lines).min(TOO_MANY_LINES);
+    }
+    count
+}
+
+/// How many lines flush, or too many.
+pub(crate) fn flush_count(scripts: &[Script]) -> u64
+    ensures { result ≡ min (flushes_of_scripts scripts.now) (2 ^ 32) }
+{
+    let mut count: u64 = 0;
+    for script in scripts {
+        count = after_flushes(count, script.lines());
+    }
+    count
+}
+
+// So many, and those of some lines that flush.
+fn after_flushes(count: u64, lines: &[PlainLine]) -> u64
+    requires few { count ≤ 2 ^ 32 }
+    ensures { result ≡ min (count + flushes_of_lines lines.now) (2 ^ 32) }
+{
+    let mut count = count;
+    for line in lines {
+        count = (count + flushes(line)).min(TOO_MANY_LINES);
+    }
+    count
+}
+
+fn flushes(line: &PlainLine) -> u64
+    ensures { result ≡ flushes_of_line line.now }
+{
+    match line {
+        PlainLine::Insert(_) => 0,
+        PlainLine::Commit(_) | PlainLine::Flush => 1,
+    }
+}
+
 // The byte position behind the records of some lines, at most where the log is full.
 fn after_lines(position: u64, lines: &[PlainLine], limit: u64) -> u64
     requires within { position ≤ limit }
     requires low { limit < 2 ^ 43 }
     ensures position { result ≡ min (position + rooms_of_lines lines.now) limit }
-    ensures asked { All IsAsked lines.now }
+    ensures known { All InsertsLogRecord lines.now }
 {
     let mut position = position;
     for line in lines {

@@ -3,7 +3,7 @@
 //! what a turn leaves. What words and views hold between two turns keeps the machine's invariant; a
 //! caller reads them (`word`, `view`) and cannot change them.
 
-ghost use Rattle.std.specs.Prelude.{◌≡◌, ◌↔◌, ◌+◌, ◌<◌, ◌≤◌, [], List, length, slice_get, Some, None, IfOk, IfErr, IfSome, MatchResult};
+ghost use Rattle.std.specs.Prelude.{◌≡◌, ◌↔◌, ◌+◌, ◌<◌, ◌≤◌, [], All, List, length, slice_get, Some, None, IfOk, IfErr, IfSome, MatchResult};
 ghost use Rattle.segment_disk.specs.DiskImage.{LeftAt};
 ghost use Rattle.segment_disk.specs.First.{first_state};
 ghost use Rattle.segment_disk.specs.MemDisk.{first_image, tape_of};
@@ -17,11 +17,11 @@ ghost use Rattle.wal_turns.specs.Standing.{HasBackend};
 ghost use Rattle.wal_turns.specs.Turned.{turned};
 ghost use Rattle.machine_words.specs.Numbers.{IsWord, word_named};
 ghost use Rattle.machine_core.specs.Cores.{HasBegun, HasWriter, IsPlayed, core_of, machine_begun};
-ghost use Rattle.machine_core.specs.Lines.{AreScriptsFor};
+ghost use Rattle.machine_core.specs.Lines.{AreScriptsFor, InsertsNoSwitch};
 ghost use Rattle.machine_core.specs.PlainData.{plain_view, turn_of};
 ghost use Rattle.machine_core.specs.Playing.{PlaysMachine};
 
-use crate::beginning::{lanes_of, log_end};
+use crate::beginning::{flush_count, lanes_of, line_count, log_end};
 use machine_turns::{MachineWriter, PlainBackend, PlainView, Script, Turn};
 use machine_words::{LogShape, MachineWords, Word};
 use segment_disk::{MemDisk, Memory, Pick};
@@ -54,13 +54,16 @@ pub struct Core {
 impl Core {
     /// A machine over a log and a disk that hold nothing, with these scripts, one for each backend.
     /// `fail` lists the counted calls of the disk that fail, by their numbers from 1. The disk has
-    /// room for every call that the scripts can make.
+    /// room for every call that the scripts can make: one for each page of the log and each line,
+    /// one more for each line that flushes, and two for each segment. No line inserts a segment
+    /// switch, since that would need all eight locks, and a backend takes one.
     pub fn new(
         alloc: Global,
         setup: Setup,
         scripts: Vec<Script>,
         fail: Vec<u64>,
     ) -> Result<Core, CoreErr>
+        requires no_switch { All (All InsertsNoSwitch) scripts.items }
         // It begins as the machine whose log and disk hold nothing, and is played; `BadSetup` comes
         // just where the setup is none, or has too few passes for the scripts.
         ensures bad_setup { IfErr result (λ e. e ≡ CoreErr.BadSetup
@@ -79,7 +82,9 @@ impl Core {
         }
         let words = MachineWords::first(alloc, setup, 0)?;
         let end = log_end(&shape, &scripts);
-        let writer = MachineWriter::new(alloc, &shape, end, fail)?;
+        let lines = line_count(&scripts);
+        let flushes = flush_count(&scripts);
+        let writer = MachineWriter::new(alloc, &shape, end, lines, flushes, fail)?;
         let lanes = lanes_of(alloc, &shape, scripts)?;
         Ok(Core {
             shape,
@@ -167,7 +172,8 @@ impl Core {
         self.full
     }
 
-    /// The disk that a crash leaves now, with the words that the pick says.
+    /// The disk that a crash leaves now, with the words that the pick says. It is there to be read,
+    /// and has no room for a counted call.
     pub fn crash(&self, alloc: Global, pick: Pick) -> Result<MemDisk, Memory>
         // Of the writer's disk, wherever the writer is: an image that a crash at its last moment
         // may leave, the one that the pick names. The core goes on as it was.

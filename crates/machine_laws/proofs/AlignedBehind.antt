@@ -10,8 +10,9 @@ use Rattle.byte_position.specs.Position.{position_of}
 use Rattle.byte_position.proofs.Words.{end_address_of-mod_word}
 use Rattle.wal_types.specs.declared.record.Record.{Record}
 use Rattle.wal_page.specs.Order.{end_position, prev_of}
-use Rattle.wal_page.proofs.OwnerLaws.{rooms_of-whole}
-use Rattle.wal_page.proofs.WordPositions.{first_position-whole, position_of-whole}
+use Rattle.wal_page.proofs.OwnerLaws.{end_position-whole}
+use Rattle.wal_page.proofs.PaddingLaws.{room_at-whole}
+use Rattle.wal_page.proofs.WordPositions.{position_of-whole}
 use Rattle.wal_core.specs.declared.setup.Setup.{Setup}
 use Rattle.wal_core.specs.Words.{lock_word, written_word, flushed_word, position_word, prev_word, write_turn, end_form}
 use Rattle.wal_core.specs.Views.{HasAt, Place, Locked, Taken, Plain, Lent, Hold, Idle, Turned, Out, Watching, View, reserving_of, writer_of}
@@ -211,7 +212,7 @@ module _ {first : DiskState} (words : List ℕ) (home : Option Plain) (views : L
 
   -- the order ends at a word
   end_aligned : end_position size k.order % 8 ≡ 0
-  end_aligned = omega (arith, rooms_of-whole size k.order, first_position-whole size valid)
+  end_aligned = end_position-whole size valid k.order (k.reserved).chained
 
   -- with the writer in hand: it stands at a word
   lent_aligned : (l : Lent) → (v.writing).hold ≡ Out l → (l.writer).written % 8 ≡ 0
@@ -316,9 +317,10 @@ module _ {first : DiskState} (words : List ℕ) (home : Option Plain) (views : L
       (AtPlace size (end_position size k.order) (prev_of size 0 k.order) _ _ _ _) may.2
       ((k.reserved).places id v.reserving mine live) in
       let at : may.0 ≡ end_position size k.order = place.2 in
+      let whole : may.0 % 8 ≡ 0 = ap (λ n. n % 8) at ∙ end_aligned in
       subst (λ (p : Place). LearnsAligned (after_store_position locks value (with_place p v)))
       (sym may.2) (record {
-        seen = omega (arith, at, end_aligned);
+        seen = omega (arith, whole, room_at-whole size valid may.0 value whole);
         end = learns.end;
         bound = learns.bound;
         written = learns.written;

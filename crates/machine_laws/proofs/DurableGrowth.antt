@@ -63,7 +63,7 @@ module _ (setup : Setup) (valid : IsSegmentSize setup.segment_size) (order : Lis
   pub word_below : (a : ℕ) → a % 8 ≡ 0 → a < end
       → log_word_of setup longer a ≡ log_word_of setup order a
   word_below a whole below =
-      log_word_push setup.segment_size setup.sysid valid order e start a whole
+      log_word_push setup.segment_size setup.sysid valid order e chained start a whole
       (λ (owns : Owns setup.segment_size (assembled e.value) e.start a).
       let between = Owns-between setup.segment_size valid (assembled e.value) e.start a owns in
       omega (arith, between.0, entry_begins))

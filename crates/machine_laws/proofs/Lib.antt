@@ -70,3 +70,4 @@ pub mod HolderLaws
 pub mod EntryLaws
 pub mod PositionLaws
 pub mod WatcherLaws
+pub mod SwitchSteps

@@ -14,9 +14,9 @@ use Rattle.byte_position.proofs.SegmentSizes.{segment_size_in_pages}
 use Rattle.wal_page.specs.Log.{log_word_bytes}
 use Rattle.wal_page.specs.EntryWords.{address_of_word}
 use Rattle.wal_page.specs.Order.{Entry}
-use Rattle.wal_page.proofs.WordPositions.{end_address_of-first_position, first_position-whole}
+use Rattle.wal_page.proofs.WordPositions.{end_address_of-first_position}
 use Rattle.wal_page.proofs.LogWordLaws.{log_word-behind, log_word-unowned}
-use Rattle.wal_page.proofs.OwnerLaws.{owner_at-none_before, rooms_of-whole}
+use Rattle.wal_page.proofs.OwnerLaws.{owner_at-none_before, end_position-whole}
 use Rattle.byte_position.proofs.EndAddresses.{end_address_of-mono}
 use Rattle.byte_position.proofs.Words.{end_address_of-mod_word}
 use Rattle.wal_core.specs.declared.setup.Setup.{Setup}
@@ -201,11 +201,7 @@ module _ (opening : Opening) (words : List ℕ) (writer : Plain) (log : IsOpenab
   -- the log ends at a word, behind where it begins
   end_aligned : end % 8 ≡ 0
   end_aligned = end_address_of-mod_word setup.segment_size valid.size (found_position opening)
-      (omega (
-        arith,
-        rooms_of-whole setup.segment_size found,
-        first_position-whole setup.segment_size valid.size,
-      ))
+      (end_position-whole setup.segment_size valid.size found log.chained)
 
   end_high : setup.segment_size ≤ end
   end_high =

@@ -132,7 +132,7 @@ module _ (order : List Entry) (position prev : ℕ) (parts : List Reserving) (id
       (view_behind v (store_position locks value) position home)
   store_position_keeps home locks value t may = subst (AddedAt locks value) (sym may.2)
       (reserves setup found order position prev parts t.holds id v.reserving t.here t.live
-      value may.0 may.1 may.2 may.3 may.4)
+      value may.0 may.1 may.2 (may.3).logged may.4)
 
   -- ---- passes
 

@@ -5,11 +5,10 @@ use Rattle.std.proofs.lemmas.List.Elements.{All-push, All-weaker}
 use Rattle.byte_position.specs.Geometry.{IsSegmentSize}
 use Rattle.byte_position.specs.Position.{address_of, end_address_of}
 use Rattle.wal_types.specs.declared.record.Record.{Record}
-use Rattle.record_spelling.specs.Spelling.{IsWritable}
+use Rattle.record_spelling.specs.Spelling.{IsLogRecord}
 use Rattle.wal_page.specs.Order.{Entry, end_position, position_behind, prev_of, room_at}
 use Rattle.wal_page.proofs.OrderLaws.{IsChained_push, prev_of_push}
-use Rattle.wal_page.proofs.OwnerLaws.{rooms_of-whole}
-use Rattle.wal_page.proofs.WordPositions.{first_position-whole}
+use Rattle.wal_page.proofs.OwnerLaws.{end_position-whole}
 use Rattle.wal_core.specs.declared.setup.Setup.{Setup}
 use Rattle.wal_core.specs.Words.{log_limit}
 use Rattle.wal_core.specs.Views.{HasAt, Place, Free, Locked, Loaded, Stored, AtSegmentStart, Stop, StopCause, Joined, Reserving}
@@ -122,11 +121,7 @@ module _ (setup : Setup) (found order : List Entry) (position prev : ℕ) (parts
   }
 
   pub end_even : IsSegmentSize setup.segment_size → end_position setup.segment_size order % 8 ≡ 0
-  end_even valid = omega (
-    arith,
-    rooms_of-whole setup.segment_size order,
-    first_position-whole setup.segment_size valid,
-  )
+  end_even valid = end_position-whole setup.segment_size valid order k.chained
 
   -- the position word without its lock bit is the order's end
   pub unlocked-is : IsSegmentSize setup.segment_size
@@ -389,7 +384,7 @@ module _ (setup : Setup) (found order : List Entry) (position prev : ℕ) (parts
 
     -- an entry is added at the end: the position is unlocked behind it
     module _ (value : Record) (expected met : ℕ) (is : r.place ≡ Stored expected met)
-        (writable : IsWritable value)
+        (logged : IsLogRecord value)
         (fits : expected + room_at setup.segment_size expected value ≤ log_limit setup) where
       abbrev e : Entry
       e = entry_reserved r.number expected value
@@ -470,7 +465,7 @@ module _ (setup : Setup) (found order : List Entry) (position prev : ℕ) (parts
             locked = 0;
             holder = k.holder;
             keeper = k.keeper;
-            chained = IsChained_push setup.segment_size order e k.chained at_end writable;
+            chained = IsChained_push setup.segment_size order e k.chained at_end logged;
             found_first =
                 let f = k.found_first in (
                   f.0 ++ e ∷ [],

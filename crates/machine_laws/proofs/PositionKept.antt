@@ -15,7 +15,8 @@ use Rattle.wal_core.specs.Locked.{AreHeld, StandsTo}
 use Rattle.wal_core.specs.Watched.{WatchHolds}
 use Rattle.wal_core.specs.Positioned.{IsCopiedBelow}
 use Rattle.wal_core.specs.Moves.{hardened, landed, one_more, with_place, with_hold, copied_below, lent, entry_reserved, after_split, split_off, after_join, spent, without_work, orphan_of, no_writing}
-use Rattle.wal_core.specs.Steps.{MayStep, KnowsDown, number_lent, place_at, value_behind, view_behind, home_behind, take_write_turn, slot_out, slot_in, release_write_turn, store_position, release, store_ring_word, load_ring_word, load_written, load_flushed, load_moment, load_down, store_written, store_moment, store_flushed, set_down}
+use Rattle.wal_core.specs.Failed.{KnowsOfFault}
+use Rattle.wal_core.specs.Steps.{MayStep, number_lent, place_at, value_behind, view_behind, home_behind, take_write_turn, slot_out, slot_in, release_write_turn, store_position, release, store_ring_word, load_ring_word, load_written, load_flushed, load_moment, load_down, store_written, store_moment, store_flushed, set_down}
 use Rattle.wal_core.proofs.Landing.{lock_of}
 use Rattle.wal_core.proofs.Lists.{one_set, one_added, part_at, view_from}
 use Rattle.machine_laws.specs.PositionParts.{Positions, HasPositions, HoldAmong, HoldBehind}
@@ -234,7 +235,7 @@ module _ (p : Positions) (id : ℕ) (v : View) (t : HasPositions p id v) where
       (goes_out v.opening p t.holds id v.writing t.here (flight_of v) t.flight_here _
       (lent p.writer v) known.0 copied (omega arith))
 
-  pub slot_in_keeps : (met : ℕ) → (KnowsDown v → p.down ≢ 0) → MayStep v slot_in
+  pub slot_in_keeps : (met : ℕ) → (KnowsOfFault v → p.down ≢ 0) → MayStep v slot_in
       → HoldBehind (record p { home = home_behind v slot_in p.home }) id v
       (view_behind v slot_in met p.home)
   slot_in_keeps met told may = subst
@@ -266,7 +267,7 @@ module _ (p : Positions) (id : ℕ) (v : View) (t : HasPositions p id v) where
         order = p.order ++ entry_reserved (v.reserving).number (place_at v q) value ∷ [];
       }) id v (view_behind (with_place q v) (store_position locks value) position p.home))
       (sym may.2)
-      (order_grows v.opening p t.holds t.size (entry_reserved
+      (order_grows v.opening p t.holds t.size k.chained (entry_reserved
       (v.reserving).number may.0 value) at.2 id
       (record {
         entry = entry_reserved (v.reserving).number may.0 value;

@@ -8,7 +8,7 @@ use Rattle.byte_position.specs.Geometry.{IsSegmentSize}
 use Rattle.byte_position.proofs.EndAddresses.{end_address_of-mono}
 use Rattle.record_spelling.specs.Spelling.{assembled}
 use Rattle.segment_disk.specs.Tape.{Tape, state_now}
-use Rattle.wal_page.specs.Order.{Entry, end_position}
+use Rattle.wal_page.specs.Order.{Entry, IsChained, end_position}
 use Rattle.wal_page.specs.Placed.{Owns}
 use Rattle.wal_page.proofs.LogWordLaws.{log_word_push}
 use Rattle.wal_page.proofs.OrderLaws.{rooms_of_push}
@@ -345,8 +345,8 @@ module _ (opening : Opening) (p : Positions) (k : PositionsHold p.first opening 
 
   -- ---- the order grows
 
-  module _ (valid : IsSegmentSize setup.segment_size) (e : Entry)
-      (start : e.start ≡ end_position setup.segment_size order) where
+  module _ (valid : IsSegmentSize setup.segment_size) (chained : IsChained setup.segment_size order)
+      (e : Entry) (start : e.start ≡ end_position setup.segment_size order) where
     abbrev longer : List Entry
     longer = order ++ e ∷ []
 
@@ -360,7 +360,7 @@ module _ (opening : Opening) (p : Positions) (k : PositionsHold p.first opening 
         → log_word_bytes setup.segment_size setup.sysid longer (8 * k)
         ≡ log_word_bytes setup.segment_size setup.sysid order (8 * k)
     word_stays k below = ap (to_le_bytes w64)
-        (log_word_push setup.segment_size setup.sysid valid order e start (8 * k) (omega arith)
+        (log_word_push setup.segment_size setup.sysid valid order e chained start (8 * k) (omega arith)
         (λ (owns : Owns setup.segment_size (assembled e.value) e.start (8 * k)).
         let between = Owns-between setup.segment_size valid (assembled e.value) e.start (8 * k)
         owns in

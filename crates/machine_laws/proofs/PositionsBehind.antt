@@ -7,7 +7,8 @@ use Rattle.wal_core.specs.Words.{lock_word, position_word, prev_word, written_wo
 use Rattle.wal_core.specs.Views.{HasAt, Plain, Flight, Writing, Locked, Taken, View, reserving_of, working_of, flight_of, writing_of, receipts_of}
 use Rattle.wal_core.specs.Positioned.{PositionsHold}
 use Rattle.wal_core.specs.Moves.{with_place, with_stage, with_working}
-use Rattle.wal_core.specs.Steps.{KnowsDown, StepKind, MayStep, word_of_step, home_behind, load_position, take_write_turn, slot_out, slot_in, release_write_turn, lock_position, load_prev, store_prev, store_position, give_position_back, stay, load_lock, take_lock, advance, release, load_buffer_end, store_ring_word, load_ring_word, load_written, load_flushed, load_moment, load_down, store_written, store_moment, store_flushed, set_down, load_async, raise_async, take_mapping_turn, load_initialised_end, clear_end, zero_ring_word, publish_end, publish_initialised_end, release_mapping_turn, create, write, sync}
+use Rattle.wal_core.specs.Failed.{KnowsOfFault}
+use Rattle.wal_core.specs.Steps.{StepKind, MayStep, word_of_step, home_behind, load_position, take_write_turn, slot_out, slot_in, release_write_turn, lock_position, load_prev, store_prev, store_position, give_position_back, stay, load_lock, take_lock, advance, release, load_buffer_end, store_ring_word, load_ring_word, load_written, load_flushed, load_moment, load_down, store_written, store_moment, store_flushed, set_down, load_async, raise_async, take_mapping_turn, load_initialised_end, clear_end, zero_ring_word, publish_end, publish_initialised_end, release_mapping_turn, create, write, sync}
 use Rattle.wal_core.specs.Sound.{IsSound}
 use Rattle.wal_core.proofs.Lists.{part_at, part_set}
 use Rattle.wal_core.proofs.WordLists.{single_set, word_else, word_again}
@@ -87,7 +88,7 @@ module _ {first : DiskState} (words : List ℕ) (home : Option Plain) (views : L
   known = has_now words home views id v k here
 
   -- a down value that the view met or set is the word
-  pub down_known : KnowsDown v → down_word words ≢ 0
+  pub down_known : KnowsOfFault v → down_word words ≢ 0
   down_known knows none =
       let told = (k.durable).views id (receipts_of v) (told_here words home views id v k here) in
       ⊎_elim (λ met. met (told.down_met met ∙ none)) (λ set. set (told.down_set set ∙ none)) knows

@@ -15,6 +15,7 @@ use Rattle.wal_page.specs.EntryWords.{address_of_word, words_owned}
 use Rattle.wal_page.specs.Placed.{entry_word}
 use Rattle.wal_page.proofs.OrderLaws.{FollowsFrom-parts, room_at-pos, rooms_of-append, rooms_of_cons, rooms_of_push}
 use Rattle.wal_page.proofs.OwnerLaws.{Owns-between, start-whole}
+use Rattle.wal_page.proofs.PaddingLaws.{room_at-whole}
 use Rattle.wal_page.proofs.EntryWordLaws.{numbered_word-owned}
 use Rattle.wal_page.proofs.LogWordLaws.{log_word-entry, log_word_push, log_word-behind}
 use Rattle.wal_core.specs.declared.setup.Setup.{Setup}
@@ -36,7 +37,8 @@ module _ (size : ℕ) (valid : IsSegmentSize size) (e : Entry) (whole : e.start 
   pub last_word-ends : address_of_word size e (words_owned size e) ≡ finish_of size e
   last_word-ends =
       let first = end_address_of-mod_word size valid e.start whole in
-      let last = end_address_of-mod_word size valid (position_behind size e) (omega arith) in
+      let last = end_address_of-mod_word size valid (position_behind size e)
+      (omega (arith, whole, room_at-whole size valid e.start e.value whole)) in
       let rises = end_address_of-mono size valid e.start (position_behind size e) (omega arith) in
       omega arith
 
@@ -349,12 +351,12 @@ module _ (setup : Setup) (order : List Entry) (reach : ℕ) (memory : ℕ → �
             order chain a (omega arith) in
             let zero_now : memory n ≡ 0 = ⊎_elim (λ t. t ∙ none) (λ t. t.0) (k.words n) in
             dite (dec_le (finish_of segment e) a)
-            (λ past. inl (zero_now ∙ sym (log_word_push segment setup.sysid valid order e at a whole
+            (λ past. inl (zero_now ∙ sym (log_word_push segment setup.sysid valid order e chain at a whole
             (λ owns. let h = Owns-between segment valid (assembled e.value) e.start a owns in
             let low = h.1 in omega arith)
             ∙ none)))
             (λ inside. inr (zero_now, awaits a from (omega arith))))
-            (λ before. let same = log_word_push segment setup.sysid valid order e at a whole
+            (λ before. let same = log_word_push segment setup.sysid valid order e chain at a whole
             (λ owns. let h = Owns-between segment valid (assembled e.value) e.start a owns in
             let low = h.0 in omega arith) in
             ⊎_elim (λ t. inl (t ∙ sym same)) (λ t. inr (t.0, on a t.1)) (k.words n));

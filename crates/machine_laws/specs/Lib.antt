@@ -16,3 +16,4 @@ pub mod SoundLocks
 pub mod SoundPositions
 pub mod SoundWatches
 pub mod LonePasses
+pub mod Switches

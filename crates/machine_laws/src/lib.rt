@@ -28,5 +28,6 @@ pub mod ring_steps;
 pub mod ring_words;
 pub mod rings_shown;
 pub mod sound_states;
+pub mod switches;
 pub mod turns;
 pub mod watching;

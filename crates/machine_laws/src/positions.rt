@@ -17,7 +17,8 @@ ghost use Rattle.wal_core.specs.Watched.{WatchHolds};
 ghost use Rattle.wal_core.specs.Durable.{DurabilityHolds};
 ghost use Rattle.wal_core.specs.Sound.{IsSound};
 ghost use Rattle.wal_core.specs.Moves.{CallOutcome, entry_reserved, after_split, split_off, after_join, spent, without_work, orphan_of, after_create, after_write, after_sync};
-ghost use Rattle.wal_core.specs.Steps.{KnowsDown, MayStep, place_at, value_behind, view_behind, home_behind};
+ghost use Rattle.wal_core.specs.Failed.{KnowsOfFault};
+ghost use Rattle.wal_core.specs.Steps.{MayStep, place_at, value_behind, view_behind, home_behind};
 ghost use Rattle.wal_core.specs.Steps.{take_write_turn, release_write_turn, slot_out, slot_in};
 ghost use Rattle.wal_core.specs.Steps.{load_ring_word, load_written, load_flushed, load_moment, load_down};
 ghost use Rattle.wal_core.specs.Steps.{store_position, store_ring_word, release, store_written, store_moment};
@@ -100,7 +101,7 @@ pub fn the_writer_goes_out_and_home()
         → HoldBehind (record p { home = home_behind v slot_out p.home }) id v
         (view_behind v slot_out p.turn p.home) }
     ensures slot_in { (p : Positions) (id : ℕ) (v : View) → HasPositions p id v
-        → (met : ℕ) → (KnowsDown v → p.down ≢ 0)
+        → (met : ℕ) → (KnowsOfFault v → p.down ≢ 0)
         → MayStep v slot_in
         → HoldBehind (record p { home = home_behind v slot_in p.home }) id v
         (view_behind v slot_in met p.home) }

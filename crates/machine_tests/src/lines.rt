@@ -1,4 +1,9 @@
-//! Lines that backends are to do, and the records that a crash leaves of them.
+//! Lines that backends are to do, and the records that a crash leaves of them. No line's record
+//! ends its segment, which a core asks of its lines.
+
+ghost use Rattle.std.specs.Prelude.{◌≡◌, false, All, IfOk};
+ghost use Rattle.record_spelling.specs.Spelling.{is_assembled_switch};
+ghost use Rattle.machine_core.specs.Lines.{InsertsNoSwitch};
 
 use crate::played::Played;
 use byte_position::Geometry;
@@ -28,7 +33,9 @@ pub struct Planned {
 }
 
 impl Planned {
-    pub fn body(self, alloc: Global) -> Result<Body, Fail> {
+    pub fn body(self, alloc: Global) -> Result<Body, Fail>
+        ensures { IfOk result (λ body. is_assembled_switch body ≡ false) }
+    {
         let record = Record {
             xid: Xid(self.xid),
             rmid: self.rmid,
@@ -46,7 +53,9 @@ impl Planned {
         matches!(self.ask, Ask::Commit | Ask::Flush)
     }
 
-    fn line(self, alloc: Global) -> Result<PlainLine, Fail> {
+    fn line(self, alloc: Global) -> Result<PlainLine, Fail>
+        ensures { IfOk result InsertsNoSwitch }
+    {
         match self.ask {
             Ask::Insert => Ok(PlainLine::Insert(self.body(alloc)?)),
             Ask::Commit => Ok(PlainLine::Commit(self.body(alloc)?)),
@@ -67,8 +76,20 @@ fn data(alloc: Global, xid: u32, len: usize) -> Result<Vec<u8>, AllocError> {
     Ok(bytes)
 }
 
-/// The script of a backend.
-pub fn script_of(alloc: Global, plan: &[Planned]) -> Result<Script, Fail> {
+/// The scripts of backends, each of which has one of these plans.
+pub fn scripts_of(alloc: Global, plans: &[&[Planned]]) -> Result<Vec<Script>, Fail>
+    ensures { IfOk result (λ scripts. All (All InsertsNoSwitch) scripts.items) }
+{
+    let mut scripts = Vec::new(alloc);
+    for plan in plans {
+        scripts.push(script_of(alloc, plan)?)?;
+    }
+    Ok(scripts)
+}
+
+fn script_of(alloc: Global, plan: &[Planned]) -> Result<Script, Fail>
+    ensures { IfOk result (λ script. All InsertsNoSwitch script) }
+{
     let mut lines = Vec::new(alloc);
     for planned in plan {
         lines.push(planned.line(alloc)?)?;

@@ -2,10 +2,10 @@
 
 ghost use Rattle.std.specs.Prelude.{◌≡◌};
 
-use crate::lines::script_of;
+use crate::lines::{Planned, scripts_of};
 use crate::played::SETUP;
 use machine_core::{Core, CoreErr};
-use machine_words::{MachineWords, Word, is_setup};
+use machine_words::{LogEnd, MachineWords, Word, is_setup};
 use std::alloc::Global;
 use std::process::Abort;
 use std::test::Fail;
@@ -34,17 +34,16 @@ fn logs_can_have_these_setups(rt: HostRuntime) {
     }
 }
 
+const NO_LINES: &[Planned] = &[];
+
 // What a core says to a ring of so many pages, and so many scripts of no lines.
-fn refusal(alloc: Global, ring_pages: u32, scripts: u32) -> Result<Option<CoreErr>, Fail> {
+fn refusal(alloc: Global, ring_pages: u32, scripts: usize) -> Result<Option<CoreErr>, Fail> {
     let setup = Setup {
         ring_pages,
         ..SETUP
     };
-    let mut empty = Vec::new(alloc);
-    for _ in 0..scripts {
-        empty.push(script_of(alloc, &[])?)?;
-    }
-    Ok(Core::new(alloc, setup, empty, Vec::new(alloc)).err())
+    let plans = vec![in alloc; NO_LINES; scripts]?;
+    Ok(Core::new(alloc, setup, scripts_of(alloc, &plans)?, Vec::new(alloc)).err())
 }
 
 #[test]
@@ -121,5 +120,53 @@ fn a_log_begins_with_segment_1_and_its_pages_in_their_buffers(rt: HostRuntime) -
     // A store changes its word alone.
     let wanted = [1, 0, 0, 9, 130 * 8192];
     assert!(rt; words_behind_stores(&mut words) == wanted);
+    Ok(())
+}
+
+fn resumed_words(words: &MachineWords) -> [u64; 10]
+    requires { words.now.pages ≡ 5 }
+{
+    [
+        words.get(Word::Position),
+        words.get(Word::LastStart),
+        words.get(Word::InitialisedEnd),
+        words.get(Word::Written),
+        words.get(Word::Async),
+        words.get(Word::BufferEnd(3)),
+        words.get(Word::BufferEnd(2)),
+        words.get(Word::Ring(3 * 1024)),
+        words.get(Word::Ring(3 * 1024 + 9)),
+        words.get(Word::Ring(3 * 1024 + 10)),
+    ]
+}
+
+#[test]
+fn a_log_goes_on_with_the_words_below_its_end(rt: HostRuntime) -> Result<(), Fail> {
+    if !is_setup(RING_OF_5) {
+        return Err(Fail::from("a setup"));
+    }
+    let mut page = [1; 8192];
+    page[72] = 9;
+    // A record of 40 bytes at the start of segment 1, behind its header of 40.
+    let end = LogEnd {
+        position: 1_045_528,
+        address: 1_048_656,
+        last_start: 1_048_616,
+    };
+    let words = MachineWords::resume(rt.alloc(), RING_OF_5, 40, end, &page)?;
+    // The tenth word is the last below the end.
+    let wanted = [
+        1_045_528,
+        1_048_616,
+        1_048_576 + 5 * 8192,
+        1_048_656,
+        1_048_656,
+        129 * 8192,
+        133 * 8192,
+        0x0101_0101_0101_0101,
+        0x0101_0101_0101_0109,
+        0,
+    ];
+    assert!(rt; resumed_words(&words) == wanted);
     Ok(())
 }

@@ -1,6 +1,8 @@
 //! A machine that tests play.
 
+ghost use Rattle.std.specs.Prelude.{All};
 ghost use Rattle.wal_core.specs.Sound.{IsSetup};
+ghost use Rattle.machine_core.specs.Lines.{InsertsNoSwitch};
 
 use machine_core::{Core, PlainPlace, PlainView, Script, Turn, Word};
 use machine_words::is_setup;
@@ -47,7 +49,9 @@ impl Played {
         setup: Setup,
         scripts: Vec<Script>,
         fail: Vec<u64>,
-    ) -> Result<Played, Fail> {
+    ) -> Result<Played, Fail>
+        requires { All (All InsertsNoSwitch) scripts.items }
+    {
         if !is_setup(setup) {
             return Err(Fail::from("a setup"));
         }

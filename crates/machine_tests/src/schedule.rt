@@ -1,6 +1,6 @@
 //! A schedule under way, with what it reserved.
 
-use crate::lines::{Ask, Planned, records_left, script_of};
+use crate::lines::{Ask, Planned, records_left, scripts_of};
 use crate::played::{Played, SETUP};
 use crate::reserved::Log;
 use machine_checks::{BackendNow, MachineNow, Part, fault_of};
@@ -243,11 +243,8 @@ fn machine(alloc: Global, ring_pages: u32, plan: &[Planned]) -> Result<Played, F
         ring_pages,
         ..SETUP
     };
-    let mut scripts = Vec::new(alloc);
-    for lines in plan.chunks(LINES as usize) {
-        scripts.push(script_of(alloc, lines)?)?;
-    }
-    Played::new(alloc, setup, scripts, Vec::new(alloc))
+    let plans: Vec<&[Planned]> = plan.chunks(LINES as usize).collect(alloc)?;
+    Played::new(alloc, setup, scripts_of(alloc, &plans)?, Vec::new(alloc))
 }
 
 fn backends(alloc: Global, core: &Played) -> Result<Vec<BackendNow>, Fail> {

@@ -1,6 +1,6 @@
 //! What single turns, and small schedules of them, tell and leave, as rows.
 
-use crate::lines::{Ask, Found, Planned, records_left, script_of};
+use crate::lines::{Ask, Found, Planned, records_left, scripts_of};
 use crate::played::{Played, SETUP};
 use machine_core::{Event, PlainPlace, Turn};
 use segment_disk::Pick;
@@ -397,10 +397,7 @@ impl Row {
             cap_segments: self.cap_segments,
             ..SETUP
         };
-        let mut scripts = Vec::new(alloc);
-        for plan in self.scripts {
-            scripts.push(script_of(alloc, plan)?)?;
-        }
+        let scripts = scripts_of(alloc, self.scripts)?;
         Played::new(alloc, setup, scripts, Vec::from_slice(alloc, self.fail)?)
     }
 

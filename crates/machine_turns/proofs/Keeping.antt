@@ -18,7 +18,7 @@ use Rattle.segment_disk.proofs.Reading.{after_calls-push}
 use Rattle.wal_core.specs.Views.{Plain}
 use Rattle.wal_core.specs.Moves.{Done, Failed as HasFailed, CallOutcome, after_write}
 use Rattle.wal_turns.specs.Turned.{call_outcome}
-use Rattle.machine_turns.specs.Writer.{IsGoing, IsWriterKept, WriterState, is_waiting, segment_at, state_of}
+use Rattle.machine_turns.specs.Writer.{IsGoing, IsWriterKept, WriterState, segment_at, state_of}
 use Rattle.machine_turns.specs.declared.writer.MachineWriter.{MachineWriter}
 use Rattle.machine_turns.proofs.Bounds.{segment_counts, within_room}
 
@@ -90,29 +90,20 @@ outcome_unlisted failing faults moment e = rw e refl
 
 -- ---- the next call has room
 
-module _ (size end : ℕ) (disk : MemDisk) (w : Plain) (page : List ℕ) (kept : IsWriterKept size end disk w page) (g : IsGoing size end disk w) where
-  counted_by : (moment waiting calls made segments written : ℕ) → 4 * (moment + waiting) ≤ 4 * made + (written - size) → made ≤ segments → 4 * segments + (end - size) ≤ 4 * calls
-      → size ≤ written → 4 * made + written + 4 ≤ 4 * segments + end + 4 * waiting → written ≤ end → moment < calls
-  counted_by moment waiting calls made segments written few most room begun rises within = omega arith
+tells_lt : (a b : ℕ) → a < b → nat_lt a b ≡ true
+tells_lt a b low = search rules
 
-  -- where a segment is to be made, a word is to be written, or a sync is waited for
-  pub counts_below_room : w.made + 1 ≤ (limits_of disk).segments → IsTrue (counts_next disk)
-  counts_below_room few = nat_lt_true (counted_by _ _ _ _ _ _ g.calls g.few kept.room kept.begun (omega (arith, kept.within)) kept.within)
-    where
-      nat_lt_true : {a b : ℕ} → a < b → IsTrue (nat_lt a b)
-      nat_lt_true low = search rules
+pub counts_now : (disk : MemDisk) → 1 ≤ (limits_of disk).calls - moment_of disk → IsTrue (counts_next disk)
+counts_now disk has_room = nat_lt_true (omega (arith, has_room))
+  where
+    nat_lt_true : {a b : ℕ} → a < b → IsTrue (nat_lt a b)
+    nat_lt_true low = search rules
 
-  pub counts_below_end : w.written + 8 ≤ end → IsTrue (counts_next disk)
-  counts_below_end rises = nat_lt_true (counted_by _ _ _ _ _ _ g.calls g.few kept.room kept.begun (omega (arith, g.few)) kept.within)
-    where
-      nat_lt_true : {a b : ℕ} → a < b → IsTrue (nat_lt a b)
-      nat_lt_true low = search rules
-
-  pub counts_waiting : (segment : ℕ) → w.waiting ≡ some segment → IsTrue (counts_next disk)
-  counts_waiting segment waits = nat_lt_true (counted_by _ 1 _ _ _ _ (subst (λ (o : mathlib.Core.Option.Option ℕ). 4 * (moment_of disk + is_waiting o) ≤ 4 * w.made + (w.written - size)) waits g.calls) g.few kept.room kept.begun (omega (arith, g.few, kept.within)) kept.within)
-    where
-      nat_lt_true : {a b : ℕ} → a < b → IsTrue (nat_lt a b)
-      nat_lt_true low = search rules
+-- one call more leaves room for one less
+pub room_behind : (old new : MemDisk) → limits_of new ≡ limits_of old → moment_of new ≡ moment_of old + 1
+    → (limits_of new).calls - moment_of new ≡ (limits_of old).calls - moment_of old - 1
+room_behind old new limits one_more =
+    ap (λ (l : Limits). l.calls - moment_of new) limits ∙ omega (arith, one_more)
 
 -- ---- the record is kept
 
@@ -137,7 +128,6 @@ module _ (size end : ℕ) (old new : MemDisk) (page : List ℕ) (limits : limits
     begun = omega (arith, kept.begun);
     within = omega (arith, kept.within);
     segments = subst (λ (l : Limits). end ≤ size * (l.segments + 1)) (sym limits) kept.segments;
-    room = subst (λ (l : Limits). 4 * l.segments + (end - size) ≤ 4 * l.calls) (sym limits) kept.room;
     whole = kept.whole;
     going = λ still. going_on;
   }
@@ -162,7 +152,6 @@ module _ (size end : ℕ) (old new : MemDisk) (page : List ℕ) (limits : limits
         absent = λ s above. state_elsewhere old new call made s (λ same. omega (arith, same, above)) ∙ g.absent s (omega (arith, above));
         count = counted ∙ create_counted old (w.made + 1) w.made g.count (g.absent (w.made + 1) (omega arith)) ∙ sym made_is;
         few = subst (λ (l : Limits). now.made ≤ l.segments) (sym limits) (omega (arith, within_room size w.made w.written end (limits_of old).segments behind within kept.segments));
-        calls = omega (arith, made.moment, g.calls, ap is_waiting waiting_is);
         waits = λ s waits. let before = g.waits s (sym waiting_is ∙ waits) in (before.0, omega (arith, before.1));
       }
 
@@ -171,13 +160,11 @@ module _ (size end : ℕ) (old new : MemDisk) (page : List ℕ) (limits : limits
       → IsMade (tape_of old) (tape_of new) (moment_of old) (moment_of new) call
       → segment_count new ≡ segment_count old
       → w.written ≤ now.written → now.written ≤ end → now.made ≡ w.made
-      → 4 * (is_waiting now.waiting + 1) + w.written ≤ 4 * is_waiting w.waiting + now.written
       → ((s : ℕ) → now.waiting ≡ some s → (1 ≤ s) × (s ≤ w.made)) → IsWriterKept size end new now page
-  kept_call call makes w now kept up made counted rises within made_is waits_less waits = record {
+  kept_call call makes w now kept up made counted rises within made_is waits = record {
     begun = omega (arith, kept.begun);
     within = within;
     segments = subst (λ (l : Limits). end ≤ size * (l.segments + 1)) (sym limits) kept.segments;
-    room = subst (λ (l : Limits). 4 * l.segments + (end - size) ≤ 4 * l.calls) (sym limits) kept.room;
     whole = kept.whole;
     going = λ still. going_on;
   }
@@ -192,7 +179,6 @@ module _ (size end : ℕ) (old new : MemDisk) (page : List ℕ) (limits : limits
         absent = λ s above. none_of (disk_state_of new s) (has_kept old new call made makes s ∙ ap is_some (g.absent s (omega (arith, above))));
         count = counted ∙ g.count ∙ sym made_is;
         few = subst (λ (l : Limits). now.made ≤ l.segments) (sym limits) (omega (arith, g.few));
-        calls = omega (arith, made.moment, g.calls, kept.begun);
         waits = λ s at. let known = waits s at in (known.0, omega (arith, known.1));
       }
 
@@ -212,9 +198,6 @@ module _ (old new : MemDisk) (call : Call) where
 can_by : (has few : Bool) → few ≡ true → (has || few) ≡ true
 can_by true few e = refl
 can_by false few e = e
-
-tells_lt : (a b : ℕ) → a < b → nat_lt a b ≡ true
-tells_lt a b low = search rules
 
 -- there is room for the next segment
 pub can_make : (size end : ℕ) (disk : MemDisk) (w : Plain) (page : List ℕ) → IsWriterKept size end disk w page → IsGoing size end disk w → (w.made + 1) * size ≤ w.written → w.written < end → can_create disk (w.made + 1) ≡ true
@@ -238,31 +221,32 @@ first_kept old new call made = ap first_told made.tape
 abbrev plain_with : Option (List Call) → (moment written made : ℕ) → (waiting : mathlib.Core.Option.Option ℕ) → (fault : ℕ) → Plain
 plain_with calls moment written made waiting fault = record { calls = calls; moment = moment; written = written; made = made; waiting = waiting; fault = some fault }
 
-abbrev writer_with : (size : ℕ) (first : DiskState) (end : ℕ) (page failing : List ℕ) → Plain → WriterState
-writer_with size first end page failing plain = record { size = size; first = first; plain = plain; failing = failing; end = end; page = page }
+abbrev writer_with : (size : ℕ) (first : DiskState) (end : ℕ) (page failing : List ℕ) (room : ℕ) → Plain → WriterState
+writer_with size first end page failing room plain = record { size = size; first = first; plain = plain; failing = failing; end = end; room = room; page = page }
 
 same_plain : (calls calls_now : Option (List Call)) (moment moment_now written made : ℕ) (waiting : mathlib.Core.Option.Option ℕ) (fault fault_now : ℕ) → calls_now ≡ calls → moment_now ≡ moment → fault_now ≡ fault
     → plain_with calls_now moment_now written made waiting fault_now ≡ plain_with calls moment written made waiting fault
 same_plain calls calls_now moment moment_now written made waiting fault fault_now t m f = cc
 
-same_writer : (size end : ℕ) (first first_now : DiskState) (page failing failing_now : List ℕ) (p now : Plain) → first_now ≡ first → failing_now ≡ failing → now ≡ p
-    → writer_with size first_now end page failing_now now ≡ writer_with size first end page failing p
-same_writer size end first first_now page failing failing_now p now d f e = λ i. writer_with size (d i) end page (f i) (e i)
+same_writer : (size end : ℕ) (first first_now : DiskState) (page failing failing_now : List ℕ) (room room_now : ℕ) (p now : Plain) → first_now ≡ first → failing_now ≡ failing → room_now ≡ room → now ≡ p
+    → writer_with size first_now end page failing_now room_now now ≡ writer_with size first end page failing room p
+same_writer size end first first_now page failing failing_now room room_now p now d f r e = λ i. writer_with size (d i) end page (f i) (r i) (e i)
 
 -- the writer behind a call that failed, which made no segment
 pub writer_failed : (w : MachineWriter) (new : MemDisk) (call : Call) (after : CallOutcome → Plain) (kind : Bool) (waiting : mathlib.Core.Option.Option ℕ) (fault : ℕ)
     → IsMade (tape_of w.disk) (tape_of new) (moment_of w.disk) (moment_of new) (failed_call kind call) → fault ≡ 1
     → limits_of new ≡ limits_of w.disk → is_listed (limits_of w.disk).failing (moment_of w.disk + 1) ≡ true
     → after (HasFailed 1 (some false)) ≡ plain_with (Some (w.disk.calls.made.items ++ failed_call kind call ∷ [])) (moment_of w.disk + 1) w.written w.made waiting 1
-    → writer_with w.geometry (first_state new.first.items) w.end w.page (limits_of new).failing (plain_with (Some new.calls.made.items) (moment_of new) w.written w.made waiting fault)
-    ≡ writer_with w.geometry (first_state w.disk.first.items) w.end w.page (limits_of w.disk).failing (after (call_outcome (limits_of w.disk).failing 0 (moment_of w.disk)))
+    → writer_with w.geometry (first_state new.first.items) w.end w.page (limits_of new).failing ((limits_of new).calls - moment_of new) (plain_with (Some new.calls.made.items) (moment_of new) w.written w.made waiting fault)
+    ≡ writer_with w.geometry (first_state w.disk.first.items) w.end w.page (limits_of w.disk).failing ((limits_of w.disk).calls - moment_of w.disk - 1) (after (call_outcome (limits_of w.disk).failing 0 (moment_of w.disk)))
 writer_failed w new call after kind waiting fault made one limits listed after_is =
     let outcome = outcome_listed (limits_of w.disk).failing 0 (moment_of w.disk) listed in
     let p = same_plain (Some (w.disk.calls.made.items ++ failed_call kind call ∷ [])) (Some new.calls.made.items) (moment_of w.disk + 1) (moment_of new) w.written w.made waiting 1 fault (ap calls_told made.tape) made.moment one in
     same_writer w.geometry w.end (first_state w.disk.first.items) (first_state new.first.items) w.page (limits_of w.disk).failing (limits_of new).failing
+    ((limits_of w.disk).calls - moment_of w.disk - 1) ((limits_of new).calls - moment_of new)
     (after (call_outcome (limits_of w.disk).failing 0 (moment_of w.disk))) (plain_with (Some new.calls.made.items) (moment_of new) w.written w.made waiting fault)
     (first_kept w.disk new (failed_call kind call) made)
-    (ap (λ (l : Limits). l.failing) limits) (p ∙ sym after_is ∙ ap after (sym outcome))
+    (ap (λ (l : Limits). l.failing) limits) (room_behind w.disk new limits made.moment) (p ∙ sym after_is ∙ ap after (sym outcome))
 
 -- a create that failed made nothing
 pub unmade_kind : (size : ℕ) (old new : MemDisk) (segment : ℕ) (kind : Bool) → IsMade (tape_of old) (tape_of new) (moment_of old) (moment_of new) (failed_call kind (create_call size segment))
@@ -277,12 +261,12 @@ err_fact (Err e) P bad holds = holds
 
 -- a write named by its numbers
 pub same_write : (w : WriterState) (outcome : CallOutcome) (upto segment page segment_now page_now : ℕ) → segment_now ≡ segment → page_now ≡ page
-    → writer_with w.size w.first w.end w.page w.failing (after_write segment_now upto (write_call w.size segment_now page_now w.page) outcome w.plain)
-    ≡ writer_with w.size w.first w.end w.page w.failing (after_write segment upto (write_call w.size segment page w.page) outcome w.plain)
+    → writer_with w.size w.first w.end w.page w.failing (w.room - 1) (after_write segment_now upto (write_call w.size segment_now page_now w.page) outcome w.plain)
+    ≡ writer_with w.size w.first w.end w.page w.failing (w.room - 1) (after_write segment upto (write_call w.size segment page w.page) outcome w.plain)
 same_write w outcome upto segment page segment_now page_now same_segment same_page =
-    subst (λ (s : ℕ). writer_with w.size w.first w.end w.page w.failing (after_write segment_now upto (write_call w.size segment_now page_now w.page) outcome w.plain)
-    ≡ writer_with w.size w.first w.end w.page w.failing (after_write s upto (write_call w.size s page w.page) outcome w.plain)) same_segment
-    (ap (λ (p : ℕ). writer_with w.size w.first w.end w.page w.failing (after_write segment_now upto (write_call w.size segment_now p w.page) outcome w.plain)) same_page)
+    subst (λ (s : ℕ). writer_with w.size w.first w.end w.page w.failing (w.room - 1) (after_write segment_now upto (write_call w.size segment_now page_now w.page) outcome w.plain)
+    ≡ writer_with w.size w.first w.end w.page w.failing (w.room - 1) (after_write s upto (write_call w.size s page w.page) outcome w.plain)) same_segment
+    (ap (λ (p : ℕ). writer_with w.size w.first w.end w.page w.failing (w.room - 1) (after_write segment_now upto (write_call w.size segment_now p w.page) outcome w.plain)) same_page)
 
 pub some_same : (a b : ℕ) → some a ≡ some b → a ≡ b
 some_same a b same = ap number same

@@ -14,14 +14,15 @@ use Rattle.wal_core.specs.Moves.{CallOutcome, after_create, after_sync, after_wr
 use Rattle.wal_turns.specs.Turned.{call_outcome}
 
 -- a writer: the segments' size, what its disk held at first, what the machine knows of it, the
--- counted calls that fail, the address that the log will not pass, and the page that is loaded for
--- a write
+-- counted calls that fail, the address that the log will not pass, how many calls more its disk has
+-- room for, and the page that is loaded for a write
 pub record WriterState : Type 0 where
   pub size : ℕ
   pub first : DiskState
   pub plain : Plain
   pub failing : List ℕ
   pub end : ℕ
+  pub room : ℕ
   pub page : List ℕ
 
 -- a number that may be missing, as the machine writes it
@@ -52,17 +53,21 @@ module _ (w : WriterState) where
   created = record w {
     plain = after_create ((w.plain).made + 1) (create_call w.size ((w.plain).made + 1))
         next_outcome w.plain;
+    room = w.room - 1;
   }
 
   abbrev pub page_written : ℕ → WriterState
   page_written upto = record w {
     plain = after_write segment_at upto
         (write_call w.size segment_at (page_at % pages_of w.size) w.page) next_outcome w.plain;
+    room = w.room - 1;
   }
 
   abbrev pub synced : ℕ → WriterState
-  synced segment =
-      record w { plain = after_sync (sync_call w.size segment) next_outcome w.plain }
+  synced segment = record w {
+    plain = after_sync (sync_call w.size segment) next_outcome w.plain;
+    room = w.room - 1;
+  }
 
   -- a word is loaded into the page
   abbrev pub with_word : (k word : ℕ) → WriterState
@@ -70,7 +75,7 @@ module _ (w : WriterState) where
     page = take (8 * k) w.page ++ to_le_bytes w64 word ++ drop (8 * k + 8) w.page;
   }
 
-  -- ---- when they are due
+  -- ---- when they are due, which the disk has room for
 
   -- the next segment begins at or before the written address, and the log goes on behind that
   pub record IsCreateDue : Type 0 where
@@ -78,6 +83,7 @@ module _ (w : WriterState) where
     pub alone : (w.plain).waiting ≡ none
     pub behind : ((w.plain).made + 1) * w.size ≤ (w.plain).written
     pub within : (w.plain).written < w.end
+    pub has_room : 1 ≤ w.room
 
   -- the written address is to rise by a word at least, in a segment that is made
   pub record IsWriteDue (upto : ℕ) : Type 0 where
@@ -85,36 +91,29 @@ module _ (w : WriterState) where
     pub rises : (w.plain).written + 8 ≤ upto
     pub within : upto ≤ w.end
     pub is_made : segment_at ≤ (w.plain).made
+    pub has_room : 1 ≤ w.room
 
   -- writes to the segment wait for a sync
   pub record IsSyncDue (segment : ℕ) : Type 0 where
     pub up : (w.plain).fault ≡ none
     pub waits : (w.plain).waiting ≡ some segment
+    pub has_room : 1 ≤ w.room
 
--- ---- the disk has room for all calls
+-- ---- the segments of the disk
 
--- a write waits for a sync
-abbrev pub is_waiting : mathlib.Core.Option.Option ℕ → ℕ
-is_waiting none = 0
-is_waiting (some segment) = 1
-
--- until a call fails: the disk has just the segments made, and room for them. Each write raises the
--- written address by 8 bytes at least, and at most one sync follows it: two calls for 8 bytes. So
--- fewer calls were made than there is room for
+-- until a call fails: the disk has just the segments made, and room for them
 pub record IsGoing (size end : ℕ) (disk : MemDisk) (w : Plain) : Type 0 where
   pub unfailed : faults_of disk ≡ 0
   pub there : (s : ℕ) → 1 ≤ s → s ≤ w.made → has_segment disk s ≡ true
   pub absent : (s : ℕ) → w.made < s → disk_state_of disk s ≡ None
   pub count : segment_count disk ≡ w.made
   pub few : w.made ≤ (limits_of disk).segments
-  pub calls : 4 * (moment_of disk + is_waiting w.waiting) ≤ 4 * w.made + (w.written - size)
   pub waits : (s : ℕ) → w.waiting ≡ some s → (1 ≤ s) × (s ≤ w.made)
 
 pub record IsWriterKept (size end : ℕ) (disk : MemDisk) (w : Plain) (page : List ℕ) : Type 0 where
   pub begun : size ≤ w.written
   pub within : w.written ≤ end
   pub segments : end ≤ size * ((limits_of disk).segments + 1)
-  pub room : 4 * (limits_of disk).segments + (end - size) ≤ 4 * (limits_of disk).calls
   pub whole : length page ≡ 8192
   pub going : w.fault ≡ none → IsGoing size end disk w
 
@@ -136,21 +135,32 @@ state_of w = record {
   plain = plain_of w.disk w.written w.made w.waiting w.fault;
   failing = (limits_of w.disk).failing;
   end = w.end;
+  room = (limits_of w.disk).calls - moment_of w.disk;
   page = w.page;
 }
 
-abbrev pub HasCallRoom : MachineWriter → Type 0
-HasCallRoom w = (w.end < 2 ^ 60) × IsWriterKept w.geometry w.end w.disk (state_of w).plain w.page
+abbrev pub KeepsDisk : MachineWriter → Type 0
+KeepsDisk w = (w.end < 2 ^ 60) × IsWriterKept w.geometry w.end w.disk (state_of w).plain w.page
 
--- a writer that has written nothing, on a disk that holds nothing
-pub record IsFreshWriter (size end : ℕ) (failing : List ℕ) (w : WriterState) : Type 0 where
-  pub size_is : w.size ≡ size
-  pub end_is : w.end ≡ end
-  pub failing_is : w.failing ≡ failing
-  pub first : w.first ≡ empty_state
-  pub calls : (w.plain).calls ≡ Some []
-  pub moment : (w.plain).moment ≡ 0
-  pub written : (w.plain).written ≡ size
-  pub made : (w.plain).made ≡ 0
-  pub waiting : (w.plain).waiting ≡ none
-  pub fault : (w.plain).fault ≡ none
+-- how many calls a log can need that has so many segments, is written up to so many addresses, and
+-- is flushed so often: a create and a sync for each segment, a write for each address, and a sync
+-- for each flush
+abbrev pub calls_for : (segments addresses flushes : ℕ) → ℕ
+calls_for segments addresses flushes = 2 * segments + addresses + flushes
+
+-- a writer that has written nothing, on a disk that holds nothing. A log is written up to the ends
+-- of pages and of its lines' records (`IsMark` of machine_core): there is room for that, and for so
+-- many flushes
+pub record IsFreshWriter (size end lines flushes : ℕ) (failing : List ℕ) (w : WriterState) : Type 0
+  where
+    pub size_is : w.size ≡ size
+    pub end_is : w.end ≡ end
+    pub failing_is : w.failing ≡ failing
+    pub room : calls_for (end / size) (end / 8192 - size / 8192 + lines) flushes ≤ w.room
+    pub first : w.first ≡ empty_state
+    pub calls : (w.plain).calls ≡ Some []
+    pub moment : (w.plain).moment ≡ 0
+    pub written : (w.plain).written ≡ size
+    pub made : (w.plain).made ≡ 0
+    pub waiting : (w.plain).waiting ≡ none
+    pub fault : (w.plain).fault ≡ none

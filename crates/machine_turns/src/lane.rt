@@ -7,7 +7,7 @@
 ghost use Rattle.std.specs.Prelude.{◌≡◌, ◌+◌, ◌%◌, ◌<◌, ◌^◌, ◌&&◌, ◌||◌, ◌==◌, not, length, slice_get, is_some, option_map, Some, IfSome};
 ghost use Rattle.wal_core.specs.Words.{lock_word, mapping_turn, position_word};
 ghost use Rattle.machine_words.specs.Numbers.{IsWord, number_of_word};
-ghost use Rattle.machine_turns.specs.Writer.{HasCallRoom, state_of};
+ghost use Rattle.machine_turns.specs.Writer.{KeepsDisk, state_of};
 ghost use Rattle.machine_turns.specs.Lanes.{IsLockAwaited, IsOfFlush, LeavesLane, MayPlay, asked_by, finds_full, holds_back, is_away, is_free, lane_answered, lane_behind, loads_down, played, stepped, waits_if, word_awaited};
 
 use crate::doing::{Made, PlainDoing, PlainNext, PlainPurpose};
@@ -39,12 +39,12 @@ impl PlainBackend {
         writer: &mut MachineWriter,
         full: &mut bool,
     ) -> Turn
-        // The words are the log's, its writer's disk has room for each call that it can still need,
-        // and the place is ready: its numbers are low, a copy has a next word, a call is due.
+        // The words are the log's, the disk has just the segments that were made, and the place is
+        // ready: its numbers are low, a copy has a next word, a call is due, with room for it.
         requires pages { words.old.pages ≡ shape.now.ring_pages }
-        requires kept { HasCallRoom writer.old }
+        requires kept { KeepsDisk writer.old }
         requires may { MayPlay shape.now words.old.words (state_of writer.old) self.old }
-        ensures kept { HasCallRoom writer.new }
+        ensures kept { KeepsDisk writer.new }
         // Answer, lane, words, writer and flag are what the definition of a turn says.
         ensures turn { result
             ≡ (played shape.now words.old.words (state_of writer.old) self.old).turn }
@@ -90,11 +90,11 @@ impl PlainBackend {
         // As for a turn, with a line left.
         requires pages { words.old.pages ≡ shape.now.ring_pages }
         requires line { self.old.answered < length self.old.script }
-        requires kept { HasCallRoom writer.old }
+        requires kept { KeepsDisk writer.old }
         requires may { MayPlay shape.now words.old.words (state_of writer.old) self.old }
         // The step of the place is made: view, words and writer are as its definition says. Lines
         // and place are as before; what comes behind is told (`follow`).
-        ensures kept { HasCallRoom writer.new }
+        ensures kept { KeepsDisk writer.new }
         ensures script { self.new.script ≡ self.old.script }
         ensures answered { self.new.answered ≡ self.old.answered }
         ensures left { (line : PlainLine) → slice_get self.old.script self.old.answered ≡ Some line
@@ -134,9 +134,9 @@ impl PlainBackend {
         // The same at a place of a flush, or of the writing for an insert.
         requires pages { words.old.pages ≡ shape.now.ring_pages }
         requires place { IsOfFlush self.old.doing }
-        requires kept { HasCallRoom writer.old }
+        requires kept { KeepsDisk writer.old }
         requires may { MayPlay shape.now words.old.words (state_of writer.old) self.old }
-        ensures kept { HasCallRoom writer.new }
+        ensures kept { KeepsDisk writer.new }
         ensures script { self.new.script ≡ self.old.script }
         ensures answered { self.new.answered ≡ self.old.answered }
         ensures left { (line : PlainLine) → slice_get self.old.script self.old.answered ≡ Some line

@@ -1,10 +1,9 @@
 //! What backends are to do. All records are assembled before the first turn, so that no turn takes
 //! memory or finds a record that cannot be written.
 
-ghost use Rattle.std.specs.Prelude.{◌≡◌, ◌≤◌, IfSome, option_map};
-ghost use Rattle.record_spelling.specs.Spelling.{RecordOf};
+ghost use Rattle.std.specs.Prelude.{◌≡◌, ◌≤◌, option_map};
 ghost use Rattle.machine_turns.specs.Lanes.{is_commit};
-ghost use Rattle.machine_turns.specs.Scripts.{body_of, room_of_line};
+ghost use Rattle.machine_turns.specs.Scripts.{InsertsLogRecord, body_of, room_of_line};
 
 use record_spelling::Body;
 use std::marker::Model;
@@ -38,12 +37,12 @@ impl PlainLine {
         matches!(self, PlainLine::Commit(_))
     }
 
-    /// How many bytes of the log its record takes up; 0 where it inserts none.
+    /// How many bytes of the log its record takes up, if that ends no segment; 0 where it inserts
+    /// none.
     pub fn room(&self) -> u64
         ensures room { result ≡ room_of_line self.now }
         ensures most { result ≤ 1048576 }
-        // Its record was assembled of one that can be written.
-        ensures known { IfSome (body_of self.now) RecordOf }
+        ensures known { InsertsLogRecord self.now }
     {
         match self {
             PlainLine::Insert(body) | PlainLine::Commit(body) => u64::from(body.room()),

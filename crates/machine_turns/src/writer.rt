@@ -2,8 +2,9 @@
 //! its calls when they are due: a segment while none waits for a sync, a page in a segment that is
 //! made, a sync where writes wait; and none behind one that failed. A call fails just where its
 //! number is listed, and is counted then: a create that failed has made nothing, a page that was
-//! not written is not counted as written, though its segment waits for a sync. The disk has room
-//! for every call that the log can still need (`HasCallRoom`), which each call keeps.
+//! not written is not counted as written, though its segment waits for a sync. The disk has just
+//! the segments that were made, and room for those that the log can still need (`KeepsDisk`), which
+//! each call keeps. That it has room for the call too is what a caller knows who makes it.
 
 ghost use Rattle.std.specs.Prelude.{◌≡◌, ◌+◌, ◌-◌, ◌*◌, ◌/◌, ◌<◌, ◌≤◌, ◌^◌, [], IfOk, IfSome, Some};
 ghost use Rattle.segment_disk.specs.First.{first_state};
@@ -12,7 +13,7 @@ ghost use Rattle.segment_disk.specs.DiskImage.{LeftAt};
 ghost use Rattle.segment_disk.specs.Picks.{IsPicked, choice_of};
 ghost use Rattle.segment_disk.specs.Tape.{state_at};
 ghost use Rattle.wal_core.specs.Suited.{tape_from};
-ghost use Rattle.machine_turns.specs.Writer.{IsCreateDue, IsFreshWriter, HasCallRoom, IsSyncDue, IsWriteDue, created, maybe, page_at, page_written, segment_at, state_of, succeeds, synced, with_word};
+ghost use Rattle.machine_turns.specs.Writer.{IsCreateDue, IsFreshWriter, KeepsDisk, IsSyncDue, IsWriteDue, calls_for, created, maybe, page_at, page_written, segment_at, state_of, succeeds, synced, with_word};
 ghost use Rattle.machine_turns.specs.Writing.{segment_waiting};
 
 use byte_position::{Geometry, PAGE_SIZE};
@@ -25,9 +26,10 @@ const WORD: usize = byte_position::WORD as usize;
 /// What is written of a log, on a disk in memory that has room for all calls which the log can
 /// need, and the page that is loaded for a write (PostgreSQL's xlog.c, XLogWrite).
 ///
-/// `end` is the address that the log will not pass. Each write raises the written address by a word
-/// at least, and at most one sync follows it: so there are at most two calls for each 8 bytes of
-/// the log, and one for each segment.
+/// `end` is the address that the log will not pass. Each write raises the written address to the
+/// end of a page or of a line's record. A segment that is full is synced once, and the one under
+/// way at a flush. So there is at most one call for each page and each line, one more for each line
+/// that flushes, and two for each segment.
 #[derive(Drop)]
 pub struct MachineWriter {
     disk: MemDisk,
@@ -41,22 +43,27 @@ pub struct MachineWriter {
 }
 
 impl MachineWriter {
-    /// A writer of a log that holds nothing yet. `fail` lists the counted calls that fail, by their
-    /// numbers from 1.
+    /// A writer of a log that holds nothing yet, and will have records of so many lines at most,
+    /// and so many flushes. `fail` lists the counted calls that fail, by their numbers from 1.
     pub fn new(
         alloc: Global,
         shape: &LogShape,
         end: u64,
+        lines: u64,
+        flushes: u64,
         fail: Vec<u64>,
     ) -> Result<MachineWriter, Memory>
         requires begun { shape.now.segment_size ≤ end }
         requires low { end < 2 ^ 45 }
+        requires few_lines { lines ≤ 2 ^ 32 }
+        requires few_flushes { flushes ≤ 2 ^ 32 }
         ensures first { IfOk result (λ w.
-            IsFreshWriter shape.now.segment_size end fail.items (state_of w)) }
-        ensures kept { IfOk result (λ w. HasCallRoom w) }
+            IsFreshWriter shape.now.segment_size end lines flushes fail.items (state_of w)) }
+        ensures few { IfOk result (λ w. (lines < 2 ^ 32) × (flushes < 2 ^ 32)) }
+        ensures kept { IfOk result (λ w. KeepsDisk w) }
     {
         let geometry = shape.geometry();
-        let (segments, calls) = room_for(geometry, end)?;
+        let (segments, calls) = room_for(geometry, end, lines, flushes)?;
         Ok(MachineWriter {
             disk: MemDisk::new(alloc, segments, calls, fail, Vec::new(alloc))?,
             geometry,
@@ -128,9 +135,9 @@ impl MachineWriter {
     /// A word of the page under way is loaded.
     pub fn load(&mut self, k: u32, word: u64)
         requires few { k < 1024 }
-        requires kept { HasCallRoom self.old }
+        requires kept { KeepsDisk self.old }
         ensures writer { state_of self.new ≡ with_word (state_of self.old) k word }
-        ensures kept { HasCallRoom self.new }
+        ensures kept { KeepsDisk self.new }
     {
         let at = WORD * k as usize;
         self.page[at..at + WORD].copy_from_slice(&word.to_le_bytes());
@@ -138,12 +145,12 @@ impl MachineWriter {
 
     /// Makes the next segment. Answers whether the call succeeded.
     pub fn create(&mut self) -> bool
-        // It is due, and the disk has room; the answer is the listed outcome.
+        // It is due, and the disk has room for it; the answer is the listed outcome.
         requires due { IsCreateDue (state_of self.old) }
-        requires kept { HasCallRoom self.old }
+        requires kept { KeepsDisk self.old }
         ensures done { result ≡ succeeds (state_of self.old) }
         ensures writer { state_of self.new ≡ created (state_of self.old) }
-        ensures kept { HasCallRoom self.new }
+        ensures kept { KeepsDisk self.new }
     {
         let segment = self.made + 1;
         let done = self.disk.create(self.geometry, segment).is_ok();
@@ -158,12 +165,12 @@ impl MachineWriter {
     /// Writes the page that is loaded, which is whole up to an address. Answers whether the call
     /// succeeded.
     pub fn write_page(&mut self, upto: u64) -> bool
-        // It is due, and the disk has room; the answer is the listed outcome.
+        // It is due, and the disk has room for it; the answer is the listed outcome.
         requires due { IsWriteDue (state_of self.old) upto }
-        requires kept { HasCallRoom self.old }
+        requires kept { KeepsDisk self.old }
         ensures done { result ≡ succeeds (state_of self.old) }
         ensures writer { state_of self.new ≡ page_written (state_of self.old) upto }
-        ensures kept { HasCallRoom self.new }
+        ensures kept { KeepsDisk self.new }
     {
         let segment = self.segment();
         let page = (self.page() % u64::from(self.geometry.pages())) as u32;
@@ -182,12 +189,12 @@ impl MachineWriter {
 
     /// Syncs the segment of which writes wait for it. Answers whether the call succeeded.
     pub fn sync(&mut self, segment: u64) -> bool
-        // It is due, and the disk has room; the answer is the listed outcome.
+        // It is due, and the disk has room for it; the answer is the listed outcome.
         requires due { IsSyncDue (state_of self.old) segment }
-        requires kept { HasCallRoom self.old }
+        requires kept { KeepsDisk self.old }
         ensures done { result ≡ succeeds (state_of self.old) }
         ensures writer { state_of self.new ≡ synced (state_of self.old) segment }
-        ensures kept { HasCallRoom self.new }
+        ensures kept { KeepsDisk self.new }
     {
         let done = self.disk.sync(self.geometry, segment).is_ok();
         if done {
@@ -198,7 +205,8 @@ impl MachineWriter {
         done
     }
 
-    /// The disk that a crash leaves now, with the words that the pick says.
+    /// The disk that a crash leaves now, with the words that the pick says. It is there to be read,
+    /// and has no room for a counted call.
     pub fn crash(&self, alloc: Global, pick: Pick) -> Result<MemDisk, Memory>
         ensures left { IfOk result (λ disk. IfSome (tape_from (state_of self.now).first
             (state_of self.now).plain.calls) (λ tape. LeftAt tape (state_of self.now).plain.moment
@@ -210,20 +218,26 @@ impl MachineWriter {
         ensures tape { IfOk result (λ disk. tape_of disk
             ≡ Some (record { at_first = first_state disk.first.items; calls = [] })) }
     {
-        self.disk.crash(alloc, self.disk.moment(), pick)
+        self.disk
+            .crash_with_room(alloc, self.disk.moment(), pick, 0)
     }
 }
 
 // How many segments and calls a log can need that does not pass this address.
-fn room_for(geometry: Geometry, end: u64) -> Result<(u32, u32), Memory>
+fn room_for(geometry: Geometry, end: u64, lines: u64, flushes: u64) -> Result<(u32, u32), Memory>
     requires begun { geometry ≤ end }
     requires low { end < 2 ^ 45 }
+    requires few_lines { lines ≤ 2 ^ 32 }
+    requires few_flushes { flushes ≤ 2 ^ 32 }
     ensures segments { IfOk result (λ room. end ≤ geometry * (room.0 + 1)) }
-    ensures calls { IfOk result (λ room. 4 * room.0 + (end - geometry) ≤ 4 * room.1) }
+    ensures calls { IfOk result (λ room.
+        room.1 ≡ calls_for (end / geometry) (end / 8192 - geometry / 8192 + lines) flushes) }
+    ensures few { IfOk result (λ room. (lines < 2 ^ 32) × (flushes < 2 ^ 32)) }
 {
-    let segments = end / geometry.segment_size();
-    let words = (end - geometry.segment_size()).div_ceil(WORD as u64);
-    let calls = segments + 2 * words;
+    let size = geometry.segment_size();
+    let segments = end / size;
+    let pages = end / PAGE_SIZE - size / PAGE_SIZE;
+    let calls = 2 * segments + pages + lines + flushes;
     if calls > u64::from(u32::MAX) {
         return Err(Memory);
     }

@@ -8,7 +8,7 @@
 
 ghost use Rattle.std.specs.Prelude.{◌≡◌, ◌<◌, if◌then◌else◌};
 ghost use Rattle.machine_turns.specs.Left.{Leaves};
-ghost use Rattle.machine_turns.specs.Writer.{IsCreateDue, HasCallRoom, IsSyncDue, IsWriteDue, created, page_written, state_of, synced};
+ghost use Rattle.machine_turns.specs.Writer.{IsCreateDue, KeepsDisk, IsSyncDue, IsWriteDue, created, page_written, state_of, synced};
 ghost use Rattle.machine_turns.specs.Writing.{at_creates, at_loads_page, at_sets_down, at_stores_flushed, at_stores_moment, at_stores_written, at_syncs_full, at_syncs_last, at_takes_out, at_writes, known_in, page_or_end, segment_waiting, upto_next, writer_at_loads_page};
 
 use crate::doing::{Made, PlainDoing, PlainPurpose};
@@ -67,13 +67,13 @@ impl PlainView {
     ) -> Made
         requires pages { words.now.pages ≡ shape.now.ring_pages }
         requires loaded { loaded < 1024 }
-        requires kept { HasCallRoom writer.old }
+        requires kept { KeepsDisk writer.old }
         ensures left { Leaves result self.now words.now words.now
             (at_loads_page shape.now words.now.words self.now (state_of writer.old) purpose
             loaded) }
         ensures writer { state_of writer.new ≡ writer_at_loads_page shape.now words.now.words
             self.now (state_of writer.old) loaded }
-        ensures kept { HasCallRoom writer.new }
+        ensures kept { KeepsDisk writer.new }
     {
         let number = writer.page() * PAGE_WORDS + u64::from(loaded);
         let word = words.get(Word::Ring(ring_place(shape, number)));
@@ -100,11 +100,11 @@ impl PlainView {
         purpose: PlainPurpose,
     ) -> Made
         requires due { IsCreateDue (state_of writer.old) }
-        requires kept { HasCallRoom writer.old }
+        requires kept { KeepsDisk writer.old }
         ensures left { Leaves result self.now words.now words.now
             (at_creates shape.now words.now.words self.now (state_of writer.old) purpose) }
         ensures writer { state_of writer.new ≡ created (state_of writer.old) }
-        ensures kept { HasCallRoom writer.new }
+        ensures kept { KeepsDisk writer.new }
     {
         let segment = writer.made() + 1;
         let done = writer.create();
@@ -124,14 +124,13 @@ impl PlainView {
         requires size { (state_of writer.old).size ≡ shape.now.segment_size }
         requires due { IsWriteDue (state_of writer.old)
             (upto_next shape.now words.now.words self.now (state_of writer.old)) }
-        requires kept { HasCallRoom writer.old }
-        // The page is written as far as it is known to be copied, or the call failed; the room is
-        // kept.
+        requires kept { KeepsDisk writer.old }
+        // The page is written as far as it is known to be copied, or the call failed.
         ensures left { Leaves result self.now words.now words.now
             (at_writes shape.now words.now.words self.now (state_of writer.old) purpose) }
         ensures writer { state_of writer.new ≡ page_written (state_of writer.old)
             (upto_next shape.now words.now.words self.now (state_of writer.old)) }
-        ensures kept { HasCallRoom writer.new }
+        ensures kept { KeepsDisk writer.new }
     {
         let known = self.hold.known();
         let segment = writer.segment();
@@ -163,12 +162,12 @@ impl PlainView {
         // Writes to that segment wait for it, and no call has failed.
         requires due { IsSyncDue (state_of writer.old)
             (segment_waiting (state_of writer.old).plain.waiting) }
-        requires kept { HasCallRoom writer.old }
+        requires kept { KeepsDisk writer.old }
         ensures left { Leaves result self.now words.now words.now
             (at_syncs_full shape.now words.now.words self.now (state_of writer.old) purpose) }
         ensures writer { state_of writer.new
             ≡ synced (state_of writer.old) (segment_waiting (state_of writer.old).plain.waiting) }
-        ensures kept { HasCallRoom writer.new }
+        ensures kept { KeepsDisk writer.new }
     {
         let segment = writer.segment_waiting();
         let done = writer.sync(segment);
@@ -189,12 +188,12 @@ impl PlainView {
         // Writes to that segment wait for it, and no call has failed.
         requires due { IsSyncDue (state_of writer.old)
             (segment_waiting (state_of writer.old).plain.waiting) }
-        requires kept { HasCallRoom writer.old }
+        requires kept { KeepsDisk writer.old }
         ensures left { Leaves result self.now words.now words.now
             (at_syncs_last shape.now words.now.words self.now (state_of writer.old)) }
         ensures writer { state_of writer.new
             ≡ synced (state_of writer.old) (segment_waiting (state_of writer.old).plain.waiting) }
-        ensures kept { HasCallRoom writer.new }
+        ensures kept { KeepsDisk writer.new }
     {
         let purpose = PlainPurpose::Line;
         let segment = writer.segment_waiting();

@@ -1,44 +1,76 @@
-//! The words of a log that holds nothing.
+//! The words with which a log is opened.
 
-ghost use Rattle.std.specs.Prelude.{◌≡◌, ℕ, ◌+◌, ◌*◌, ◌/◌, ◌<◌, ◌≤◌, ◌^◌, length, slice_index};
+ghost use Rattle.std.specs.Prelude.{◌≡◌, ℕ, ◌+◌, ◌*◌, ◌/◌, ◌%◌, ◌<◌, ◌≤◌, ◌^◌, length, slice_index};
 ghost use Rattle.byte_position.specs.Geometry.{IsSegmentSize};
 ghost use Rattle.byte_position.specs.Position.{first_position};
+ghost use Rattle.record_spelling.specs.Spelling.{word_at};
 ghost use Rattle.wal_core.specs.Paged.{HoldsPage};
+ghost use Rattle.machine_words.specs.FirstWords.{GoOnBehind, first_end};
 
 use crate::layout::{
-    BUFFER_ENDS, FLUSHED, INITIALISED_END, MOMENT, POSITION, WRITTEN, async_number,
+    BUFFER_ENDS, FLUSHED, INITIALISED_END, LAST_START, MOMENT, POSITION, WRITTEN, async_number,
 };
-use byte_position::{LONG_HEADER_LEN, PAGE_SIZE, SHORT_HEADER_LEN};
+use byte_position::{LONG_HEADER_LEN, PAGE_SIZE, PAGE_WORDS, SHORT_HEADER_LEN};
 
-/// Stores in words that are all 0 what is another number in a log that holds nothing: its records
-/// begin with segment 1, and its ring holds the segment's first pages.
-pub(crate) fn set_first_words(words: &mut [u64], ring_pages: u32, segment_size: u64, moment: u64)
-    requires valid { IsSegmentSize segment_size }
+/// Where a log ends behind which records go on.
+#[derive(Clone, Copy, Debug)]
+pub struct LogEnd {
+    /// The byte position behind its last byte.
+    pub position: u64,
+    /// The address behind its last byte.
+    pub address: u64,
+    /// The address at which its last record starts, 0 where there is none.
+    pub last_start: u64,
+}
+
+impl LogEnd {
+    /// That of a log that holds nothing: its records begin with segment 1.
+    pub(crate) fn first(segment_size: u64) -> LogEnd
+        requires { IsSegmentSize segment_size }
+        ensures { result ≡ first_end segment_size }
+    {
+        LogEnd {
+            position: usable_bytes(segment_size),
+            address: segment_size,
+            last_start: 0,
+        }
+    }
+}
+
+/// Stores in words that are all 0 what is another number in a log that is opened with this end. Of
+/// the page in which the log ends, the ring gets the words below the end.
+pub(crate) fn set_first_words(
+    words: &mut [u64],
+    ring_pages: u32,
+    moment: u64,
+    end: LogEnd,
+    page: &[u8; PAGE_SIZE as usize],
+)
+    requires some { 1 ≤ ring_pages }
     requires few { ring_pages ≤ 64 }
+    requires low { end.address < 2 ^ 44 }
     requires wide { length words.old ≡ 17 + ring_pages + ring_pages * 1024 + 1 }
     requires blank { (n : ℕ) → slice_index words.old n ≡ 0 }
-    ensures length { length words.new ≡ length words.old }
-    ensures position { slice_index words.new 0 ≡ first_position segment_size }
-    ensures zeros { (n : ℕ) → 1 ≤ n → n < 12 → slice_index words.new n ≡ 0 }
-    ensures initialised { slice_index words.new 12 ≡ segment_size + ring_pages * 8192 }
-    ensures written { slice_index words.new 13 ≡ segment_size }
-    ensures flushed { slice_index words.new 14 ≡ segment_size }
-    ensures moment { slice_index words.new 15 ≡ moment }
-    ensures down { slice_index words.new 16 ≡ 0 }
-    ensures ends { (b : ℕ) → b < ring_pages → HoldsPage ring_pages (segment_size / 8192)
-        (segment_size / 8192 + ring_pages) b (slice_index words.new (17 + b)) }
-    ensures ring { (k : ℕ) → k < ring_pages * 1024
-        → slice_index words.new (17 + ring_pages + k) ≡ 0 }
-    ensures async_is { slice_index words.new (17 + ring_pages + ring_pages * 1024) ≡ segment_size }
+    ensures { GoOnBehind ring_pages moment end page.now words.new }
 {
     let pages = ring_pages as usize;
-    hold_pages(words, pages, segment_size / PAGE_SIZE);
-    words[POSITION] = usable_bytes(segment_size);
-    words[INITIALISED_END] = segment_size + pages as u64 * PAGE_SIZE;
-    words[WRITTEN] = segment_size;
-    words[FLUSHED] = segment_size;
+    let last_page = end.address / PAGE_SIZE;
+    hold_pages(words, pages, last_page);
+    let buffer = (last_page % u64::from(ring_pages)) as usize;
+    let kept = (end.address % PAGE_SIZE / 8) as usize;
+    copy_words(
+        words,
+        BUFFER_ENDS + pages + buffer * PAGE_WORDS as usize,
+        page,
+        kept,
+    );
+    words[POSITION] = end.position;
+    words[LAST_START] = end.last_start;
+    words[INITIALISED_END] = (last_page + u64::from(ring_pages)) * PAGE_SIZE;
+    words[WRITTEN] = end.address;
+    words[FLUSHED] = end.address;
     words[MOMENT] = moment;
-    words[async_number(ring_pages)] = segment_size;
+    words[async_number(ring_pages)] = end.address;
 }
 
 // How many bytes of a segment are in no header: the byte position at which segment 1 begins.
@@ -77,4 +109,37 @@ fn first_page(first: u64, pages: u64, buffer: u64) -> u64
     ensures low { result < 2 ^ 33 }
 {
     (first + pages - 1 - buffer) / pages * pages + buffer
+}
+
+// Copies the first words of a page, to a place on.
+fn copy_words(words: &mut [u64], to: usize, page: &[u8; PAGE_SIZE as usize], count: usize)
+    requires few { count ≤ 1024 }
+    requires wide { to + count ≤ length words.old }
+    ensures length { length words.new ≡ length words.old }
+    ensures copied { (j : ℕ) → j < count → slice_index words.new (to + j) ≡ word_at page.now j }
+    ensures below { (n : ℕ) → n < to → slice_index words.new n ≡ slice_index words.old n }
+    ensures above { (n : ℕ) → to + count ≤ n
+        → slice_index words.new n ≡ slice_index words.old n }
+{
+    for place in 0..count {
+        words[to + place] = page_word(page, place);
+    }
+}
+
+// A word of a page.
+fn page_word(page: &[u8; PAGE_SIZE as usize], place: usize) -> u64
+    requires { place < 1024 }
+    ensures { result ≡ word_at page.now place }
+{
+    let at = 8 * place;
+    u64::from_le_bytes([
+        page[at],
+        page[at + 1],
+        page[at + 2],
+        page[at + 3],
+        page[at + 4],
+        page[at + 5],
+        page[at + 6],
+        page[at + 7],
+    ])
 }

@@ -10,6 +10,7 @@ mod shape;
 mod word;
 mod words;
 
+pub use first::LogEnd;
 pub use setup::is_setup;
 pub use shape::LogShape;
 pub use word::Word;

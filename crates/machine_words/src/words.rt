@@ -1,16 +1,18 @@
-ghost use Rattle.std.specs.Prelude.{◌≡◌, ◌+◌, ◌<◌, ◌^◌, [], length, set, IfOk};
+ghost use Rattle.std.specs.Prelude.{◌≡◌, ◌+◌, ◌<◌, ◌≤◌, ◌^◌, [], length, set, IfOk};
+ghost use Rattle.wal_page.specs.Order.{IsChained};
 ghost use Rattle.wal_core.specs.Words.{Opening};
 ghost use Rattle.wal_core.specs.Sound.{IsSetup};
 ghost use Rattle.wal_core.specs.Opened.{AreFirstWords};
-ghost use Rattle.machine_words.specs.EmptyWords.{AreEmptyWords};
+ghost use Rattle.machine_words.specs.FirstWords.{GoOnBehind, IsEndOf, IsLastPage};
 ghost use Rattle.machine_words.specs.Numbers.{IsWord, number_of_word, word_named};
 
-use crate::first::set_first_words;
+use crate::first::{LogEnd, set_first_words};
 use crate::layout::{
     BUFFER_ENDS, DOWN, FIRST_LOCK, FLUSHED, INITIALISED_END, LAST_START, MAPPING_TURN, MOMENT,
     POSITION, WRITE_TURN, WRITTEN, async_number,
 };
 use crate::word::Word;
+use byte_position::PAGE_SIZE;
 use std::alloc::{AllocError, Global};
 use std::marker::Model;
 use wal_core::Setup;
@@ -44,7 +46,31 @@ impl MachineWords {
         ensures first { (opening : Opening) → opening.setup ≡ setup → opening.moment ≡ moment
             → opening.found ≡ [] → IfOk result (λ words. AreFirstWords opening words.words) }
     {
-        let words = empty_words(alloc, setup, moment)?;
+        let end = LogEnd::first(setup.segment_size);
+        let no_words = [0; PAGE_SIZE as usize];
+        MachineWords::resume(alloc, setup, moment, end, &no_words)
+    }
+
+    /// The words of a log that is gone on with behind this end. `page` is the page in which it
+    /// ends, of which the ring gets what is below the end: what stands behind it on the disk is
+    /// not the log's. `moment` is the disk's at the opening.
+    pub fn resume(
+        alloc: Global,
+        setup: Setup,
+        moment: u64,
+        end: LogEnd,
+        page: &[u8; PAGE_SIZE as usize],
+    ) -> Result<MachineWords, AllocError>
+        requires setup { IsSetup setup }
+        requires low { end.address < 2 ^ 44 }
+        ensures pages { IfOk result (λ words. words.pages ≡ setup.ring_pages) }
+        // For each log that was found so they are the words to begin with.
+        ensures first { (opening : Opening) → opening.setup ≡ setup → opening.moment ≡ moment
+            → IsChained setup.segment_size opening.found → IsEndOf opening end
+            → IsLastPage opening page.now
+            → IfOk result (λ words. AreFirstWords opening words.words) }
+    {
+        let words = first_words(alloc, setup.ring_pages, moment, end, page)?;
         Ok(MachineWords {
             pages: setup.ring_pages,
             words,
@@ -103,11 +129,19 @@ impl MachineWords {
     }
 }
 
-fn empty_words(alloc: Global, setup: Setup, moment: u64) -> Result<Vec<u64>, AllocError>
-    requires { IsSetup setup }
-    ensures { IfOk result (λ words. AreEmptyWords setup moment words.items) }
+fn first_words(
+    alloc: Global,
+    ring_pages: u32,
+    moment: u64,
+    end: LogEnd,
+    page: &[u8; PAGE_SIZE as usize],
+) -> Result<Vec<u64>, AllocError>
+    requires some { 1 ≤ ring_pages }
+    requires few { ring_pages ≤ 64 }
+    requires low { end.address < 2 ^ 44 }
+    ensures { IfOk result (λ words. GoOnBehind ring_pages moment end page.now words.items) }
 {
-    let mut words = vec![in alloc; 0; async_number(setup.ring_pages) + 1]?;
-    set_first_words(&mut words, setup.ring_pages, setup.segment_size, moment);
+    let mut words = vec![in alloc; 0; async_number(ring_pages) + 1]?;
+    set_first_words(&mut words, ring_pages, moment, end, page);
     Ok(words)
 }

@@ -6,4 +6,5 @@ pub mod BlockSteps
 pub mod Acceptance
 pub mod AfterHeader
 pub mod CrcBounds
+pub mod SwitchLaws
 pub mod SpellingLaws

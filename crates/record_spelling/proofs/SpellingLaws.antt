@@ -4,11 +4,12 @@ use Rattle.std.specs.Int.{w64, to_le_bytes}
 use Rattle.std.proofs.lemmas.List.{length-append, length-take, length-drop, length-replicate}
 use Rattle.std.proofs.lemmas.List.Elements.{All-append, All-from_recursion, All-replicate}
 use Rattle.wal_types.specs.declared.record.Record.{Record}
-use Rattle.record_spelling.specs.Spelling.{Assembled, AssembledFits, IsWritable, assembled, assembled_size, assembled_room, header_front, crc_of, spelled, filled, spelling, word_at}
+use Rattle.record_spelling.specs.Spelling.{Assembled, AssembledFits, IsLogRecord, assembled, assembled_size, assembled_room, header_front, crc_of, spelled, filled, spelling, word_at}
 use Rattle.record_spelling.specs.Header.{HasHeader}
 use Rattle.record_spelling.proofs.Bytes.{wide32, wide64, IsBytes-drop, IsBytes-from_All, IsBytes-take}
 use Rattle.record_spelling.proofs.AfterHeader.{AreBytes, bytes_and, bytes32, bytes64, after_header_bytes}
 use Rattle.record_spelling.proofs.CrcBounds.{crc32c_below}
+use Rattle.record_spelling.proofs.SwitchLaws.{logged_readable, logged_size}
 
 -- ---- lengths
 
@@ -23,14 +24,16 @@ room_is a = (omega arith, omega arith, omega arith, omega arith)
 
 -- ---- bytes
 
-pub ready : (r : Record) → IsWritable r → AssembledFits (assembled r)
-ready r w = record {
-  size = w.size;
-  xid = w.fits.xid;
-  manager = w.fits.manager;
-  info = w.fits.info;
-  bytes = (after_header_bytes r w.well_formed.blocks w.fits.blocks w.fits.main).each;
-}
+pub ready : (r : Record) → IsLogRecord r → AssembledFits (assembled r)
+ready r logged =
+    let readable = logged_readable r logged in
+    record {
+      size = logged_size r logged;
+      xid = readable.fits.xid;
+      manager = readable.fits.manager;
+      info = readable.fits.info;
+      bytes = (after_header_bytes r readable.blocks readable.fits.blocks readable.fits.main).each;
+    }
 
 front_bytes : (a : Assembled) (prev : ℕ) → AssembledFits a → AreBytes (header_front a prev)
 front_bytes a prev ready = bytes_and (bytes_and (bytes_and (bytes32 (assembled_size a)) (bytes32 a.xid)) (bytes64 prev)) (record { each = All-from_recursion (λ b. b < 256) (a.info ∷ a.rmid ∷ 0 ∷ 0 ∷ []) (ready.info, (ready.manager, (omega arith, (omega arith, tt)))) })
@@ -64,5 +67,5 @@ header_spelled a prev ready lt = record {
   after_header_is = refl;
 }
 
-pub fields_spelled : (r : Record) (prev : ℕ) → IsWritable r → prev < 2 ^ 64 → HasHeader (spelling r prev) (assembled r) prev
-fields_spelled r prev w lt = header_spelled (assembled r) prev (ready r w) lt
+pub fields_spelled : (r : Record) (prev : ℕ) → IsLogRecord r → prev < 2 ^ 64 → HasHeader (spelling r prev) (assembled r) prev
+fields_spelled r prev logged lt = header_spelled (assembled r) prev (ready r logged) lt

@@ -9,9 +9,25 @@ use Rattle.record_spelling.specs.Layout.{data_page_size, first_free_manager, las
 abbrev pub is_free_manager : ℕ → Bool
 is_free_manager rmid = nat_le first_free_manager rmid && nat_le rmid last_free_manager
 
--- whether the record would end its segment (XLOG_SWITCH), which is no record to insert
+-- whether a record of this manager and info ends its segment (XLOG_SWITCH)
+abbrev pub ends_segment : ℕ → ℕ → Bool
+ends_segment rmid info = (rmid == 0) && (info / 16 % 16 == 4)
+
+-- whether a record is a segment switch, which is none to insert
 abbrev pub is_switch : Record → Bool
-is_switch r = (r.rmid == 0) && (r.info / 16 % 16 == 4)
+is_switch r = ends_segment r.rmid r.info
+
+-- the one such record that a log is given: of no transaction, and with no data
+abbrev pub switch_record : Record
+switch_record = record {
+  xid = record { 0 = 0 };
+  rmid = 0;
+  info = 64;
+  origin = None;
+  top_xid = None;
+  blocks = [];
+  main = [];
+}
 
 -- whether an image, where there is one, is that of a page; a hole is not at the page's start
 abbrev pub is_right_image : Option Image → Bool

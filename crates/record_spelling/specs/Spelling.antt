@@ -11,7 +11,7 @@
 --   the main data's header, where there is any: 255 and a byte of length, or 254 and four
 --   the payload: for each block its image and its data, and then the main data
 -- The CRC runs over all that stands behind the header, and then over the header's first 20 bytes.
-use Rattle.std.specs.Prelude.{◌≡◌, ℕ, ◌+◌, ◌-◌, ◌*◌, ◌/◌, ◌^◌, ◌<◌, ◌≤◌, Bool, false, ◌&&◌, All, List, [], ◌∷◌, ◌++◌, length, take, drop, replicate, Option, Some, None, is_some, ◌==◌, nat_lt, if◌then◌else◌}
+use Rattle.std.specs.Prelude.{◌≡◌, ℕ, ◌+◌, ◌-◌, ◌*◌, ◌/◌, ◌^◌, ◌<◌, ◌≤◌, Bool, false, ◌&&◌, not, IsTrue, All, List, [], ◌∷◌, ◌++◌, length, take, drop, replicate, Option, Some, None, is_some, ◌==◌, nat_lt, if◌then◌else◌}
 use Rattle.std.specs.List.{flat_map}
 use Rattle.std.specs.Int.{w16, w32, w64, to_le_bytes, from_le_bytes}
 use Rattle.wal_crc32c.specs.Crc32c.{crc32c}
@@ -21,7 +21,7 @@ use Rattle.wal_types.specs.declared.record.Image.{Image}
 use Rattle.wal_types.specs.declared.record.Rel.{Rel}
 use Rattle.wal_types.specs.declared.record.Xid.{Xid}
 use Rattle.record_spelling.specs.Layout.{long_main_tag, longest_record, origin_tag, record_header_size, short_main_tag, top_xid_tag}
-use Rattle.record_spelling.specs.Record.{IsWellFormed, Fits}
+use Rattle.record_spelling.specs.Record.{IsWellFormed, Fits, are_right_blocks, ends_segment, is_free_manager, switch_record}
 
 -- a bit of a flag byte
 abbrev pub flag : Bool → ℕ → ℕ
@@ -159,13 +159,30 @@ spelling r prev = spelled (assembled r) prev
 abbrev pub word_at : List ℕ → ℕ → ℕ
 word_at bytes n = from_le_bytes w64 (take 8 (drop (8 * n) bytes))
 
--- a record that a writer may put into the log
+-- a record that can be inserted
 pub record IsWritable (r : Record) : Type 0 where
   pub well_formed : IsWellFormed r
   pub fits : Fits r
   pub size : size_of r ≤ longest_record
 
--- what is assembled of such a record
+-- a record that is read back from its spelling: it has a manager, its blocks are right, its numbers
+-- fit their fields, and its size does
+pub record IsReadable (r : Record) : Type 0 where
+  pub manager : IsTrue (not (is_free_manager r.rmid))
+  pub blocks : IsTrue (are_right_blocks 0 r.blocks)
+  pub fits : Fits r
+  pub size : size_of r < 2 ^ 32
+
+-- a record that the log may hold: one that can be inserted, or that of a segment switch
+pub data IsLogRecord (r : Record) : Type 0 where
+  inserted : IsWritable r → IsLogRecord r
+  switched : r ≡ switch_record → IsLogRecord r
+
+-- whether what is assembled ends its segment
+abbrev pub is_assembled_switch : Assembled → Bool
+is_assembled_switch a = ends_segment a.rmid a.info
+
+-- what is assembled of a record that the log may hold
 pub record AssembledFits (a : Assembled) : Type 0 where
   pub size : assembled_size a ≤ longest_record
   pub xid : a.xid < 2 ^ 32
@@ -176,5 +193,5 @@ pub record AssembledFits (a : Assembled) : Type 0 where
 -- the record that it was assembled of
 pub record RecordOf (a : Assembled) : Type 0 where
   pub value : Record
-  pub writable : IsWritable value
+  pub logged : IsLogRecord value
   pub same : a ≡ assembled value

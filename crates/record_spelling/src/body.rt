@@ -1,15 +1,17 @@
 //! A record made ready to be written (PostgreSQL's XLogRecordAssemble of xloginsert.c).
 
-ghost use Rattle.std.specs.Prelude.{◌≡◌, ◌+◌, ◌*◌, ◌^◌, ◌<◌, ◌≤◌, ◌++◌, length, take, All, None, IfOk, OnOk, IfErr};
+ghost use Rattle.std.specs.Prelude.{◌≡◌, ◌+◌, ◌*◌, ◌^◌, ◌<◌, ◌≤◌, ◌++◌, false, length, take, All, None, IfOk, OnOk, IfErr};
 ghost use Rattle.std.specs.Int.{w64, from_le_bytes};
 ghost use Rattle.wal_types.specs.declared.record.Record.{Record};
+ghost use Rattle.record_spelling.specs.Record.{switch_record};
 ghost use Rattle.record_spelling.specs.Refusal.{RefusesToAssemble, refusal_of};
-ghost use Rattle.record_spelling.specs.Spelling.{AssembledFits, IsWritable, RecordOf, assembled, assembled_of, assembled_room, assembled_size, crc_of, filled, header_front, word_at};
+ghost use Rattle.record_spelling.specs.Spelling.{AssembledFits, IsWritable, RecordOf, assembled, assembled_of, assembled_room, assembled_size, crc_of, filled, header_front, is_assembled_switch, word_at};
 
 use crate::assembly::after_header;
 use crate::fault::BodyErr;
-use crate::layout::HEADER_LEN;
+use crate::layout::{HEADER_LEN, SWITCH_INFO, XLOG_RMID};
 use crate::refusing::refusal;
+use crate::segment_switch::ends_segment;
 use std::alloc::Global;
 use std::marker::Model;
 use wal_crc32c::Crc;
@@ -46,6 +48,7 @@ impl Body {
     /// Switch, BadBlock and TooLong.
     pub fn assemble(alloc: Global, r: &Record) -> Result<Body, BodyErr>
         ensures ok { IfOk result (λ body. (body ≡ assembled r.now) × IsWritable r.now) }
+        ensures inserted { IfOk result (λ body. is_assembled_switch body ≡ false) }
         ensures not_refused { OnOk result (refusal_of r.now ≡ None) }
         ensures which { IfErr result (λ e. RefusesToAssemble e r.now) }
     {
@@ -63,6 +66,14 @@ impl Body {
         Ok(Body::of_parts(xid, rmid, info, after_header))
     }
 
+    /// The record that ends its segment (PostgreSQL's RequestXLogSwitch): of no transaction, and
+    /// with no data. It takes no memory, though a body has an allocator.
+    pub fn switch(alloc: Global) -> Body
+        ensures { result ≡ assembled switch_record }
+    {
+        Body::of_parts(Xid(0), XLOG_RMID, SWITCH_INFO, Vec::new(alloc))
+    }
+
     fn of_parts(xid: Xid, rmid: u8, info: u8, after_header: Vec<u8>) -> Body
         requires { RecordOf (assembled_of xid.0 rmid info after_header.items) }
         ensures { result ≡ assembled_of xid.0 rmid info after_header.items }
@@ -76,6 +87,13 @@ impl Body {
             after_header,
             crc,
         }
+    }
+
+    /// Whether the record ends its segment.
+    pub fn is_switch(&self) -> bool
+        ensures { result ≡ is_assembled_switch self.now }
+    {
+        ends_segment(self.rmid, self.info)
     }
 
     /// How many bytes the record is spelled in.

@@ -1,14 +1,14 @@
 //! What holds of each record as it is spelled, whatever reads it. The functions do nothing: their
 //! contracts are the laws.
 
-ghost use Rattle.std.specs.Prelude.{◌≡◌, ℕ, ◌+◌, ◌*◌, ◌%◌, ◌^◌, ◌<◌, ◌≤◌, length, take, drop, All, IsFalse, IsTrue, List, None, Some, ◌↔◌};
+ghost use Rattle.std.specs.Prelude.{◌≡◌, ℕ, ◌+◌, ◌*◌, ◌%◌, ◌^◌, ◌<◌, ◌≤◌, length, take, drop, false, true, All, IsFalse, IsTrue, List, None, Some, ◌↔◌};
 ghost use Rattle.std.specs.Int.{w64, to_le_bytes};
 ghost use Rattle.wal_types.specs.declared.record.Block.{Block};
 ghost use Rattle.wal_types.specs.declared.record.Record.{Record};
 ghost use Rattle.record_spelling.specs.Header.{HasHeader};
-ghost use Rattle.record_spelling.specs.Record.{Fits, are_right_blocks};
+ghost use Rattle.record_spelling.specs.Record.{Fits, are_right_blocks, is_switch, switch_record};
 ghost use Rattle.record_spelling.specs.Refusal.{first_bad_block, refusal_of};
-ghost use Rattle.record_spelling.specs.Spelling.{Assembled, AssembledFits, IsWritable, assembled, assembled_room, assembled_size, crc_of, filled, spelled, word_at};
+ghost use Rattle.record_spelling.specs.Spelling.{Assembled, AssembledFits, IsLogRecord, IsReadable, IsWritable, assembled, assembled_room, assembled_size, crc_of, filled, size_of, spelled, word_at};
 
 /// A record's length, and the room that it takes up.
 pub fn spelled_lengths()
@@ -23,7 +23,7 @@ pub fn spelled_lengths()
 
 /// A record's bytes and its CRC fit, and its words are its bytes.
 pub fn spelled_bytes()
-    ensures ready { (r : Record) → IsWritable r → AssembledFits (assembled r) }
+    ensures ready { (r : Record) → IsLogRecord r → AssembledFits (assembled r) }
     ensures crc { (a : Assembled) (prev : ℕ) → AssembledFits a → crc_of a prev < 2 ^ 32 }
     ensures bytes { (a : Assembled) (prev : ℕ) → AssembledFits a
         → All (λ b. b < 256) (filled a prev) }
@@ -40,6 +40,15 @@ pub fn spelled_header()
 /// What can be written is what fits and is not refused.
 pub fn refused_or_writable()
     ensures { (r : Record) → Fits r → (refusal_of r ≡ None) ↔ IsWritable r }
+{}
+
+/// The log holds records that can be inserted, and that of a segment switch; whether it ends its
+/// segment tells which. Each of them is read back from its spelling.
+pub fn log_records()
+    ensures inserted { (r : Record) → IsLogRecord r → (is_switch r ≡ false) ↔ IsWritable r }
+    ensures switched { (r : Record) → IsLogRecord r → (is_switch r ≡ true) ↔ (r ≡ switch_record) }
+    ensures switch_size { size_of switch_record ≡ 24 }
+    ensures readable { (r : Record) → IsLogRecord r → IsReadable r }
 {}
 
 /// A refusal names the first block that is not right: those before it are right, and with it they

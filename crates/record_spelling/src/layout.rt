@@ -12,6 +12,11 @@ pub const INFO_AT: usize = 16;
 
 pub const RMID_AT: usize = 17;
 
+/// The manager of the log itself, RM_XLOG_ID.
+pub const XLOG_RMID: u8 = 0;
+/// XLOG_SWITCH
+pub const SWITCH_INFO: u8 = 0x40;
+
 /// XLR_BLOCK_ID_DATA_SHORT: main data with a byte of length.
 pub const MAIN_SHORT: u8 = 255;
 /// XLR_BLOCK_ID_DATA_LONG: main data with four bytes of length.

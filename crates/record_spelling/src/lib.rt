@@ -10,8 +10,10 @@ pub mod layout;
 mod manager;
 mod putting;
 mod refusing;
+mod segment_switch;
 
 pub use body::Body;
 pub use fault::BodyErr;
 pub use manager::is_free_manager;
 pub use refusing::refusal;
+pub use segment_switch::is_switch;

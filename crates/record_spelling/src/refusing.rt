@@ -2,13 +2,14 @@
 
 ghost use Rattle.std.specs.Prelude.{◌≡◌, Some};
 ghost use Rattle.wal_types.specs.declared.record.Record.{Record};
-ghost use Rattle.record_spelling.specs.Record.{is_right_block, is_right_image, is_switch};
+ghost use Rattle.record_spelling.specs.Record.{is_right_block, is_right_image};
 ghost use Rattle.record_spelling.specs.Refusal.{first_bad_block, refusal_of};
 
 use crate::assembly::after_header_len;
 use crate::fault::BodyErr;
 use crate::layout::*;
 use crate::manager::is_free_manager;
+use crate::segment_switch::is_switch;
 use wal_types::{Block, Image, Record};
 
 /// Why a record cannot be assembled: the first reason, or none. It takes no memory, and never
@@ -31,12 +32,6 @@ pub fn refusal(r: &Record) -> Option<BodyErr>
         return Some(BodyErr::TooLong { len });
     }
     None
-}
-
-fn is_switch(r: &Record) -> bool
-    ensures { result ≡ is_switch r.now }
-{
-    r.rmid == 0 && r.info >> 4 == 4
 }
 
 // The place of the first block that is not right.

@@ -3,3 +3,5 @@ pub mod Standing
 pub mod Steps
 pub mod Tries
 pub mod Placing
+pub mod SwitchRoom
+pub mod Since

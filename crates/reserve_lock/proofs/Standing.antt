@@ -4,8 +4,7 @@ use Rattle.std.proofs.Math.Logic.{∥∥₁_elim}
 use Rattle.std.specs.Coded.{Coded-set, coded_ℕ, le_prop}
 use Rattle.atomic_table.proofs.Lists.{at_map}
 use Rattle.wal_page.specs.Order.{Entry, end_position, prev_of}
-use Rattle.wal_page.proofs.OwnerLaws.{rooms_of-whole}
-use Rattle.wal_page.proofs.WordPositions.{first_position-whole}
+use Rattle.wal_page.proofs.OwnerLaws.{end_position-whole}
 use Rattle.wal_core.specs.Words.{log_limit, prev_word}
 use Rattle.wal_core.specs.Views.{HasAt, Locked, Place, reserving_of, View}
 use Rattle.wal_core.specs.Ordered.{AtPlace}
@@ -40,9 +39,9 @@ module _ (v : View) (at : ℕ) (live : (v.reserving).live ≡ true)
 
     whole : at % 8 ≡ 0
     whole =
-        let rooms = rooms_of-whole size order in
-        let start = first_position-whole size (((stands.sound).setup_is).size) in
-        omega (arith, rooms, start, is_end)
+        let valid = ((stands.sound).setup_is).size in
+        let end = end_position-whole size valid order ((stands.sound).reserved).chained in
+        omega (arith, end, is_end)
 
   module _ (stands : ∥ Stands v ∥₁) where
     pub locked_behind_seen : (v.reserving).seen ≤ at

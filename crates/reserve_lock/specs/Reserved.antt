@@ -1,18 +1,25 @@
 -- What a reservation leaves of its pass's view, where it succeeds and where it does not.
-use Rattle.std.specs.Prelude.{◌≡◌, ◌≢◌, ◌⊎◌, ℕ, ◌+◌, ◌-◌, ◌%◌, ◌<◌, ◌≤◌, [], ◌∷◌, ◌++◌, length, max}
+use Rattle.std.specs.Prelude.{◌≡◌, ◌≢◌, ◌⊎◌, ℕ, ◌+◌, ◌-◌, ◌%◌, ◌<◌, ◌≤◌, List, [], ◌∷◌, ◌++◌, length, max}
 use Rattle.byte_position.specs.Position.{address_of, end_address_of}
 use Rattle.wal_types.specs.declared.record.Record.{Record}
-use Rattle.record_spelling.specs.Spelling.{Assembled, IsWritable, assembled}
+use Rattle.record_spelling.specs.Record.{switch_record}
+use Rattle.record_spelling.specs.Spelling.{Assembled, IsLogRecord, IsWritable, assembled}
 use Rattle.wal_page.specs.Order.{Entry, assembled_room_at, position_behind}
-use Rattle.wal_page.specs.Placed.{PlacedState}
+use Rattle.wal_page.specs.Placed.{PlacedState, placed_end}
 use Rattle.wal_core.specs.declared.setup.Setup.{Setup}
-use Rattle.wal_core.specs.Words.{log_limit}
-use Rattle.wal_core.specs.Views.{Copying, Free, Locked, LogFull, View}
+use Rattle.wal_core.specs.Words.{end_form, log_limit}
+use Rattle.wal_core.specs.Views.{AtSegmentStart, Copying, Free, Locked, LogFull, StopCause, View}
 use Rattle.wal_core.specs.Moves.{entry_reserved, unlocked}
 use Rattle.wal_core.specs.Steps.{load_position, lock_position}
 use Rattle.wal_rule.specs.Stepping.{Meets}
 use Rattle.reserve_lock.specs.declared.reserving.ReserveErr.{ReserveErr}
 use Rattle.reserve_lock.specs.declared.reserving.ReserveErr.TheVariants.{Busy, Full}
+use Rattle.reserve_lock.specs.declared.switching.SwitchTry.{SwitchTry}
+use Rattle.reserve_lock.specs.declared.switching.SwitchTry.TheVariants.{Stayed, Switched}
+
+-- the locks that a segment switch stands under: all of them, in the order in which they are taken
+abbrev pub every_lock : List ℕ
+every_lock = 0 ∷ 1 ∷ 2 ∷ 3 ∷ 4 ∷ 5 ∷ 6 ∷ 7 ∷ []
 
 -- ---- a pass's view behind steps: all that is not named is as it was
 
@@ -25,13 +32,13 @@ seen_view position v =
 abbrev pub locked_view : ℕ → View → View
 locked_view at v = record v { reserving = record v.reserving { seen = at; place = Locked at } }
 
--- a pass notes that the log was full at a position, which is no longer locked
-abbrev pub full_view : ℕ → View → View
-full_view at v = record v {
+-- a pass notes why it stopped at a position, which is no longer locked
+abbrev pub stopped_view : StopCause → ℕ → View → View
+stopped_view cause at v = record v {
   reserving = record v.reserving {
     stops = (v.reserving).stops
         ++ (record {
-          cause = LogFull;
+          cause = cause;
           position = at;
           entries = length (v.reserving).entries;
         }) ∷ [];
@@ -39,16 +46,23 @@ full_view at v = record v {
   };
 }
 
--- an entry is the last of its log, and in flight under one lock with no word copied
-abbrev pub reserved_view : ℕ → Entry → ℕ → ℕ → View → View
-reserved_view size entry prev lock v = record v {
+-- the log was full there, or stood at a segment's start
+abbrev pub full_view : ℕ → View → View
+full_view at v = stopped_view LogFull at v
+
+abbrev pub stayed_view : ℕ → View → View
+stayed_view at v = stopped_view AtSegmentStart at v
+
+-- an entry is the last of its log, and in flight under these locks with no word copied
+abbrev pub reserved_view : ℕ → Entry → ℕ → List ℕ → View → View
+reserved_view size entry prev locks v = record v {
   reserving = record v.reserving {
     entries = (v.reserving).entries ++ entry ∷ [];
     seen = position_behind size entry;
     place = Free;
   };
   working = record v.working {
-    flight = Copying (record { entry = entry; prev = prev; locks = lock ∷ []; copied = 0 });
+    flight = Copying (record { entry = entry; prev = prev; locks = locks; copied = 0 });
   };
 }
 
@@ -84,14 +98,14 @@ pub record IsLogFull (setup : Setup) (body : Assembled) (free : ℕ) (old new : 
     pub new_is : new ≡ full_view at (seen_view at old)
 
 -- an entry of the pass was reserved at a position, of the record that the body was made of, behind
--- a record that starts at the address `prev`
-pub record IsEntryReserved (setup : Setup) (body : Assembled) (at prev lock : ℕ)
+-- a record that starts at the address `prev`; it stands under these locks
+pub record IsEntryReserved (setup : Setup) (body : Assembled) (at prev : ℕ) (locks : List ℕ)
     (old new : View) : Type 0 where
   pub value : Record
-  pub writable : IsWritable value
+  pub logged : IsLogRecord value
   pub of_body : assembled value ≡ body
   pub new_is : new ≡ reserved_view setup.segment_size
-      (entry_reserved (old.reserving).number at value) prev lock old
+      (entry_reserved (old.reserving).number at value) prev locks old
 
 -- the record at its place, as its words are to be copied
 abbrev pub placed_first : Setup → Assembled → (start prev : ℕ) → PlacedState
@@ -104,19 +118,54 @@ placed_first setup body start prev = record {
   next = end_address_of setup.segment_size start;
 }
 
--- an entry was reserved, behind all that the pass had seen and before the log's end; it is given at
--- its place, which starts at this address
-pub record IsPlaceReserved (setup : Setup) (body : Assembled) (lock : ℕ) (old new : View)
+-- an entry was reserved under these locks, behind all that the pass had seen and before the log's
+-- end; it is given at its place, which starts at this address
+pub record IsPlaceReserved (setup : Setup) (body : Assembled) (locks : List ℕ) (old new : View)
     (start : ℕ) (placed : PlacedState) : Type 0 where
   pub at : ℕ
   pub prev : ℕ
-  pub reserved : IsEntryReserved setup body at prev lock old new
+  pub reserved : IsEntryReserved setup body at prev locks old new
   pub behind_seen : (old.reserving).seen ≤ at
   pub within : at + assembled_room_at setup.segment_size at body ≤ log_limit setup
   pub placed_is : placed ≡ placed_first setup body at prev
   pub start_is : start ≡ address_of setup.segment_size at
 
+-- so a record was that can be inserted, under one lock
+pub record IsInsertReserved (setup : Setup) (body : Assembled) (lock : ℕ) (old new : View)
+    (start : ℕ) (placed : PlacedState) : Type 0 where
+  pub place : IsPlaceReserved setup body (lock ∷ []) old new start placed
+  pub writable : IsWritable (place.reserved).value
+
+-- so a segment switch was, under all locks; the log did not stand at a segment's start
+pub record IsSwitchReserved (setup : Setup) (body : Assembled) (old new : View) (start : ℕ)
+    (placed : PlacedState) : Type 0 where
+  pub place : IsPlaceReserved setup body every_lock old new start placed
+  pub switches : (place.reserved).value ≡ switch_record
+  pub inside : end_form setup place.at % setup.segment_size ≢ 0
+
+-- the log ends at this address, a segment's start, where a switch would leave it as it is; and the
+-- pass notes that it stopped there
+pub record StaysAtStart (setup : Setup) (end : ℕ) (old new : View) : Type 0 where
+  pub at : ℕ
+  pub behind_seen : (old.reserving).seen ≤ at
+  pub within : at ≤ log_limit setup
+  pub end_is : end ≡ end_form setup at
+  pub starts : end % setup.segment_size ≡ 0
+  pub new_is : new ≡ stayed_view at (seen_view at old)
+
+-- what a switch comes to where the position was locked and the log not full
+abbrev pub AnswersSwitch : Setup → Assembled → View → View → SwitchTry → Type 0
+AnswersSwitch setup body old new (Switched r) =
+    IsSwitchReserved setup body old new r.start.0 r.placed × (r.end.0 ≡ placed_end r.placed)
+AnswersSwitch setup body old new (Stayed end) = StaysAtStart setup end.0 old new
+
 -- why nothing was reserved
 abbrev pub TellsWhy : Setup → Assembled → View → View → ReserveErr → Type 0
 TellsWhy setup body old new (Busy seen) = IsPositionBusy seen old new
 TellsWhy setup body old new (Full free) = IsLogFull setup body free old new
+
+-- a switch finds the log full just where fewer bytes are left than its record's own 24: the rest of
+-- the segment fits, since the log ends with one
+abbrev pub LeavesNoSwitch : ReserveErr → Type 0
+LeavesNoSwitch (Busy seen) = Unit {0}
+LeavesNoSwitch (Full free) = free < 24

@@ -3,7 +3,7 @@
 // that meets another word changes nothing. In both cases the word that was in the way is told:
 // PostgreSQL spins here (insertpos_lck), this call does not wait.
 // With the bit set the position is this pass's to store, and so is the last start (places.rt).
-ghost use Rattle.std.specs.Prelude.{◌≡◌, IfErr, IfOk};
+ghost use Rattle.std.specs.Prelude.{◌≡◌, ◌<◌, ◌^◌, IfErr, IfOk};
 ghost use Rattle.wal_core.specs.Views.{Free};
 ghost use Rattle.wal_rule.specs.SeatedPasses.{StaysSeated, setup_of, view_of};
 ghost use Rattle.reserve_lock.specs.Reserved.{IsPositionBusy, IsPositionLocked};
@@ -17,6 +17,7 @@ pub(crate) fn lock_seen<'p, D: Disk>(seated: &mut SeatedPass<'p, D>) -> Result<u
     // It is locked at a multiple of 8 behind all that the pass had seen, and within the log.
     ensures locked { IfOk result (λ at. IsPositionLocked (setup_of seated.old) at
         (view_of seated.old) (view_of seated.new)) }
+    ensures low { IfOk result (λ at. at < 2 ^ 60) }
     // It is not locked by this pass, which has seen reserved what it loaded, and knows no more.
     ensures busy { IfErr result (λ seen. IsPositionBusy seen (view_of seated.old)
         (view_of seated.new)) }

@@ -4,11 +4,14 @@
 // behind the record or as it was (places.rt). Once it is stored behind it, the record has its place
 // for good, whatever fails later: its words are the pass's to copy, and the next record names its
 // start as prev. Nobody else reserves those bytes.
-ghost use Rattle.std.specs.Prelude.{◌≡◌, [], ◌∷◌, IfErr, IfOk};
-ghost use Rattle.wal_core.specs.Views.{Free, Landed};
+ghost use Rattle.std.specs.Prelude.{◌≡◌, ℕ, ◌-◌, ◌%◌, ◌<◌, ◌≤◌, [], ◌∷◌, false, true, length, Contains, IfErr, IfOk};
+ghost use Rattle.record_spelling.specs.Spelling.{RecordOf, is_assembled_switch};
+ghost use Rattle.wal_core.specs.Views.{Free, Landed, Locked};
+ghost use Rattle.wal_core.specs.Words.{log_limit};
+ghost use Rattle.wal_page.specs.Order.{assembled_room_at};
 ghost use Rattle.wal_page.specs.Placed.{placed_end};
 ghost use Rattle.wal_rule.specs.SeatedPasses.{StaysSeated, setup_of, view_of};
-ghost use Rattle.reserve_lock.specs.Reserved.{IsPlaceReserved, TellsWhy};
+ghost use Rattle.reserve_lock.specs.Reserved.{IsInsertReserved, IsPlaceReserved, TellsWhy, full_view};
 
 use crate::locking::lock_seen;
 use crate::places::{give_back, reserve_at};
@@ -39,19 +42,21 @@ pub struct Reserved<'a> {
 
 /// Reserves a record's place under one insertion lock, which the pass holds (PostgreSQL's xlog.c,
 /// ReserveXLogInsertLocation). It tries once and never waits: where another pass has the position
-/// locked, or has moved it, the caller tries again. The lock stays held at each exit.
+/// locked, or has moved it, the caller tries again. The lock stays held at each exit. A segment
+/// switch has a call of its own (`try_reserve_switch`), since it stands under all locks.
 pub fn try_reserve<'a, 'p, D: Disk>(
     seated: &mut SeatedPass<'p, D>,
     body: &'a Body,
     lock: u32,
 ) -> Result<Reserved<'a>, ReserveErr>
+    requires inserted { is_assembled_switch body.now ≡ false }
     // The pass holds this one insertion lock, copies nothing, and has not locked the position.
     requires holds { (view_of seated.old).working
         ≡ record { locks = lock ∷ []; flight = Landed } }
     requires place { (view_of seated.old).reserving.place ≡ Free }
     // The entry stands behind all that the pass had seen and ends within the log; it is in flight
     // under the lock, and all its words are left to copy.
-    ensures reserved { IfOk result (λ r. IsPlaceReserved (setup_of seated.old) body.now lock
+    ensures reserved { IfOk result (λ r. IsInsertReserved (setup_of seated.old) body.now lock
         (view_of seated.old) (view_of seated.new) r.start.0 r.placed) }
     ensures end { IfOk result (λ r. r.end.0 ≡ placed_end r.placed) }
     // Nothing was reserved, and the pass has the position locked no longer.
@@ -59,20 +64,53 @@ pub fn try_reserve<'a, 'p, D: Disk>(
         (view_of seated.new) e) }
     ensures stays { StaysSeated seated.old seated.new }
 {
-    let shape = seated.shape();
     let at = match lock_seen(seated) {
         Ok(at) => at,
         Err(seen) => return Err(ReserveErr::Busy { seen }),
     };
-    let free = shape.limit() - at;
-    if free < u64::from(body.room()) {
-        give_back::<D, Brand>(seated, body, at);
-        return Err(ReserveErr::Full { free });
+    match reserve_locked(seated, body, at, u64::from(body.room())) {
+        Ok(reserved) => Ok(reserved),
+        Err(free) => Err(ReserveErr::Full { free }),
     }
-    let prev = reserve_at::<D, Brand>(seated, body, lock, at);
+}
+
+// Reserves the record's place at the locked position, where it takes up `room` bytes, under the
+// insertion locks that the pass holds. Where too few bytes of the log are left, it gives the
+// position back and tells how many.
+pub(crate) fn reserve_locked<'a, 'p, D: Disk>(
+    seated: &mut SeatedPass<'p, D>,
+    body: &'a Body,
+    at: u64,
+    room: u64,
+) -> Result<Reserved<'a>, u64>
+    requires known { RecordOf body.now }
+    requires place { (view_of seated.old).reserving.place ≡ Locked at }
+    requires seen { (view_of seated.old).reserving.seen ≤ at }
+    requires within { at ≤ log_limit (setup_of seated.old) }
+    requires whole { at % 8 ≡ 0 }
+    requires room { room ≡ assembled_room_at (setup_of seated.old).segment_size at body.now }
+    requires some { 1 ≤ length (view_of seated.old).working.locks }
+    requires all { is_assembled_switch body.now ≡ true → (lock : ℕ) → lock < 8
+        → Contains (view_of seated.old).working.locks lock }
+    requires landed { (view_of seated.old).working.flight ≡ Landed }
+    ensures reserved { IfOk result (λ r. (p : IsPlaceReserved (setup_of seated.old) body.now
+        (view_of seated.old).working.locks (view_of seated.old) (view_of seated.new)
+        r.start.0 r.placed) × (p.at ≡ at)) }
+    ensures end { IfOk result (λ r. r.end.0 ≡ placed_end r.placed) }
+    ensures full { IfErr result (λ free. (free ≡ log_limit (setup_of seated.old) - at)
+        × (free < room) × (view_of seated.new ≡ full_view at (view_of seated.old))) }
+    ensures stays { StaysSeated seated.old seated.new }
+{
+    let shape = seated.shape();
+    let free = shape.limit() - at;
+    if free < room {
+        give_back::<D, Brand>(seated, body, at);
+        return Err(free);
+    }
+    let prev = reserve_at::<D, Brand>(seated, body, at, room);
     Ok(Reserved {
         start: shape.geometry().to_lsn(at),
-        end: shape.geometry().to_end_lsn(at + u64::from(body.room())),
+        end: shape.geometry().to_end_lsn(at + room),
         placed: Placed::new(shape.geometry(), shape.sysid(), body, at, Lsn(prev)),
     })
 }

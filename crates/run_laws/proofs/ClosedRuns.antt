@@ -30,6 +30,7 @@ use Rattle.run_laws.proofs.Counting.{order_counted}
 use Rattle.run_laws.proofs.FullScripts.{too_much_asked}
 use Rattle.run_laws.proofs.LastFlush.{left_whole}
 use Rattle.run_laws.proofs.LineFaults.{run_stays_down}
+use Rattle.run_laws.proofs.CatchingUp.{run_catches_up}
 use Rattle.run_laws.proofs.MomentsTold.{run_rises}
 use Rattle.run_laws.proofs.OneFault.{told_once}
 use Rattle.run_laws.proofs.RefusedLines.{refused_for_want_of_room}
@@ -152,6 +153,7 @@ module _ {D : Type 0} (tape : D → Option Tape) (moment faults : D → ℕ) (be
     one_fault = told_once opening order last_view closed script lists r.taken;
     gapless = subst (IsChained size) order_is (((r.closes).closed).accounted).chained;
     in_line_order = told_rise opening order last_view closed script lists r.taken;
+    caught_up = run_catches_up opening last_view script lists r.taken;
     moments = run_rises opening last_view script lists r.taken (r.closes).in_order
         (moment (slot_disk w)) (none_is_later opening order last_view closed);
     goes_on = tape_goes_on began (tape (slot_disk w)) ((r.closes).of_log).told

@@ -1,24 +1,28 @@
 -- Where a line found the log full, the script's records take up more than the log has for them.
 use Rattle.std.proofs.Common.{◌≡◌, ℕ, ◌+◌, ◌<◌, ◌≤◌, cond, Bool, true, false, leb, List, [], ◌∷◌, take, Option, Some, None, option_to_list, inl, inr, refl, sym, ap, ◌∙◌, arith}
+use Rattle.std.proofs.lemmas.List.Elements.{All-head, All-tail}
 use Rattle.std.proofs.lemmas.List.Sums.{sum_by-take-le}
 use mathlib.Core.Option as mathlib_option
 use mathlib.Core.Option.{none, some}
-use Rattle.byte_position.specs.Position.{first_position}
+use Rattle.byte_position.specs.Position.{first_position, position_of}
 use Rattle.wal_types.specs.declared.answers.Cause.TheVariants.{Full, Disk, Down}
 use Rattle.wal_types.specs.declared.lsn.Lsn.{Lsn}
 use Rattle.wal_types.specs.declared.record.Record.{Record}
-use Rattle.wal_page.specs.Order.{Entry, room_at, rooms_of}
+use Rattle.wal_page.specs.Order.{Entry, end_position, room_at, rooms_of}
 use Rattle.wal_page.proofs.OrderLaws.{rooms_of_cons, rooms_of-append}
-use Rattle.wal_script.specs.Asked.{Asked, AskedLine, Insert, Commit, Flush}
-use Rattle.wal_core.specs.Words.{Opening}
+use Rattle.wal_page.proofs.PaddingLaws.{room_at-inserted}
+use Rattle.wal_script.specs.Asked.{Asked, AskedLine, Insert, Commit, Flush, CommitAsync, WriteBehind}
+use Rattle.wal_script.specs.Writable.{AsksWritable}
+use Rattle.wal_core.specs.Words.{Opening, log_limit}
 use Rattle.wal_core.specs.Views.{View}
 use Rattle.told_lines.specs.declared.told.Told.{Told}
-use Rattle.told_lines.specs.declared.told.Told.TheVariants.{Wrote, Hard, Flushed, Refused}
+use Rattle.told_lines.specs.declared.told.Told.TheVariants.{Wrote, Hard, Flushed, Async, Idle, Refused}
 use Rattle.told_lines.specs.Told.{FitsLine, IsFullAnswer, Logged, MayBeFull, SomeAnswer, SomeTold, TellsAll, TellsFrom, behind_or, entries_from, entries_of, entry_at, entry_of, insert_by_start, reserved_by, sorted_by_start}
 use Rattle.told_lines.specs.Rooms.{all_rooms_asked, capacity_of, room_asked, rooms_asked}
 use Rattle.run_laws.specs.Ended.{HasTakenIn, IsClosedLog, logged_at_end}
 use Rattle.run_laws.proofs.RunOrder.{told_order}
 use Rattle.run_laws.proofs.RunTells.{run_tells}
+use Rattle.run_laws.proofs.WritableLines.{AllAskWritable, AskWritable, LineAsksWritable, script_writable}
 
 -- what entries take up does not hang on their order
 rooms_insert : (size : ℕ) (e : Entry) (es : List Entry)
@@ -52,118 +56,135 @@ rooms_sorted size (e ∷ es) = omega (
 
 module _ (size pass : ℕ) where
   -- a line takes up no more than it asks for
-  room_taken : (value : Record) (start : Option Lsn)
+  room_taken : (value : Record) (start : Option Lsn) → AsksWritable (Insert value)
       → rooms_of size (option_to_list (entry_at size pass value start)) ≤ room_asked (Insert value)
-  room_taken value None = omega arith
-  room_taken value (Some start) = omega arith
+  room_taken value None writable = omega arith
+  room_taken value (Some start) writable =
+      omega (arith, room_at-inserted size (position_of size start.0) value writable)
 
-  line_takes : (asked : Asked) (told : Told)
+  line_takes : (asked : Asked) (told : Told) → AsksWritable asked
       → rooms_of size (option_to_list (entry_of size pass asked told)) ≤ room_asked asked
-  line_takes (Insert value) told = room_taken value (reserved_by told)
-  line_takes (Commit value) told = room_taken value (reserved_by told)
-  line_takes Flush told = omega arith
+  line_takes (Insert value) told writable = room_taken value (reserved_by told) writable
+  line_takes (Commit value) told writable = room_taken value (reserved_by told) writable
+  line_takes Flush told writable = omega arith
+  line_takes (CommitAsync value) told writable = room_taken value (reserved_by told) writable
+  line_takes WriteBehind told writable = omega arith
 
-  lines_take : (lines : List AskedLine) (told : List Told)
+  lines_take : (lines : List AskedLine) (told : List Told) → AskWritable lines
       → rooms_of size (entries_of size pass lines told) ≤ rooms_asked lines
-  lines_take [] told = omega arith
-  lines_take (line ∷ lines) [] = omega arith
-  lines_take (line ∷ lines) (answer ∷ told) = omega (
+  lines_take [] told writable = omega arith
+  lines_take (line ∷ lines) [] writable = omega arith
+  lines_take (line ∷ lines) (answer ∷ told) writable = omega (
     arith,
     rooms_of-append size (option_to_list (entry_of size pass line.asked answer))
         (entries_of size pass lines told),
-    line_takes line.asked answer,
-    lines_take lines told,
+    line_takes line.asked answer (All-head LineAsksWritable line lines writable),
+    lines_take lines told (All-tail LineAsksWritable line lines writable),
   )
 
 all_take : (size pass : ℕ) (script : List (List AskedLine)) (lists : List (List Told))
+    → AllAskWritable script
     → rooms_of size (entries_from size pass script lists) ≤ all_rooms_asked script
-all_take size pass [] lists = omega arith
-all_take size pass (lines ∷ script) [] = omega arith
-all_take size pass (lines ∷ script) (told ∷ lists) = omega (
+all_take size pass [] lists writable = omega arith
+all_take size pass (lines ∷ script) [] writable = omega arith
+all_take size pass (lines ∷ script) (told ∷ lists) writable = omega (
   arith,
   rooms_of-append size (entries_of size pass lines told)
       (entries_from size (pass + 1) script lists),
-  lines_take size pass lines told,
-  all_take size (pass + 1) script lists,
+  lines_take size pass lines told (All-head AskWritable lines script writable),
+  all_take size (pass + 1) script lists (All-tail AskWritable lines script writable),
 )
 
 module _ (logged : Logged) where
   -- a front of the order and the record together have no room
   record_exceeds : (pass behind : ℕ) (value : Record) (free : ℕ)
-      → MayBeFull logged pass behind value free
+      → AsksWritable (Insert value) → MayBeFull logged pass behind value free
       → logged.capacity < rooms_of logged.size logged.order + room_asked (Insert value)
-  record_exceeds pass behind value free full =
+  record_exceeds pass behind value free writable full =
       let front = take full.front logged.order in
       let fewer : rooms_of logged.size front ≤ rooms_of logged.size logged.order =
       sum_by-take-le (λ (e : Entry). room_at logged.size e.start e.value) logged.order full.front in
-      let short : free < room_asked (Insert value) = full.short in
+      let room = room_at-inserted logged.size (end_position logged.size front) value writable in
+      let short : free < room_asked (Insert value) = omega (arith, room, full.short) in
       omega (arith, fewer, short, full.left)
 
   -- a line that found the log full asks for more than is left, and takes none
-  line_exceeds : (pass behind : ℕ) (asked : Asked) (told : Told)
+  line_exceeds : (pass behind : ℕ) (asked : Asked) (told : Told) → AsksWritable asked
       → FitsLine logged pass behind asked told → IsFullAnswer told
       → logged.capacity
       + rooms_of logged.size (option_to_list (entry_of logged.size pass asked told))
       < rooms_of logged.size logged.order + room_asked asked
-  line_exceeds pass behind asked (Wrote start end) fits full = absurd full
-  line_exceeds pass behind asked (Hard start end moment) fits full = absurd full
-  line_exceeds pass behind asked (Flushed upto moment) fits full = absurd full
-  line_exceeds pass behind asked (Refused (Disk faults) reserved) fits full = absurd full
-  line_exceeds pass behind asked (Refused (Down faults) reserved) fits full = absurd full
-  line_exceeds pass behind (Insert value) (Refused (Full free) None) fits full =
-      omega (arith, record_exceeds pass behind value free fits)
-  line_exceeds pass behind (Insert value) (Refused (Full free) (Some start)) fits full =
+  line_exceeds pass behind asked (Wrote start end) writable fits full = absurd full
+  line_exceeds pass behind asked (Hard start end moment) writable fits full = absurd full
+  line_exceeds pass behind asked (Flushed upto moment) writable fits full = absurd full
+  line_exceeds pass behind asked (Async start end) writable fits full = absurd full
+  line_exceeds pass behind asked (Idle upto) writable fits full = absurd full
+  line_exceeds pass behind asked (Refused (Disk faults) reserved) writable fits full = absurd full
+  line_exceeds pass behind asked (Refused (Down faults) reserved) writable fits full = absurd full
+  line_exceeds pass behind (Insert value) (Refused (Full free) None) writable fits full =
+      omega (arith, record_exceeds pass behind value free writable fits)
+  line_exceeds pass behind (Insert value) (Refused (Full free) (Some start)) writable fits full =
       absurd fits
-  line_exceeds pass behind (Commit value) (Refused (Full free) None) fits full =
-      omega (arith, record_exceeds pass behind value free fits)
-  line_exceeds pass behind (Commit value) (Refused (Full free) (Some start)) fits full =
+  line_exceeds pass behind (Commit value) (Refused (Full free) None) writable fits full =
+      omega (arith, record_exceeds pass behind value free writable fits)
+  line_exceeds pass behind (Commit value) (Refused (Full free) (Some start)) writable fits full =
       absurd fits
-  line_exceeds pass behind Flush (Refused (Full free) reserved) fits full = absurd fits
+  line_exceeds pass behind Flush (Refused (Full free) reserved) writable fits full = absurd fits
+  line_exceeds pass behind (CommitAsync value) (Refused (Full free) None) writable fits full =
+      omega (arith, record_exceeds pass behind value free writable fits)
+  line_exceeds pass behind (CommitAsync value) (Refused (Full free) (Some start)) writable fits
+      full =
+      absurd fits
+  line_exceeds pass behind WriteBehind (Refused (Full free) reserved) writable fits full =
+      absurd fits
 
-  lines_exceed : (pass behind : ℕ) (lines : List AskedLine) (told : List Told)
+  lines_exceed : (pass behind : ℕ) (lines : List AskedLine) (told : List Told) → AskWritable lines
       → TellsFrom logged pass behind lines told → SomeAnswer IsFullAnswer told
       → logged.capacity + rooms_of logged.size (entries_of logged.size pass lines told)
       < rooms_of logged.size logged.order + rooms_asked lines
-  lines_exceed pass behind [] [] tells full = absurd full
-  lines_exceed pass behind [] (answer ∷ told) tells full = absurd tells
-  lines_exceed pass behind (line ∷ lines) [] tells full = absurd tells
-  lines_exceed pass behind (line ∷ lines) (answer ∷ told) tells (inl here) = omega (
+  lines_exceed pass behind [] [] writable tells full = absurd full
+  lines_exceed pass behind [] (answer ∷ told) writable tells full = absurd tells
+  lines_exceed pass behind (line ∷ lines) [] writable tells full = absurd tells
+  lines_exceed pass behind (line ∷ lines) (answer ∷ told) writable tells (inl here) = omega (
     arith,
     rooms_of-append logged.size (option_to_list (entry_of logged.size pass line.asked answer))
         (entries_of logged.size pass lines told),
-    line_exceeds pass behind line.asked answer tells.0 here,
-    lines_take logged.size pass lines told,
+    line_exceeds pass behind line.asked answer (All-head LineAsksWritable line lines writable)
+        tells.0 here,
+    lines_take logged.size pass lines told (All-tail LineAsksWritable line lines writable),
   )
-  lines_exceed pass behind (line ∷ lines) (answer ∷ told) tells (inr later) = omega (
+  lines_exceed pass behind (line ∷ lines) (answer ∷ told) writable tells (inr later) = omega (
     arith,
     rooms_of-append logged.size (option_to_list (entry_of logged.size pass line.asked answer))
         (entries_of logged.size pass lines told),
-    line_takes logged.size pass line.asked answer,
+    line_takes logged.size pass line.asked answer
+        (All-head LineAsksWritable line lines writable),
     lines_exceed pass
         (behind_or logged.size behind (entry_of logged.size pass line.asked answer)) lines told
-        tells.1 later,
+        (All-tail LineAsksWritable line lines writable) tells.1 later,
   )
 
   all_exceed : (pass : ℕ) (script : List (List AskedLine)) (lists : List (List Told))
-      → TellsAll logged pass script lists → SomeTold IsFullAnswer lists
+      → AllAskWritable script → TellsAll logged pass script lists → SomeTold IsFullAnswer lists
       → logged.capacity + rooms_of logged.size (entries_from logged.size pass script lists)
       < rooms_of logged.size logged.order + all_rooms_asked script
-  all_exceed pass [] [] tells full = absurd full
-  all_exceed pass [] (told ∷ lists) tells full = absurd tells
-  all_exceed pass (lines ∷ script) [] tells full = absurd tells
-  all_exceed pass (lines ∷ script) (told ∷ lists) tells (inl here) = omega (
+  all_exceed pass [] [] writable tells full = absurd full
+  all_exceed pass [] (told ∷ lists) writable tells full = absurd tells
+  all_exceed pass (lines ∷ script) [] writable tells full = absurd tells
+  all_exceed pass (lines ∷ script) (told ∷ lists) writable tells (inl here) = omega (
     arith,
     rooms_of-append logged.size (entries_of logged.size pass lines told)
         (entries_from logged.size (pass + 1) script lists),
-    lines_exceed pass (first_position logged.size) lines told tells.0 here,
-    all_take logged.size (pass + 1) script lists,
+    lines_exceed pass (first_position logged.size) lines told
+        (All-head AskWritable lines script writable) tells.0 here,
+    all_take logged.size (pass + 1) script lists (All-tail AskWritable lines script writable),
   )
-  all_exceed pass (lines ∷ script) (told ∷ lists) tells (inr later) = omega (
+  all_exceed pass (lines ∷ script) (told ∷ lists) writable tells (inr later) = omega (
     arith,
     rooms_of-append logged.size (entries_of logged.size pass lines told)
         (entries_from logged.size (pass + 1) script lists),
-    lines_take logged.size pass lines told,
-    all_exceed (pass + 1) script lists tells.1 later,
+    lines_take logged.size pass lines told (All-head AskWritable lines script writable),
+    all_exceed (pass + 1) script lists (All-tail AskWritable lines script writable) tells.1 later,
   )
 
 -- some count that is no less than that of a fault, where there is one
@@ -185,4 +206,10 @@ too_much_asked opening order v c script lists taken full =
     let same : rooms_of size (entries_from size 1 script lists) ≡ rooms_of size order =
     sym (rooms_sorted size (entries_from size 1 script lists))
     ∙ ap (rooms_of size) (told_order opening order v c script lists taken) in
-    omega (arith, same, all_exceed (logged_at_end opening order last.0) 1 script lists tells full)
+    let writable = script_writable size (log_limit opening.setup) 1 script lists taken.others
+    taken.played in
+    omega (
+      arith,
+      same,
+      all_exceed (logged_at_end opening order last.0) 1 script lists writable tells full,
+    )

@@ -1,14 +1,14 @@
 -- What a line adds to its pass's log, and what its pass knows then, stays behind later lines.
-use Rattle.std.proofs.Common.{ℕ, All, List, [], ◌∷◌, Some, None, subst, sym}
+use Rattle.std.proofs.Common.{◌≡◌, ℕ, ◌≤◌, All, List, [], ◌∷◌, Some, None, ap, subst, sym, arith}
 use Rattle.wal_types.specs.declared.answers.Cause.TheVariants.{Full, Disk, Down}
 use Rattle.wal_types.specs.declared.record.Record.{Record}
-use Rattle.wal_script.specs.Asked.{Asked, AskedLine, Insert, Commit, Flush}
+use Rattle.wal_script.specs.Asked.{Asked, AskedLine, Insert, Commit, Flush, CommitAsync, WriteBehind}
 use Rattle.wal_core.specs.Views.{Stop, FlushPromise}
 use Rattle.told_lines.specs.declared.told.Told.{Told}
-use Rattle.told_lines.specs.declared.told.Told.TheVariants.{Wrote, Hard, Flushed, Refused}
+use Rattle.told_lines.specs.declared.told.Told.TheVariants.{Wrote, Hard, Flushed, Async, Idle, Refused}
 use Rattle.told_lines.proofs.AllLaws.{parts_all}
-use Rattle.wal_core.specs.PassLogs.{PassLog}
-use Rattle.run_laws.specs.Played.{AddsFull, KnowsFault, Leaves, PassState, PlaysLines, AddsPromise, Reserves}
+use Rattle.wal_core.specs.PassLogs.{PassLog, log_with_promise}
+use Rattle.run_laws.specs.Played.{AddsFull, KnowsFault, Leaves, PassState, PlaysLines, Reserves}
 use Rattle.run_laws.proofs.LineFaults.{down_known}
 
 module _ (size limit pass : ℕ) where
@@ -23,6 +23,14 @@ module _ (size limit pass : ℕ) where
       (down_known size limit pass line.asked faults before plays.0
       (subst (λ (t : Told). Leaves size limit pass line.asked t before plays.0)
       ((plays.1).again faults knows) (plays.1).leaves))
+
+  pub lines_see : (lines : List AskedLine) (told : List Told) (before after : PassState)
+      → PlaysLines size limit pass before lines told after → before.seen ≤ after.seen
+  lines_see [] [] before after plays = omega (arith, ap (λ (s : PassState). s.seen) plays)
+  lines_see [] (answer ∷ told) before after plays = absurd plays
+  lines_see (line ∷ lines) [] before after plays = absurd plays
+  lines_see (line ∷ lines) (answer ∷ told) before after plays =
+      omega (arith, (plays.1).sees, lines_see lines told plays.0 after plays.2)
 
   module _ (P : Stop → Type 0) (Q : FlushPromise → Type 0) where
     -- this holds of each place at which the log was full, and that of each promise
@@ -39,18 +47,20 @@ module _ (size limit pass : ℕ) where
         let h = subst Held f.log_is held in
         ((parts_all P before.stops _ h.0).0, h.1)
 
-    pub held_promising : (asked upto moment : ℕ) (before after : PassLog)
-        → AddsPromise size limit pass asked upto moment before after → Held after → Held before
-    held_promising asked upto moment before after p held =
-        let h = subst Held p.log_is held in
+    held_promising : (upto moment : ℕ) (before after : PassLog)
+        → after ≡ log_with_promise upto moment before → Held after → Held before
+    held_promising upto moment before after log_is held =
+        let h = subst Held log_is held in
         (h.0, (parts_all Q before.promises _ h.1).0)
 
-    line_held : (asked : Asked) (told : Told) (before after : PassState)
+    pub line_held : (asked : Asked) (told : Told) (before after : PassState)
         → Leaves size limit pass asked told before after → Held after.log → Held before.log
     line_held (Insert value) (Wrote start end) before after l held =
         held_reserving value start.0 before.log after.log l.reserved held
     line_held (Insert value) (Hard start end moment) before after l held = absurd l
     line_held (Insert value) (Flushed upto moment) before after l held = absurd l
+    line_held (Insert value) (Async start end) before after l held = absurd l
+    line_held (Insert value) (Idle upto) before after l held = absurd l
     line_held (Insert value) (Refused (Full free) None) before after l held =
         held_full value free before.log after.log l held
     line_held (Insert value) (Refused (Full free) (Some start)) before after l held = absurd l
@@ -64,8 +74,10 @@ module _ (size limit pass : ℕ) where
     line_held (Commit value) (Wrote start end) before after l held = absurd l
     line_held (Commit value) (Hard start end moment) before after l held =
         held_reserving value start.0 before.log l.between (l.reserved).reserved
-        (held_promising end.0 l.upto moment l.between after.log l.promised held)
+        (held_promising l.upto moment l.between after.log (l.promised).log_is held)
     line_held (Commit value) (Flushed upto moment) before after l held = absurd l
+    line_held (Commit value) (Async start end) before after l held = absurd l
+    line_held (Commit value) (Idle upto) before after l held = absurd l
     line_held (Commit value) (Refused (Full free) None) before after l held =
         held_full value free before.log after.log l held
     line_held (Commit value) (Refused (Full free) (Some start)) before after l held = absurd l
@@ -79,12 +91,41 @@ module _ (size limit pass : ℕ) where
     line_held Flush (Wrote start end) before after l held = absurd l
     line_held Flush (Hard start end moment) before after l held = absurd l
     line_held Flush (Flushed upto moment) before after l held =
-        held_promising _ upto.0 moment before.log after.log l held
+        held_promising upto.0 moment before.log after.log l.log_is held
+    line_held Flush (Async start end) before after l held = absurd l
+    line_held Flush (Idle upto) before after l held = absurd l
     line_held Flush (Refused (Full free) reserved) before after l held = absurd l
     line_held Flush (Refused (Disk faults) None) before after l held = subst Held l.0 held
     line_held Flush (Refused (Disk faults) (Some start)) before after l held = absurd l
     line_held Flush (Refused (Down faults) None) before after l held = subst Held l.0 held
     line_held Flush (Refused (Down faults) (Some start)) before after l held = absurd l
+    line_held (CommitAsync value) (Wrote start end) before after l held = absurd l
+    line_held (CommitAsync value) (Hard start end moment) before after l held = absurd l
+    line_held (CommitAsync value) (Flushed upto moment) before after l held = absurd l
+    line_held (CommitAsync value) (Async start end) before after l held =
+        held_reserving value start.0 before.log after.log (l.reserved).reserved held
+    line_held (CommitAsync value) (Idle upto) before after l held = absurd l
+    line_held (CommitAsync value) (Refused (Full free) None) before after l held =
+        held_full value free before.log after.log l held
+    line_held (CommitAsync value) (Refused (Full free) (Some start)) before after l held = absurd l
+    line_held (CommitAsync value) (Refused (Disk faults) None) before after l held = absurd l
+    line_held (CommitAsync value) (Refused (Disk faults) (Some start)) before after l held =
+        held_reserving value start.0 before.log after.log l.0 held
+    line_held (CommitAsync value) (Refused (Down faults) None) before after l held =
+        subst Held l.0 held
+    line_held (CommitAsync value) (Refused (Down faults) (Some start)) before after l held =
+        held_reserving value start.0 before.log after.log l.0 held
+    line_held WriteBehind (Wrote start end) before after l held = absurd l
+    line_held WriteBehind (Hard start end moment) before after l held = absurd l
+    line_held WriteBehind (Flushed upto moment) before after l held =
+        held_promising upto.0 moment before.log after.log l.log_is held
+    line_held WriteBehind (Async start end) before after l held = absurd l
+    line_held WriteBehind (Idle upto) before after l held = subst Held l.log_is held
+    line_held WriteBehind (Refused (Full free) reserved) before after l held = absurd l
+    line_held WriteBehind (Refused (Disk faults) None) before after l held = subst Held l.0 held
+    line_held WriteBehind (Refused (Disk faults) (Some start)) before after l held = absurd l
+    line_held WriteBehind (Refused (Down faults) None) before after l held = subst Held l.0 held
+    line_held WriteBehind (Refused (Down faults) (Some start)) before after l held = absurd l
 
     pub lines_held : (lines : List AskedLine) (told : List Told) (before after : PassState)
         → PlaysLines size limit pass before lines told after → Held after.log → Held before.log

@@ -14,6 +14,7 @@ pub mod LinePromises
 pub mod LateLines
 pub mod RunCrashes
 pub mod RefusedLines
+pub mod WritableLines
 pub mod FullScripts
 pub mod LastFlush
 pub mod LineGrowth
@@ -21,3 +22,4 @@ pub mod MomentsTold
 pub mod ClosedLogs
 pub mod OneFault
 pub mod ClosedRuns
+pub mod CatchingUp

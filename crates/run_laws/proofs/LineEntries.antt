@@ -7,9 +7,9 @@ use Rattle.wal_types.specs.declared.answers.Cause.TheVariants.{Full, Disk, Down}
 use Rattle.wal_types.specs.declared.lsn.Lsn.{Lsn}
 use Rattle.wal_types.specs.declared.record.Record.{Record}
 use Rattle.wal_page.specs.Order.{Entry}
-use Rattle.wal_script.specs.Asked.{Asked, AskedLine, Insert, Commit, Flush}
+use Rattle.wal_script.specs.Asked.{Asked, AskedLine, Insert, Commit, Flush, CommitAsync, WriteBehind}
 use Rattle.told_lines.specs.declared.told.Told.{Told}
-use Rattle.told_lines.specs.declared.told.Told.TheVariants.{Wrote, Hard, Flushed, Refused}
+use Rattle.told_lines.specs.declared.told.Told.TheVariants.{Wrote, Hard, Flushed, Async, Idle, Refused}
 use Rattle.told_lines.specs.Told.{entries_of, entry_at, entry_of}
 use Rattle.wal_core.specs.PassLogs.{PassLog}
 use Rattle.run_laws.specs.Played.{Leaves, PassState, PlaysLines, Reserves}
@@ -39,6 +39,8 @@ module _ (size limit pass : ℕ) (valid : IsSegmentSize size) where
       reserved_entry value start before.log after.log l.reserved
   line_entries (Insert value) (Hard start end moment) before after l = absurd l
   line_entries (Insert value) (Flushed upto moment) before after l = absurd l
+  line_entries (Insert value) (Async start end) before after l = absurd l
+  line_entries (Insert value) (Idle upto) before after l = absurd l
   line_entries (Insert value) (Refused (Full free) None) before after l =
       same_entries before.log after.log (ap (λ (l : PassLog). l.entries) l.log_is)
   line_entries (Insert value) (Refused (Full free) (Some start)) before after l = absurd l
@@ -54,6 +56,8 @@ module _ (size limit pass : ℕ) (valid : IsSegmentSize size) where
       ap (λ (l : PassLog). l.entries) (l.promised).log_is
       ∙ reserved_entry value start before.log l.between (l.reserved).reserved
   line_entries (Commit value) (Flushed upto moment) before after l = absurd l
+  line_entries (Commit value) (Async start end) before after l = absurd l
+  line_entries (Commit value) (Idle upto) before after l = absurd l
   line_entries (Commit value) (Refused (Full free) None) before after l =
       same_entries before.log after.log (ap (λ (l : PassLog). l.entries) l.log_is)
   line_entries (Commit value) (Refused (Full free) (Some start)) before after l = absurd l
@@ -68,6 +72,8 @@ module _ (size limit pass : ℕ) (valid : IsSegmentSize size) where
   line_entries Flush (Hard start end moment) before after l = absurd l
   line_entries Flush (Flushed upto moment) before after l =
       same_entries before.log after.log (ap (λ (l : PassLog). l.entries) l.log_is)
+  line_entries Flush (Async start end) before after l = absurd l
+  line_entries Flush (Idle upto) before after l = absurd l
   line_entries Flush (Refused (Full free) reserved) before after l = absurd l
   line_entries Flush (Refused (Disk faults) None) before after l =
       same_entries before.log after.log (ap (λ (l : PassLog). l.entries) l.0)
@@ -75,6 +81,36 @@ module _ (size limit pass : ℕ) (valid : IsSegmentSize size) where
   line_entries Flush (Refused (Down faults) None) before after l =
       same_entries before.log after.log (ap (λ (l : PassLog). l.entries) l.0)
   line_entries Flush (Refused (Down faults) (Some start)) before after l = absurd l
+  line_entries (CommitAsync value) (Wrote start end) before after l = absurd l
+  line_entries (CommitAsync value) (Hard start end moment) before after l = absurd l
+  line_entries (CommitAsync value) (Flushed upto moment) before after l = absurd l
+  line_entries (CommitAsync value) (Async start end) before after l =
+      reserved_entry value start before.log after.log (l.reserved).reserved
+  line_entries (CommitAsync value) (Idle upto) before after l = absurd l
+  line_entries (CommitAsync value) (Refused (Full free) None) before after l =
+      same_entries before.log after.log (ap (λ (l : PassLog). l.entries) l.log_is)
+  line_entries (CommitAsync value) (Refused (Full free) (Some start)) before after l = absurd l
+  line_entries (CommitAsync value) (Refused (Disk faults) None) before after l = absurd l
+  line_entries (CommitAsync value) (Refused (Disk faults) (Some start)) before after l =
+      reserved_entry value start before.log after.log l.0
+  line_entries (CommitAsync value) (Refused (Down faults) None) before after l =
+      same_entries before.log after.log (ap (λ (l : PassLog). l.entries) l.0)
+  line_entries (CommitAsync value) (Refused (Down faults) (Some start)) before after l =
+      reserved_entry value start before.log after.log l.0
+  line_entries WriteBehind (Wrote start end) before after l = absurd l
+  line_entries WriteBehind (Hard start end moment) before after l = absurd l
+  line_entries WriteBehind (Flushed upto moment) before after l =
+      same_entries before.log after.log (ap (λ (l : PassLog). l.entries) l.log_is)
+  line_entries WriteBehind (Async start end) before after l = absurd l
+  line_entries WriteBehind (Idle upto) before after l =
+      same_entries before.log after.log (ap (λ (l : PassLog). l.entries) l.log_is)
+  line_entries WriteBehind (Refused (Full free) reserved) before after l = absurd l
+  line_entries WriteBehind (Refused (Disk faults) None) before after l =
+      same_entries before.log after.log (ap (λ (l : PassLog). l.entries) l.0)
+  line_entries WriteBehind (Refused (Disk faults) (Some start)) before after l = absurd l
+  line_entries WriteBehind (Refused (Down faults) None) before after l =
+      same_entries before.log after.log (ap (λ (l : PassLog). l.entries) l.0)
+  line_entries WriteBehind (Refused (Down faults) (Some start)) before after l = absurd l
 
   pub lines_entries : (lines : List AskedLine) (told : List Told) (before after : PassState)
       → PlaysLines size limit pass before lines told after

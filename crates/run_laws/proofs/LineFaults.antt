@@ -1,9 +1,9 @@
 -- Once a pass knows that the disk failed, each line is told so.
 use Rattle.std.proofs.Common.{ℕ, ◌+◌, List, [], ◌∷◌, Some, None, subst}
 use Rattle.wal_types.specs.declared.answers.Cause.TheVariants.{Full, Disk, Down}
-use Rattle.wal_script.specs.Asked.{Asked, AskedLine, Insert, Commit, Flush}
+use Rattle.wal_script.specs.Asked.{Asked, AskedLine, Insert, Commit, Flush, CommitAsync, WriteBehind}
 use Rattle.told_lines.specs.declared.told.Told.{Told}
-use Rattle.told_lines.specs.declared.told.Told.TheVariants.{Wrote, Hard, Flushed, Refused}
+use Rattle.told_lines.specs.declared.told.Told.TheVariants.{Wrote, Hard, Flushed, Async, Idle, Refused}
 use Rattle.told_lines.specs.Told.{AllDown, EachStaysDown, StaysDown}
 use Rattle.wal_core.specs.Words.{Opening, log_limit}
 use Rattle.wal_core.specs.Views.{View}
@@ -18,6 +18,8 @@ module _ (size limit pass : ℕ) where
   down_known (Insert value) faults before after l = l.1
   down_known (Commit value) faults before after l = l.1
   down_known Flush faults before after l = l.1
+  down_known (CommitAsync value) faults before after l = l.1
+  down_known WriteBehind faults before after l = l.1
 
   pub lines_down : (faults : ℕ) (lines : List AskedLine) (told : List Told)
       (before after : PassState) → PlaysLines size limit pass before lines told after
@@ -41,6 +43,8 @@ module _ (size limit pass : ℕ) where
   stays_behind asked (Wrote start end) others before mid l stays down = stays
   stays_behind asked (Hard start end moment) others before mid l stays down = stays
   stays_behind asked (Flushed upto moment) others before mid l stays down = stays
+  stays_behind asked (Async start end) others before mid l stays down = stays
+  stays_behind asked (Idle upto) others before mid l stays down = stays
   stays_behind asked (Refused (Full free) reserved) others before mid l stays down = stays
   stays_behind (Insert value) (Refused (Disk faults) None) others before mid l stays down =
       absurd l
@@ -62,6 +66,18 @@ module _ (size limit pass : ℕ) where
       down faults l.1
   stays_behind Flush (Refused (Down faults) None) others before mid l stays down = down faults l.1
   stays_behind Flush (Refused (Down faults) (Some start)) others before mid l stays down = absurd l
+  stays_behind (CommitAsync value) (Refused (Disk faults) None) others before mid l stays down =
+      absurd l
+  stays_behind (CommitAsync value) (Refused (Disk faults) (Some start)) others before mid l stays down =
+      down faults l.1
+  stays_behind (CommitAsync value) (Refused (Down faults) None) others before mid l stays down =
+      down faults l.1
+  stays_behind (CommitAsync value) (Refused (Down faults) (Some start)) others before mid l stays down =
+      down faults l.1
+  stays_behind WriteBehind (Refused (Disk faults) None) others before mid l stays down = down faults l.1
+  stays_behind WriteBehind (Refused (Disk faults) (Some start)) others before mid l stays down = absurd l
+  stays_behind WriteBehind (Refused (Down faults) None) others before mid l stays down = down faults l.1
+  stays_behind WriteBehind (Refused (Down faults) (Some start)) others before mid l stays down = absurd l
 
   pub lines_stay_down : (lines : List AskedLine) (told : List Told) (before after : PassState)
       → PlaysLines size limit pass before lines told after → StaysDown told
@@ -82,7 +98,8 @@ lists_stay_down size limit pass [] (told ∷ lists) others played = absurd playe
 lists_stay_down size limit pass (lines ∷ script) [] others played = absurd played
 lists_stay_down size limit pass (lines ∷ script) (told ∷ lists) [] played = absurd played
 lists_stay_down size limit pass (lines ∷ script) (told ∷ lists) (w ∷ others) played = (
-  lines_stay_down size limit pass lines told state_at_first (pass_state_of w) played.1,
+  lines_stay_down size limit pass lines told (state_at_first (played.1).seen)
+      (pass_state_of w) (played.1).plays,
   lists_stay_down size limit (pass + 1) script lists others played.2,
 )
 

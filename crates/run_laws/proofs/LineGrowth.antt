@@ -1,15 +1,16 @@
 -- What a line adds to its pass's log, by what it is told.
-use Rattle.std.proofs.Common.{◌≡◌, ℕ, ◌≤◌, List, [], ◌∷◌, ◌++◌, Option, Some, None, sym, ap, ◌∙◌, append_assoc, append-nil, arith}
+use Rattle.std.proofs.Common.{◌≡◌, ℕ, ◌≤◌, List, [], ◌∷◌, ◌++◌, Option, Some, None, false, true≢false, sym, ap, ◌∙◌, append_assoc, append-nil, arith}
 use Rattle.wal_types.specs.declared.answers.Cause.{Cause}
 use Rattle.wal_types.specs.declared.answers.Cause.TheVariants.{Full, Disk, Down}
 use Rattle.wal_types.specs.declared.lsn.Lsn.{Lsn}
 use Rattle.wal_types.specs.declared.record.Record.{Record}
 use Rattle.wal_page.specs.Order.{Entry, finish_of}
-use Rattle.wal_script.specs.Asked.{Asked, AskedLine, Insert, Commit, Flush}
+use Rattle.wal_script.specs.Asked.{Asked, AskedLine, Insert, Commit, Flush, CommitAsync, WriteBehind}
 use Rattle.wal_core.specs.Views.{FlushPromise}
 use Rattle.wal_core.specs.Moves.{entry_reserved}
 use Rattle.told_lines.specs.declared.told.Told.{Told}
-use Rattle.told_lines.specs.declared.told.Told.TheVariants.{Wrote, Hard, Flushed, Refused}
+use Rattle.told_lines.specs.declared.told.Told.TheVariants.{Wrote, Hard, Flushed, Async, Idle, Refused}
+use Rattle.told_lines.specs.Moments.{may_repeat}
 use Rattle.wal_core.specs.PassLogs.{PassLog, log_with_entry, log_with_promise}
 use Rattle.run_laws.specs.Played.{Leaves, PassState, PlaysLines, RefusesFlushLine, RefusesRecordLine, Reserves, end_of_own}
 
@@ -33,13 +34,18 @@ pub record SealsEntry (size moment : ℕ) (before after : PassLog) : Type 0 wher
   pub covers : finish_of size entry ≤ upto
   pub log_is : after ≡ log_with_promise upto moment (log_with_entry entry before)
 
--- what an answer says that was added
-abbrev pub Grows : ℕ → Told → PassLog → PassLog → Type 0
-Grows size (Wrote start end) before after = (e : Entry) × (after ≡ log_with_entry e before)
-Grows size (Hard start end moment) before after = SealsEntry size moment before after
-Grows size (Flushed upto moment) before after =
-    (end_of_own size before.entries ≤ upto.0) × (after ≡ log_with_promise upto.0 moment before)
-Grows size (Refused cause reserved) before after = AddsNoPromise before after
+-- what an answer says that was added; a flush covers what the log has, but one behind
+abbrev pub Grows : ℕ → Asked → Told → PassLog → PassLog → Type 0
+Grows size asked (Wrote start end) before after =
+    (e : Entry) × (after ≡ log_with_entry e before)
+Grows size asked (Hard start end moment) before after = SealsEntry size moment before after
+Grows size asked (Flushed upto moment) before after =
+    (may_repeat asked false ≡ false → end_of_own size before.entries ≤ upto.0)
+    × (after ≡ log_with_promise upto.0 moment before)
+Grows size asked (Async start end) before after =
+    (e : Entry) × (after ≡ log_with_entry e before)
+Grows size asked (Idle upto) before after = after ≡ before
+Grows size asked (Refused cause reserved) before after = AddsNoPromise before after
 
 nothing_added : (before after : PassLog) → after.entries ≡ before.entries
     → after.promises ≡ before.promises → AddsNoPromise before after
@@ -86,11 +92,13 @@ module _ (size limit pass : ℕ) where
   flush_refused (Down faults) (Some start) before after l = absurd l
 
   pub line_grows : (asked : Asked) (told : Told) (before after : PassState)
-      → Leaves size limit pass asked told before after → Grows size told before.log after.log
+      → Leaves size limit pass asked told before after → Grows size asked told before.log after.log
   line_grows (Insert value) (Wrote start end) before after l =
       (entry_reserved pass (l.reserved).at value, (l.reserved).log_is)
   line_grows (Insert value) (Hard start end moment) before after l = absurd l
   line_grows (Insert value) (Flushed upto moment) before after l = absurd l
+  line_grows (Insert value) (Async start end) before after l = absurd l
+  line_grows (Insert value) (Idle upto) before after l = absurd l
   line_grows (Insert value) (Refused cause reserved) before after l =
       record_refused value cause reserved before after l
   line_grows (Commit value) (Wrote start end) before after l = absurd l
@@ -102,35 +110,67 @@ module _ (size limit pass : ℕ) where
         ∙ ap (log_with_promise l.upto moment) ((l.reserved).reserved).log_is;
   }
   line_grows (Commit value) (Flushed upto moment) before after l = absurd l
+  line_grows (Commit value) (Async start end) before after l = absurd l
+  line_grows (Commit value) (Idle upto) before after l = absurd l
   line_grows (Commit value) (Refused cause reserved) before after l =
       record_refused value cause reserved before after l
   line_grows Flush (Wrote start end) before after l = absurd l
   line_grows Flush (Hard start end moment) before after l = absurd l
-  line_grows Flush (Flushed upto moment) before after l = (l.reached, l.log_is)
+  line_grows Flush (Flushed upto moment) before after l = ((λ covers. l.reached), l.log_is)
+  line_grows Flush (Async start end) before after l = absurd l
+  line_grows Flush (Idle upto) before after l = absurd l
   line_grows Flush (Refused cause reserved) before after l =
       flush_refused cause reserved before after l
+  line_grows (CommitAsync value) (Wrote start end) before after l = absurd l
+  line_grows (CommitAsync value) (Hard start end moment) before after l = absurd l
+  line_grows (CommitAsync value) (Flushed upto moment) before after l = absurd l
+  line_grows (CommitAsync value) (Async start end) before after l =
+      (entry_reserved pass ((l.reserved).reserved).at value, ((l.reserved).reserved).log_is)
+  line_grows (CommitAsync value) (Idle upto) before after l = absurd l
+  line_grows (CommitAsync value) (Refused cause reserved) before after l =
+      record_refused value cause reserved before after l
+  line_grows WriteBehind (Wrote start end) before after l = absurd l
+  line_grows WriteBehind (Hard start end moment) before after l = absurd l
+  line_grows WriteBehind (Flushed upto moment) before after l =
+      ((λ covers. absurd (true≢false covers)), l.log_is)
+  line_grows WriteBehind (Async start end) before after l = absurd l
+  line_grows WriteBehind (Idle upto) before after l = l.log_is
+  line_grows WriteBehind (Refused cause reserved) before after l =
+      flush_refused cause reserved before after l
 
-  grown : (told : Told) (before after : PassLog) → Grows size told before after
-      → Extends before after
-  grown (Wrote start end) before after g = record {
+  grown : (asked : Asked) (told : Told) (before after : PassLog)
+      → Grows size asked told before after → Extends before after
+  grown asked (Wrote start end) before after g = record {
     entries = g.0 ∷ [];
     promises = [];
     entries_are = ap (λ (l : PassLog). l.entries) g.1;
     promises_are = ap (λ (l : PassLog). l.promises) g.1 ∙ sym (append-nil before.promises);
   }
-  grown (Hard start end moment) before after g = record {
+  grown asked (Hard start end moment) before after g = record {
     entries = g.entry ∷ [];
     promises = _;
     entries_are = ap (λ (l : PassLog). l.entries) g.log_is;
     promises_are = ap (λ (l : PassLog). l.promises) g.log_is;
   }
-  grown (Flushed upto moment) before after g = record {
+  grown asked (Flushed upto moment) before after g = record {
     entries = [];
     promises = _;
     entries_are = ap (λ (l : PassLog). l.entries) g.1 ∙ sym (append-nil before.entries);
     promises_are = ap (λ (l : PassLog). l.promises) g.1;
   }
-  grown (Refused cause reserved) before after g = record {
+  grown asked (Async start end) before after g = record {
+    entries = g.0 ∷ [];
+    promises = [];
+    entries_are = ap (λ (l : PassLog). l.entries) g.1;
+    promises_are = ap (λ (l : PassLog). l.promises) g.1 ∙ sym (append-nil before.promises);
+  }
+  grown asked (Idle upto) before after g = record {
+    entries = [];
+    promises = [];
+    entries_are = ap (λ (l : PassLog). l.entries) g ∙ sym (append-nil before.entries);
+    promises_are = ap (λ (l : PassLog). l.promises) g ∙ sym (append-nil before.promises);
+  }
+  grown asked (Refused cause reserved) before after g = record {
     entries = g.entries;
     promises = [];
     entries_are = g.entries_are;
@@ -151,7 +191,7 @@ module _ (size limit pass : ℕ) where
   lines_extend (line ∷ lines) [] before after plays = absurd plays
   lines_extend (line ∷ lines) (answer ∷ told) before after plays =
       let mid = plays.0 in
-      let first = grown answer before.log mid.log
+      let first = grown line.asked answer before.log mid.log
       (line_grows line.asked answer before mid (plays.1).leaves) in
       let rest = lines_extend lines told mid after plays.2 in
       record {

@@ -1,19 +1,19 @@
 -- What a line tells to be durable is a promise of its pass's log.
 use Rattle.std.proofs.Common.{◌≡◌, ℕ, ◌≤◌, All, List, [], ◌∷◌, inl, inr, length, refl, sym, ap, subst, arith}
 use Rattle.std.proofs.lemmas.List.Elements.{All-head}
-use Rattle.wal_script.specs.Asked.{Asked, AskedLine, Insert, Commit, Flush}
+use Rattle.wal_script.specs.Asked.{Asked, AskedLine, Insert, Commit, Flush, CommitAsync, WriteBehind}
 use Rattle.wal_core.specs.Views.{Stop, FlushPromise}
 use Rattle.told_lines.specs.declared.told.Told.{Told}
-use Rattle.told_lines.specs.declared.told.Told.TheVariants.{Wrote, Hard, Flushed, Refused}
+use Rattle.told_lines.specs.declared.told.Told.TheVariants.{Wrote, Hard, Flushed, Async, Idle, Refused}
 use Rattle.told_lines.specs.Crash.{SaysDurable}
 use Rattle.told_lines.specs.Told.{SomeAnswer}
 use Rattle.told_lines.proofs.AllLaws.{parts_all}
-use Rattle.wal_core.specs.PassLogs.{PassLog}
-use Rattle.run_laws.specs.Played.{Leaves, PassState, PlaysLines, AddsPromise}
+use Rattle.wal_core.specs.PassLogs.{PassLog, log_with_promise}
+use Rattle.run_laws.specs.Played.{Leaves, PassState, PlaysLines}
 use Rattle.run_laws.proofs.LaterLines.{lines_held}
 
 -- nothing is asked of the places at which the log was full
-abbrev Anywhere : Stop → Type 0
+abbrev pub Anywhere : Stop → Type 0
 Anywhere f = Unit {0}
 
 module _ (Q : FlushPromise → Type 0) where
@@ -31,6 +31,8 @@ module _ (Q : FlushPromise → Type 0) where
   Promised (Wrote start end) count = Unit {0}
   Promised (Hard start end moment) count = IsPromisedSo end.0 moment count
   Promised (Flushed upto moment) count = IsPromisedSo upto.0 moment count
+  Promised (Async start end) count = Unit {0}
+  Promised (Idle upto) count = Unit {0}
   Promised (Refused cause reserved) count = Unit {0}
 
   -- one told by a moment, of all below an address
@@ -45,37 +47,46 @@ module _ (Q : FlushPromise → Type 0) where
       (is.promise, is.holds, omega (arith, is.moment_is, says.0), omega (arith, is.reached, says.1))
   answer_promised moment address count (Flushed upto at) is says =
       (is.promise, is.holds, omega (arith, is.moment_is, says.0), omega (arith, is.reached, says.1))
+  answer_promised moment address count (Async start end) is says = absurd says
+  answer_promised moment address count (Idle upto) is says = absurd says
   answer_promised moment address count (Refused cause reserved) is says = absurd says
 
   module _ (size limit pass : ℕ) where
-    newest : (address asked upto moment : ℕ) → address ≤ upto → (before after : PassLog)
-        → AddsPromise size limit pass asked upto moment before after → All Q after.promises
+    newest : (address upto moment : ℕ) → address ≤ upto → (before after : PassLog)
+        → after ≡ log_with_promise upto moment before → All Q after.promises
         → IsPromisedSo address moment (length after.entries)
-    newest address asked upto moment within before after p all =
+    newest address upto moment within before after log_is all =
         let q : FlushPromise =
         record { upto = upto; moment = moment; entries = length before.entries } in
-        let parts = subst (λ (l : PassLog). All Q l.promises) p.log_is all in
+        let parts = subst (λ (l : PassLog). All Q l.promises) log_is all in
         record {
           promise = q;
           holds = All-head Q q [] (parts_all Q before.promises (q ∷ []) parts).1;
           moment_is = refl;
           reached = within;
-          count_is = ap (λ (l : PassLog). length l.entries) (sym p.log_is);
+          count_is = ap (λ (l : PassLog). length l.entries) (sym log_is);
         }
 
     pub line_promised : (asked : Asked) (told : Told) (before after : PassState)
         → Leaves size limit pass asked told before after → All Q (after.log).promises
         → Promised told (length (after.log).entries)
     line_promised asked (Wrote start end) before after l all = tt
+    line_promised asked (Async start end) before after l all = tt
+    line_promised asked (Idle upto) before after l all = tt
     line_promised asked (Refused cause reserved) before after l all = tt
     line_promised (Insert value) (Hard start end moment) before after l all = absurd l
     line_promised (Commit value) (Hard start end moment) before after l all =
-        newest end.0 end.0 l.upto moment (l.promised).reached l.between after.log l.promised all
+        newest end.0 l.upto moment (l.promised).reached l.between after.log (l.promised).log_is all
     line_promised Flush (Hard start end moment) before after l all = absurd l
+    line_promised (CommitAsync value) (Hard start end moment) before after l all = absurd l
+    line_promised WriteBehind (Hard start end moment) before after l all = absurd l
     line_promised (Insert value) (Flushed upto moment) before after l all = absurd l
     line_promised (Commit value) (Flushed upto moment) before after l all = absurd l
     line_promised Flush (Flushed upto moment) before after l all =
-        newest upto.0 _ upto.0 moment (omega arith) before.log after.log l all
+        newest upto.0 upto.0 moment (omega arith) before.log after.log l.log_is all
+    line_promised (CommitAsync value) (Flushed upto moment) before after l all = absurd l
+    line_promised WriteBehind (Flushed upto moment) before after l all =
+        newest upto.0 upto.0 moment (omega arith) before.log after.log l.log_is all
 
     -- the promises behind a line are among those in the end
     pub promises_held : (lines : List AskedLine) (told : List Told) (before after : PassState)

@@ -5,13 +5,13 @@ use Rattle.std.proofs.lemmas.List.Elements.{All-cons, All-head, All-tail}
 use Rattle.std.specs.Prelude.{slice_get, Some}
 use Rattle.byte_position.specs.Position.{end_address_of, first_position}
 use Rattle.wal_page.specs.Order.{Entry, finish_of, position_behind}
-use Rattle.wal_script.specs.Asked.{AskedLine}
+use Rattle.wal_script.specs.Asked.{Asked, AskedLine, Insert, Commit, Flush, CommitAsync, WriteBehind}
 use Rattle.wal_core.specs.Words.{Opening, log_limit}
 use Rattle.wal_core.specs.Views.{FlushPromise, Joined, View}
 use Rattle.wal_core.specs.Moves.{joined_of}
 use Rattle.told_lines.specs.declared.told.Told.{Told}
-use Rattle.told_lines.specs.declared.told.Told.TheVariants.{Wrote, Hard, Flushed, Refused}
-use Rattle.told_lines.specs.Moments.{EachRises, FlushMoment, LastTold, MomentStep, MomentsReach}
+use Rattle.told_lines.specs.declared.told.Told.TheVariants.{Wrote, Hard, Flushed, Async, Idle, Refused}
+use Rattle.told_lines.specs.Moments.{EachRises, FlushMoment, LastTold, MomentStep, MomentsReach, may_repeat}
 use Rattle.told_lines.proofs.AllLaws.{parts_all}
 use Rattle.machine_laws.specs.RisingMoments.{LogsRise, PromisesRise, Rises, RisesAbove, promised_of, with_opening}
 use Rattle.wal_core.specs.PassLogs.{PassLog, log_with_entry, log_with_promise}
@@ -19,6 +19,15 @@ use Rattle.run_laws.specs.Played.{PassState, PlaysLines, behind_last_own, end_of
 use Rattle.run_laws.specs.Ended.{HasTakenIn, PlayedAll}
 use Rattle.run_laws.specs.Latest.{NoneIsLater}
 use Rattle.run_laws.proofs.LineGrowth.{Extends, Grows, line_grows, lines_extend}
+
+-- where a flush may not tell the last moment again, its backend wrote since
+written_since : (asked : Asked) (is_latest : Bool) → may_repeat asked is_latest ≡ false
+    → (is_latest ≡ false) × (may_repeat asked false ≡ false)
+written_since (Insert value) is_latest is = (is, refl)
+written_since (Commit value) is_latest is = (is, refl)
+written_since Flush is_latest is = (is, refl)
+written_since (CommitAsync value) is_latest is = (is, refl)
+written_since WriteBehind is_latest is = absurd (true≢false is)
 
 -- of two that follow each other in a list, what holds of each pair
 pair_at : {X : Type 0} (R : X → X → Type 0) (front behind : List X) (x y : X)
@@ -73,9 +82,9 @@ module _ (opening : Opening) where
     pub counted : newest.entries ≤ length log.entries
     pub behind : last.is_latest ≡ false → newest.entries < length log.entries
 
-  tracks_at_first : Tracks state_at_first.log
+  tracks_at_first : (seen : ℕ) → Tracks (state_at_first seen).log
       (record { moment = opening.moment; is_latest = true })
-  tracks_at_first = record {
+  tracks_at_first seen = record {
     older = [];
     newest = record { upto = size; moment = opening.moment; entries = 0 };
     promises = refl;
@@ -85,8 +94,9 @@ module _ (opening : Opening) where
   }
 
   -- one answer's step, behind which the answer's log is tracked
-  abbrev Steps : LastTold → Told → PassLog → Type 0
-  Steps last told after = (next : LastTold) × MomentStep last told next × Tracks after next
+  abbrev Steps : LastTold → Asked → Told → PassLog → Type 0
+  Steps last asked told after =
+      (next : LastTold) × MomentStep last asked told next × Tracks after next
 
   module _ (before : PassLog) (last : LastTold) (t : Tracks before last) where
     tracks_entry : (e : Entry) → Tracks (log_with_entry e before)
@@ -147,18 +157,20 @@ module _ (opening : Opening) where
         r.rises own.place own.entry (omega (arith, some, own.is_last)) got
         (omega (arith, covers, ends))
 
-    flush_rises : (upto moment : ℕ) (after end : PassLog)
+    flush_rises : (asked : Asked) (upto moment : ℕ) (after end : PassLog)
         → after ≡ log_with_promise upto moment before → Extends after end
         → PromisesRise opening end.entries end.promises
-        → end_of_own (opening.setup).segment_size before.entries ≤ upto
-        → (b : Bool) → last.is_latest ≡ b → FlushMoment b last.moment moment
-    flush_rises upto moment after end is x rise covers true latest =
+        → (may_repeat asked false ≡ false
+        → end_of_own (opening.setup).segment_size before.entries ≤ upto)
+        → (b : Bool) → may_repeat asked last.is_latest ≡ b → FlushMoment b last.moment moment
+    flush_rises asked upto moment after end is x rise covers true again =
         omega (arith, t.moment_is, (next_rises upto moment after end is x rise).never_falls)
-    flush_rises upto moment after end is x rise covers false latest =
+    flush_rises asked upto moment after end is x rise covers false again =
+        let both = written_since asked last.is_latest again in
         omega (
           arith,
           t.moment_is,
-          strictly upto moment after end is x rise covers (t.behind latest),
+          strictly upto moment after end is x rise (covers both.1) (t.behind both.0),
         )
 
   module _ (before after end : PassLog) (x : Extends after end)
@@ -186,24 +198,37 @@ module _ (opening : Opening) where
               (tracks_promise between wrote s upto moment),
         )
 
-    answer_steps : (told : Told) → Grows (opening.setup).segment_size told before after
-        → Steps last told after
-    answer_steps (Wrote start end) g = (
+    answer_steps : (asked : Asked) (told : Told)
+        → Grows (opening.setup).segment_size asked told before after
+        → Steps last asked told after
+    answer_steps asked (Wrote start end) g = (
       record { moment = last.moment; is_latest = false },
       refl,
       subst (λ (l : PassLog). Tracks l (record { moment = last.moment; is_latest = false }))
           (sym g.1) (tracks_entry before last t g.0),
     )
-    answer_steps (Hard start finish moment) g =
+    answer_steps asked (Hard start finish moment) g =
         let both = commit_steps g.entry g.upto moment g.covers g.log_is in
         (record { moment = moment; is_latest = true }, (both.0, refl), both.1)
-    answer_steps (Flushed upto moment) g = (
+    answer_steps asked (Flushed upto moment) g = (
       record { moment = moment; is_latest = true },
-      (flush_rises before last t upto.0 moment after end g.1 x rise g.0 last.is_latest refl, refl),
+      (
+        flush_rises before last t asked upto.0 moment after end g.1 x rise g.0
+            (may_repeat asked last.is_latest) refl,
+        refl,
+      ),
       subst (λ (l : PassLog). Tracks l (record { moment = moment; is_latest = true })) (sym g.1)
           (tracks_promise before last t upto.0 moment),
     )
-    answer_steps (Refused cause reserved) g =
+    answer_steps asked (Async start end) g = (
+      record { moment = last.moment; is_latest = false },
+      refl,
+      subst (λ (l : PassLog). Tracks l (record { moment = last.moment; is_latest = false }))
+          (sym g.1) (tracks_entry before last t g.0),
+    )
+    answer_steps asked (Idle upto) g =
+        (last, refl, subst (λ (l : PassLog). Tracks l last) (sym g) t)
+    answer_steps asked (Refused cause reserved) g =
         let more : length after.entries ≡ length before.entries + length g.entries =
         ap (λ (es : List Entry). length es) g.entries_are
         ∙ length-append before.entries g.entries in (
@@ -228,7 +253,7 @@ module _ (opening : Opening) where
         → PromisesRise opening (after.log).entries (after.log).promises
         → All IsUpto (with_opening opening (after.log).promises)
         → (last : LastTold) → Tracks before.log last
-        → (final : LastTold) × MomentsReach last told final × (final.moment ≤ top)
+        → (final : LastTold) × MomentsReach last lines told final × (final.moment ≤ top)
     lines_rise pass [] [] before after plays rise all last t =
         let here : with_opening opening (after.log).promises ≡ t.older ++ t.newest ∷ [] =
         ap (λ (s : PassState). with_opening opening (s.log).promises) plays ∙ t.promises in
@@ -240,7 +265,7 @@ module _ (opening : Opening) where
     lines_rise pass (line ∷ lines) (answer ∷ told) before after plays rise all last t =
         let mid = plays.0 in
         let x = lines_extend size limit pass lines told mid after plays.2 in
-        let step = answer_steps before.log mid.log after.log x rise last t answer
+        let step = answer_steps before.log mid.log after.log x rise last t line.asked answer
         (line_grows size limit pass line.asked answer before mid (plays.1).leaves) in
         let rest = lines_rise pass lines told mid after plays.2 rise all step.0 step.2 in
         (rest.0, (step.0, step.1, rest.1), rest.2)
@@ -256,7 +281,7 @@ module _ (opening : Opening) where
         (others : List View)
         → PlayedAll (opening.setup).segment_size limit pass script lists others
         → opening.moment ≤ top → All Rise (map joined_of others) → All Upto (map joined_of others)
-        → EachRises opening.moment lists top
+        → EachRises opening.moment script lists top
     lists_rise pass [] [] [] played begun rise upto = tt
     lists_rise pass [] [] (w ∷ others) played begun rise upto = absurd played
     lists_rise pass [] (told ∷ lists) others played begun rise upto = absurd played
@@ -267,10 +292,12 @@ module _ (opening : Opening) where
         let js = map joined_of others in
         let first : FlushPromise =
         record { upto = size; moment = opening.moment; entries = 0 } in (
-          lines_rise pass lines told state_at_first (pass_state_of w) played.1
+          lines_rise pass lines told (state_at_first (played.1).seen) (pass_state_of w)
+              (played.1).plays
               (All-head Rise j js rise)
               (All-cons IsUpto first j.promises begun (All-head Upto j js upto))
-              (record { moment = opening.moment; is_latest = true }) tracks_at_first,
+              (record { moment = opening.moment; is_latest = true })
+              (tracks_at_first (played.1).seen),
           lists_rise (pass + 1) script lists others played.2 begun (All-tail Rise j js rise)
               (All-tail Upto j js upto),
         )
@@ -278,7 +305,7 @@ module _ (opening : Opening) where
 pub run_rises : (opening : Opening) (v : View) (script : List (List AskedLine))
     (lists : List (List Told)) → HasTakenIn opening v script lists
     → LogsRise opening (promised_of v) → (last : ℕ) → NoneIsLater opening last v
-    → EachRises opening.moment lists last
+    → EachRises opening.moment script lists last
 run_rises opening v script lists taken rise last none =
     lists_rise opening (log_limit opening.setup) last 1 script lists taken.others taken.played
     none.begun

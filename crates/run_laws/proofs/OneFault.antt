@@ -2,9 +2,9 @@
 use Rattle.std.proofs.Common.{◌≡◌, ◌≢◌, ℕ, ◌+◌, ◌≤◌, ◌==◌, cond, Bool, true, false, ne_eqb, All, List, [], ◌∷◌, map, Some, None, inl, inr, refl, sym, ap, ◌∙◌, subst, arith}
 use Rattle.std.proofs.lemmas.List.Elements.{All-head, All-tail}
 use Rattle.wal_types.specs.declared.answers.Cause.TheVariants.{Full, Disk, Down}
-use Rattle.wal_script.specs.Asked.{Asked, AskedLine, Insert, Commit, Flush}
+use Rattle.wal_script.specs.Asked.{Asked, AskedLine, Insert, Commit, Flush, CommitAsync, WriteBehind}
 use Rattle.told_lines.specs.declared.told.Told.{Told}
-use Rattle.told_lines.specs.declared.told.Told.TheVariants.{Wrote, Hard, Flushed, Refused}
+use Rattle.told_lines.specs.declared.told.Told.TheVariants.{Wrote, Hard, Flushed, Async, Idle, Refused}
 use Rattle.told_lines.specs.Told.{AllDown, IsDownAnswer, SomeAnswer, SomeTold}
 use Rattle.told_lines.specs.Counts.{TellsOneFault, all_own_faults_of, is_own_fault, own_faults_of}
 use Rattle.wal_page.specs.Order.{Entry}
@@ -46,6 +46,10 @@ module _ (size limit pass : ℕ) where
   refused_knows_disk (Commit value) faults (Some start) before after l = l.1
   refused_knows_disk Flush faults None before after l = l.1
   refused_knows_disk Flush faults (Some start) before after l = absurd l
+  refused_knows_disk (CommitAsync value) faults None before after l = absurd l
+  refused_knows_disk (CommitAsync value) faults (Some start) before after l = l.1
+  refused_knows_disk WriteBehind faults None before after l = l.1
+  refused_knows_disk WriteBehind faults (Some start) before after l = absurd l
 
   refused_knows_down : (asked : Asked) (faults : ℕ) (reserved : _) (before after : PassState)
       → Leaves size limit pass asked (Refused (Down faults) reserved) before after
@@ -56,6 +60,10 @@ module _ (size limit pass : ℕ) where
   refused_knows_down (Commit value) faults (Some start) before after l = l.1
   refused_knows_down Flush faults None before after l = l.1
   refused_knows_down Flush faults (Some start) before after l = absurd l
+  refused_knows_down (CommitAsync value) faults None before after l = l.1
+  refused_knows_down (CommitAsync value) faults (Some start) before after l = l.1
+  refused_knows_down WriteBehind faults None before after l = l.1
+  refused_knows_down WriteBehind faults (Some start) before after l = absurd l
 
   -- where the pass knew a fault, its lines set none
   lines_set_none : (faults : ℕ) (lines : List AskedLine) (told : List Told)
@@ -86,6 +94,10 @@ module _ (size limit pass : ℕ) where
       more = let same = more cause.1 in omega (arith, same)
   own_faults_behind asked (Flushed upto moment) lines told before mid after l cause none plays
       more = let same = more cause.1 in omega (arith, same)
+  own_faults_behind asked (Async start end) lines told before mid after l cause none plays more =
+      let same = more cause.1 in omega (arith, same)
+  own_faults_behind asked (Idle upto) lines told before mid after l cause none plays more =
+      let same = more cause.1 in omega (arith, same)
   own_faults_behind asked (Refused (Full free) reserved) lines told before mid after l cause none
       plays more = let same = more cause.1 in omega (arith, same)
   own_faults_behind asked (Refused (Disk faults) reserved) lines told before mid after l cause
@@ -118,6 +130,8 @@ module _ (size limit pass : ℕ) where
   down_line_knows asked (Wrote start end) before after l down = absurd down
   down_line_knows asked (Hard start end moment) before after l down = absurd down
   down_line_knows asked (Flushed upto moment) before after l down = absurd down
+  down_line_knows asked (Async start end) before after l down = absurd down
+  down_line_knows asked (Idle upto) before after l down = absurd down
   down_line_knows asked (Refused (Full free) reserved) before after l down = absurd down
   down_line_knows asked (Refused (Disk faults) reserved) before after l down = absurd down
   down_line_knows asked (Refused (Down faults) reserved) before after l down =
@@ -149,8 +163,8 @@ all_counted size limit pass [] (told ∷ lists) others played = absurd played
 all_counted size limit pass (lines ∷ script) [] others played = absurd played
 all_counted size limit pass (lines ∷ script) (told ∷ lists) [] played = absurd played
 all_counted size limit pass (lines ∷ script) (told ∷ lists) (w ∷ others) played =
-    let own = own_faults_counted size limit pass lines told state_at_first (pass_state_of w)
-    played.1 refl in
+    let own = own_faults_counted size limit pass lines told (state_at_first (played.1).seen)
+    (pass_state_of w) (played.1).plays refl in
     let more = all_counted size limit (pass + 1) script lists others played.2 in
     omega (arith, own, more)
 
@@ -169,8 +183,8 @@ module _ (R : Type 0) (P : View → Type 0)
       absurd played
   all_down_known size limit pass (lines ∷ script) (told ∷ lists) (w ∷ others) played all
       (inl here) =
-      let knows = down_lines_know size limit pass lines told state_at_first (pass_state_of w)
-      played.1 here in
+      let knows = down_lines_know size limit pass lines told (state_at_first (played.1).seen)
+      (pass_state_of w) (played.1).plays here in
       known w (All-head P w others all) knows.0 knows.1
   all_down_known size limit pass (lines ∷ script) (told ∷ lists) (w ∷ others) played all
       (inr later) =

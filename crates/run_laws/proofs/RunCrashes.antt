@@ -53,8 +53,8 @@ module _ (R : List Entry → FlushPromise → Type 0) where
   all_promised size limit pass moment address (lines ∷ script) (told ∷ lists) (w ∷ others) played
       all (inl here) =
       let es = (w.reserving).entries in
-      let p = lines_promised (R es) size limit pass moment address lines told state_at_first
-      (pass_state_of w) played.1
+      let p = lines_promised (R es) size limit pass moment address lines told
+      (state_at_first (played.1).seen) (pass_state_of w) (played.1).plays
       (All-head (λ (w : View). ArePromises R (joined_of w)) w others all) here in
       (es, p.0, p.1, p.2, p.3)
   all_promised size limit pass moment address (lines ∷ script) (told ∷ lists) (w ∷ others) played
@@ -74,7 +74,8 @@ all_timely opening order t limit valid pass (lines ∷ script) (told ∷ lists) 
     absurd played
 all_timely opening order t limit valid pass (lines ∷ script) (told ∷ lists) (w ∷ others) played
     all = (
-      none_late opening order t limit pass valid lines told state_at_first (pass_state_of w) played.1
+      none_late opening order t limit pass valid lines told
+          (state_at_first (played.1).seen) (pass_state_of w) (played.1).plays
           (All-head (λ (w : View). ArePromises (IsTimely opening order t) (joined_of w)) w others all),
       all_timely opening order t limit valid (pass + 1) script lists others played.2
           (All-tail (λ (w : View). ArePromises (IsTimely opening order t) (joined_of w)) w others all),

@@ -16,7 +16,7 @@ use Rattle.closed_log.specs.Rising.{RiseFrom}
 use Rattle.closed_log.proofs.Risen.{risen}
 use Rattle.told_lines.specs.declared.told.Told.{Told}
 use Rattle.told_lines.specs.Told.{entries_from, entries_of, order_from, sorted_by_start, IsRising, RiseInLineOrder}
-use Rattle.run_laws.specs.Played.{PlaysLines, state_at_first, pass_state_of}
+use Rattle.run_laws.specs.Played.{PlaysAllLines, state_at_first, pass_state_of}
 use Rattle.run_laws.specs.Ended.{HasTakenIn, IsClosedLog, PlayedAll}
 use Rattle.run_laws.proofs.LineEntries.{lines_entries}
 use Rattle.run_laws.proofs.Sorting.{NoneOutside, sorted_under, under_from}
@@ -62,10 +62,11 @@ module _ (size limit : ℕ) (valid : IsSegmentSize size) (order : List Entry) wh
 
   pub told_entries : (pass : ℕ) (lines : List AskedLine) (told : List Told) (w : View)
       → (w.reserving).number ≡ pass
-      → PlaysLines size limit pass state_at_first lines told (pass_state_of w) → IsOfOrder w
+      → PlaysAllLines size limit pass lines told (pass_state_of w) → IsOfOrder w
       → entries_of size pass lines told ≡ entries_under pass order
   told_entries pass lines told w number plays is_of =
-      sym (lines_entries size limit pass valid lines told state_at_first (pass_state_of w) plays)
+      sym (lines_entries size limit pass valid lines told (state_at_first plays.seen)
+      (pass_state_of w) plays.plays)
       ∙ is_of ∙ ap (λ (n : ℕ). entries_under n order) number
 
   all_entries : (pass : ℕ) (script : List (List AskedLine)) (lists : List (List Told))

@@ -32,11 +32,12 @@ AreFilled logged found j =
     All (FrontEndsAt logged.size j.number found logged.order j.entries) j.stops
 
 module _ (logged : Logged) (limit : ℕ) (found : List Entry) where
-  -- a pass of which both hold, and which knows faults that the disk told
+  -- a pass of which both hold, which knows faults that the disk told, and saw what was reserved
   record IsRight (w : View) : Type 0 where
     stops : AreFilled logged found (joined_of w)
     promised : ArePromised logged (joined_of w)
     faulty : (faults : ℕ) → KnowsFault faults (pass_state_of w) → IsFault logged faults
+    seen_low : (w.reserving).seen ≤ end_position logged.size logged.order
 
   all_tell : IsSegmentSize logged.size → IsChained logged.size logged.order
       → limit ≡ first_position logged.size + logged.capacity → (pass : ℕ)
@@ -52,12 +53,12 @@ module _ (logged : Logged) (limit : ℕ) (found : List Entry) where
   all_tell size_is chained limited pass (lines ∷ script) (told ∷ lists) (w ∷ others) played right =
       let here = All-head IsRight w others right in
       let entries = (w.reserving).entries in (
-        tells logged limit pass size_is chained limited found entries lines told state_at_first
-            (pass_state_of w) played.1 refl (
+        tells logged limit pass size_is chained limited found entries lines told
+            (state_at_first (played.1).seen) (pass_state_of w) (played.1).plays refl (
               subst (λ (n : ℕ). All (FrontEndsAt logged.size n found logged.order entries)
                   (w.reserving).stops) played.0 here.stops,
               here.promised,
-            ) here.faulty,
+            ) here.faulty here.seen_low,
         all_tell size_is chained limited (pass + 1) script lists others played.2
             (All-tail IsRight w others right),
       )
@@ -132,6 +133,8 @@ module _ (opening : Opening) (order : List Entry) (v : View) (c : IsClosedLog op
         stops = All-head FilledThere w others stops;
         promised = All-head PromisedThere w others promised;
         faulty = faulty_of w (All-head (IsKnownTo opening v) w others known);
+        seen_low = (let low = ((accounted opening order v c script lists taken).part).seen in
+            omega (arith, low, (All-head (IsKnownTo opening v) w others known).seen));
       })
       (rights others (All-tail (IsKnownTo opening v) w others known)
       (All-tail FilledThere w others stops) (All-tail PromisedThere w others promised))

@@ -12,7 +12,7 @@ use Rattle.wal_core.specs.Sound.{IsSound}
 use Rattle.machine_laws.specs.ClosedLogs.{IsClosed, IsLastPass}
 use Rattle.machine_laws.proofs.ClosingLaws.{closed}
 use Rattle.told_lines.specs.declared.told.Told.{Told}
-use Rattle.run_laws.specs.Played.{KnowsFault, PlaysLines, state_at_first, pass_state_of}
+use Rattle.run_laws.specs.Played.{KnowsFault, PlaysAllLines, pass_state_of}
 use Rattle.run_laws.specs.Ended.{HasTakenIn, IsClosedLog, IsKnownTo, KnowsAtLeast, PlayedAll}
 use Rattle.segment_disk.specs.Tape.{DiskState}
 
@@ -21,12 +21,12 @@ played_push : (size limit pass : ℕ) (script : List (List AskedLine)) (lists : 
     (others : List View) (lines : List AskedLine) (told : List Told) (w : View)
     → PlayedAll size limit pass script lists others
     → (w.reserving).number ≡ pass + length script
-    → PlaysLines size limit (pass + length script) state_at_first lines told (pass_state_of w)
+    → PlaysAllLines size limit (pass + length script) lines told (pass_state_of w)
     → PlayedAll size limit pass (script ++ lines ∷ []) (lists ++ told ∷ []) (others ++ w ∷ [])
 played_push size limit pass [] [] [] lines told w played number plays =
     let here : pass + 0 ≡ pass = omega arith in (
       omega (arith, number),
-      subst (λ (n : ℕ). PlaysLines size limit n state_at_first lines told (pass_state_of w)) here plays,
+      subst (λ (n : ℕ). PlaysAllLines size limit n lines told (pass_state_of w)) here plays,
       tt,
     )
 played_push size limit pass [] [] (x ∷ others) lines told w played number plays = absurd played
@@ -43,7 +43,7 @@ played_push size limit pass (ls ∷ script) (t ∷ lists) (x ∷ others) lines t
       played.1,
       played_push size limit (pass + 1) script lists others lines told w
           played.2 (omega (arith, number))
-          (subst (λ (n : ℕ). PlaysLines size limit n state_at_first lines told (pass_state_of w)) next
+          (subst (λ (n : ℕ). PlaysAllLines size limit n lines told (pass_state_of w)) next
           plays),
     )
 
@@ -64,11 +64,12 @@ pub still_taken_in : (opening : Opening) (v new : View) (script : List (List Ask
     → (new.reserving).number ≡ (v.reserving).number
     → (new.reserving).entries ≡ (v.reserving).entries
     → (new.reserving).joined ≡ (v.reserving).joined
+    → (v.reserving).seen ≤ (new.reserving).seen
     → ((faults : ℕ) → KnowsFault faults (pass_state_of v) → KnowsFault faults (pass_state_of new))
     → ((faults : ℕ) → KnowsFault faults (pass_state_of v)
     → (new.writing).down_set ≡ (v.writing).down_set)
     → HasTakenIn opening new script lists
-still_taken_in opening v new script lists taken number entries joined knows sets_none = record {
+still_taken_in opening v new script lists taken number entries joined sees knows sets_none = record {
   others = taken.others;
   number = number ∙ taken.number;
   none = entries ∙ taken.none;
@@ -79,6 +80,7 @@ still_taken_in opening v new script lists taken number entries joined knows sets
     first_set_none = λ faults k.
         let more = known.kept faults k in
         sets_none more.0 more.2 ∙ known.first_set_none faults k;
+    seen = omega (arith, known.seen, sees);
   }) taken.others taken.known;
   played = taken.played;
 }
@@ -113,8 +115,8 @@ pub one_more_taken_in : (opening : Opening) (v w : View) (script : List (List As
     (lists : List (List Told)) (lines : List AskedLine) (told : List Told)
     → HasTakenIn opening v script lists → (w.reserving).number ≡ 1 + length script
     → (w.reserving).joined ≡ []
-    → PlaysLines (opening.setup).segment_size (log_limit opening.setup) (1 + length script)
-    state_at_first lines told (pass_state_of w)
+    → PlaysAllLines (opening.setup).segment_size (log_limit opening.setup) (1 + length script)
+    lines told (pass_state_of w)
     → ((faults : ℕ) → KnowsFault faults (pass_state_of w) → Rose opening.faults faults)
     → (v.writing).down_set ≡ 0
     → HasTakenIn opening (after_join v w) (script ++ lines ∷ []) (lists ++ told ∷ [])
@@ -134,8 +136,14 @@ one_more_taken_in opening v w script lists lines told taken number alone plays r
                 let more = known.kept faults k in
                 first_joins v w faults more.0 more.1 more.2;
             first_set_none = known.first_set_none;
+            seen = omega (arith, known.seen);
           }) taken.others taken.known)
-          (record { rose = rose; kept = other_joins v w; first_set_none = λ faults k. none });
+          (record {
+            rose = rose;
+            kept = other_joins v w;
+            first_set_none = λ faults k. none;
+            seen = omega arith;
+          });
       played = played_push (opening.setup).segment_size (log_limit opening.setup) 1 script lists
           taken.others lines told w taken.played number plays;
     }

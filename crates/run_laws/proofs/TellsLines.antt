@@ -1,27 +1,28 @@
 -- Lines that were played are told what they may be told.
-use Rattle.std.proofs.Common.{◌≡◌, ℕ, ◌+◌, ◌≤◌, All, List, [], ◌∷◌, ◌++◌, length, take, Option, Some, None, option_to_list, refl, sym, ap, ◌∙◌, subst}
+use Rattle.std.proofs.Common.{◌≡◌, ℕ, ◌+◌, ◌≤◌, All, List, [], ◌∷◌, ◌++◌, length, take, Option, Some, None, option_to_list, refl, sym, ap, ◌∙◌, subst, arith}
 use Rattle.std.proofs.Math.Seq.{take-append_seam}
 use Rattle.std.proofs.lemmas.List.Elements.{All-head}
 use Rattle.byte_position.specs.Geometry.{IsSegmentSize}
 use Rattle.byte_position.specs.Position.{position_of, address_of, end_address_of, first_position}
+use Rattle.byte_position.proofs.EndAddresses.{end_address_of-mono}
 use Rattle.byte_position.proofs.PositionLaws.{position_of-address_of}
 use Rattle.wal_types.specs.declared.answers.Cause.{Cause}
 use Rattle.wal_types.specs.declared.answers.Cause.TheVariants.{Full, Disk, Down}
 use Rattle.wal_types.specs.declared.lsn.Lsn.{Lsn}
 use Rattle.wal_types.specs.declared.record.Record.{Record}
 use Rattle.wal_page.specs.Order.{Entry, IsChained, end_position, position_behind, room_at}
-use Rattle.wal_script.specs.Asked.{Asked, AskedLine, Insert, Commit, Flush}
+use Rattle.wal_script.specs.Asked.{Asked, AskedLine, Insert, Commit, Flush, CommitAsync, WriteBehind}
 use Rattle.wal_core.specs.Views.{Stop, FlushPromise}
 use Rattle.wal_core.specs.Ordered.{FrontEndsAt}
 use Rattle.told_lines.specs.declared.told.Told.{Told}
-use Rattle.told_lines.specs.declared.told.Told.TheVariants.{Wrote, Hard, Flushed, Refused}
+use Rattle.told_lines.specs.declared.told.Told.TheVariants.{Wrote, Hard, Flushed, Async, Idle, Refused}
 use Rattle.told_lines.specs.Told.{FitsLine, IsFault, IsPlaced, Logged, MayRefuseFlush, MayRefuseRecord, TellsFrom, behind_or, entries_of, entry_of}
 use Rattle.told_lines.proofs.AllLaws.{parts_all}
-use Rattle.wal_core.specs.PassLogs.{PassLog}
-use Rattle.run_laws.specs.Played.{KnowsFault, Leaves, PassState, PlaysLines, AddsPromise, RefusesFlushLine, RefusesRecordLine, Reserves, ReservesUpto, behind_last_own, end_of_own}
+use Rattle.wal_core.specs.PassLogs.{PassLog, log_with_promise}
+use Rattle.run_laws.specs.Played.{KnowsFault, Leaves, PassState, PlaysLines, RefusesFlushLine, RefusesRecordLine, Reserves, ReservesUpto, behind_last_own}
 use Rattle.run_laws.proofs.FullLines.{full_cause}
 use Rattle.run_laws.proofs.LineEntries.{line_entries, lines_entries}
-use Rattle.run_laws.proofs.LaterLines.{Held, lines_held, lines_know}
+use Rattle.run_laws.proofs.LaterLines.{Held, lines_held, lines_know, lines_see}
 
 -- the position behind some entries and one more, or none more
 behind_more : (size behind : ℕ) (es : List Entry) (e : Option Entry)
@@ -69,23 +70,21 @@ module _ (logged : Logged) (limit pass : ℕ) (valid : IsSegmentSize logged.size
         (sym (start_position value start before after r.reserved));
   }
 
-  promised : (asked upto moment : ℕ) (before after : PassLog)
-      → AddsPromise logged.size limit pass asked upto moment before after
+  promised : (upto moment : ℕ) (before after : PassLog)
+      → after ≡ log_with_promise upto moment before
       → Held logged.size limit pass Ends IsWithin after
-      → (asked ≤ upto)
-      × (upto ≤ end_address_of logged.size (end_position logged.size logged.order))
-  promised asked upto moment before after p held =
+      → upto ≤ end_address_of logged.size (end_position logged.size logged.order)
+  promised upto moment before after log_is held =
       let more : FlushPromise =
       record { upto = upto; moment = moment; entries = length before.entries } in
-      let all_within = subst (All IsWithin) (ap (λ (l : PassLog). l.promises) p.log_is) held.1 in (
-        p.reached,
-        All-head IsWithin more [] (parts_all IsWithin before.promises (more ∷ []) all_within).1,
-      )
+      let all_within = subst (All IsWithin) (ap (λ (l : PassLog). l.promises) log_is) held.1 in
+      All-head IsWithin more [] (parts_all IsWithin before.promises (more ∷ []) all_within).1
 
   module _ (before after : PassState)
       (held : Held logged.size limit pass Ends IsWithin after.log)
       (faulty : (faults : ℕ) → KnowsFault faults after → IsFault logged faults)
-      (own : take (length (before.log).entries) all ≡ (before.log).entries) where
+      (own : take (length (before.log).entries) all ≡ (before.log).entries)
+      (seen_low : after.seen ≤ end_position logged.size logged.order) where
     abbrev behind : ℕ
     behind = behind_last_own logged.size (first_position logged.size) (before.log).entries
 
@@ -117,28 +116,55 @@ module _ (logged : Logged) (limit pass : ℕ) (valid : IsSegmentSize logged.size
     fits (Insert value) (Wrote start end) l = placed value start end before.log after.log l
     fits (Insert value) (Hard start end moment) l = absurd l
     fits (Insert value) (Flushed upto moment) l = absurd l
+    fits (Insert value) (Async start end) l = absurd l
+    fits (Insert value) (Idle upto) l = absurd l
     fits (Insert value) (Refused cause reserved) l = refuses value cause reserved l
     fits (Commit value) (Wrote start end) l = absurd l
     fits (Commit value) (Hard start end moment) l =
         placed value start end before.log l.between l.reserved
     fits (Commit value) (Flushed upto moment) l = absurd l
+    fits (Commit value) (Async start end) l = absurd l
+    fits (Commit value) (Idle upto) l = absurd l
     fits (Commit value) (Refused cause reserved) l = refuses value cause reserved l
     fits Flush (Wrote start end) l = absurd l
     fits Flush (Hard start end moment) l = absurd l
     fits Flush (Flushed upto moment) l =
-        promised (end_of_own size (before.log).entries) upto.0 moment before.log after.log l held
+        (l.reached, promised upto.0 moment before.log after.log l.log_is held)
+    fits Flush (Async start end) l = absurd l
+    fits Flush (Idle upto) l = absurd l
     fits Flush (Refused cause reserved) l = refuses_flush cause reserved l
+    fits (CommitAsync value) (Wrote start end) l = absurd l
+    fits (CommitAsync value) (Hard start end moment) l = absurd l
+    fits (CommitAsync value) (Flushed upto moment) l = absurd l
+    fits (CommitAsync value) (Async start end) l =
+        placed value start end before.log after.log l.reserved
+    fits (CommitAsync value) (Idle upto) l = absurd l
+    fits (CommitAsync value) (Refused cause reserved) l = refuses value cause reserved l
+    fits WriteBehind (Wrote start end) l = absurd l
+    fits WriteBehind (Hard start end moment) l = absurd l
+    fits WriteBehind (Flushed upto moment) l = record {
+      page = (l.behind).page;
+      within = promised upto.0 moment before.log after.log l.log_is held;
+    }
+    fits WriteBehind (Async start end) l = absurd l
+    fits WriteBehind (Idle upto) l = record {
+      page = (l.behind).page;
+      within = (let further = end_address_of-mono size valid after.seen
+          (end_position size logged.order) seen_low in
+          omega (arith, l.reserved, further));
+    }
+    fits WriteBehind (Refused cause reserved) l = refuses_flush cause reserved l
 
   pub tells : (lines : List AskedLine) (told : List Told) (before after : PassState)
       → PlaysLines logged.size limit pass before lines told after → (after.log).entries ≡ all
       → Held logged.size limit pass Ends IsWithin after.log
       → ((faults : ℕ) → KnowsFault faults after → IsFault logged faults)
-      → TellsFrom logged pass
+      → after.seen ≤ end_position logged.size logged.order → TellsFrom logged pass
       (behind_last_own logged.size (first_position logged.size) (before.log).entries) lines told
-  tells [] [] before after plays ends held faulty = tt
-  tells [] (answer ∷ told) before after plays ends held faulty = absurd plays
-  tells (line ∷ lines) [] before after plays ends held faulty = absurd plays
-  tells (line ∷ lines) (answer ∷ told) before after plays ends held faulty =
+  tells [] [] before after plays ends held faulty seen_low = tt
+  tells [] (answer ∷ told) before after plays ends held faulty seen_low = absurd plays
+  tells (line ∷ lines) [] before after plays ends held faulty seen_low = absurd plays
+  tells (line ∷ lines) (answer ∷ told) before after plays ends held faulty seen_low =
       let mid = plays.0 in
       let whole = sym ends
       ∙ lines_entries size limit pass valid (line ∷ lines) (answer ∷ told) before after plays in
@@ -154,7 +180,11 @@ module _ (logged : Logged) (limit pass : ℕ) (valid : IsSegmentSize logged.size
       (line_entries size limit pass valid line.asked answer before mid (plays.1).leaves)
       ∙ behind_more size first (before.log).entries
       (entry_of size pass line.asked answer) in (
-        fits before mid held_mid faulty_mid own line.asked answer (plays.1).leaves,
+        fits before mid held_mid faulty_mid own (omega (
+          arith,
+          seen_low,
+          lines_see size limit pass lines told mid after plays.2,
+        )) line.asked answer (plays.1).leaves,
         subst (λ (n : ℕ). TellsFrom logged pass n lines told) more
-            (tells lines told mid after plays.2 ends held faulty),
+            (tells lines told mid after plays.2 ends held faulty seen_low),
       )

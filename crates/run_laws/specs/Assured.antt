@@ -17,6 +17,7 @@ use Rattle.told_lines.specs.declared.told.Told.{Told}
 use Rattle.told_lines.specs.Told.{EachStaysDown, IsFullAnswer, RiseInLineOrder, SomeTold, TellsAll, order_from}
 use Rattle.told_lines.specs.Counts.{TellsOneFault}
 use Rattle.told_lines.specs.Moments.{EachRises}
+use Rattle.told_lines.specs.CatchingUp.{EachCatchesUp}
 use Rattle.told_lines.specs.Crash.{EachIsTimely, SurvivesCrashes}
 use Rattle.told_lines.specs.Rooms.{all_rooms_asked, capacity_of}
 use Rattle.run_laws.specs.Ended.{HasTakenIn, logged_at_end}
@@ -68,7 +69,8 @@ pub record RunAssures (opening : Opening) (began now : Option Tape) (moment faul
   pub one_fault : TellsOneFault lists
   pub gapless : IsChained (opening.setup).segment_size (order_told opening script lists)
   pub in_line_order : RiseInLineOrder (opening.setup).segment_size 1 script lists
-  pub moments : EachRises opening.moment lists moment
+  pub caught_up : EachCatchesUp script lists
+  pub moments : EachRises opening.moment script lists moment
   pub goes_on : TapeGoesOn began now
   pub words : HoldsNothing began → IfSome now (LeavesLogWords (opening.setup).segment_size
       (opening.setup).sysid (order_told opening script lists) opening.moment)

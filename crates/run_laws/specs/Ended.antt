@@ -14,7 +14,7 @@ use Rattle.wal_core.specs.Views.{HasAt, Plain, View}
 use Rattle.wal_core.specs.Moves.{joined_of}
 use Rattle.wal_core.specs.Sound.{IsSound}
 use Rattle.machine_laws.specs.ClosedLogs.{IsClosed}
-use Rattle.run_laws.specs.Played.{KnowsFault, PassState, PlaysLines, state_at_first, pass_state_of}
+use Rattle.run_laws.specs.Played.{KnowsFault, PassState, PlaysAllLines, pass_state_of}
 
 -- a log that held nothing at the opening was closed with this order, in a sound state in which this
 -- was the last pass, with its writer at home, on a disk that held this at first
@@ -39,7 +39,7 @@ PlayedAll size limit pass (lines ∷ script) [] views = ⊥
 PlayedAll size limit pass (lines ∷ script) (told ∷ lists) [] = ⊥
 PlayedAll size limit pass (lines ∷ script) (told ∷ lists) (w ∷ views) =
     ((w.reserving).number ≡ pass)
-    × PlaysLines size limit pass state_at_first lines told (pass_state_of w)
+    × PlaysAllLines size limit pass lines told (pass_state_of w)
     × PlayedAll size limit (pass + 1) script lists views
 
 -- a pass knows this count of faults, or a greater one
@@ -47,13 +47,14 @@ abbrev pub KnowsAtLeast : ℕ → PassState → Type 0
 KnowsAtLeast faults s = (more : ℕ) × (faults ≤ more) × KnowsFault more s
 
 -- what a pass knows of faults came since the opening; the pass that took it in knows no less, and
--- set no fault itself then
+-- set no fault itself then, and it has seen no less reserved
 pub record IsKnownTo (opening : Opening) (v w : View) : Type 0 where
   pub rose : (faults : ℕ) → KnowsFault faults (pass_state_of w) → Rose opening.faults faults
   pub kept : (faults : ℕ) → KnowsFault faults (pass_state_of w)
       → KnowsAtLeast faults (pass_state_of v)
   pub first_set_none : (faults : ℕ) → KnowsFault faults (pass_state_of w)
       → (v.writing).down_set ≡ 0
+  pub seen : (w.reserving).seen ≤ (v.reserving).seen
 
 -- the first pass reserved nothing, and took in these, which played the script, numbered from 1
 pub record HasTakenIn (opening : Opening) (v : View) (script : List (List AskedLine))

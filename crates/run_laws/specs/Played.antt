@@ -1,38 +1,46 @@
 -- What a line leaves of its pass, by what it is told. Everywhere `size` is the size of a segment in
 -- bytes, `limit` the byte position at which the log is full, and `pass` the pass's number.
-use Rattle.std.specs.Prelude.{◌≡◌, ◌≢◌, ◌⊎◌, ℕ, ◌+◌, ◌<◌, ◌≤◌, List, [], ◌∷◌, Option, Some, None}
+use Rattle.std.specs.Prelude.{◌≡◌, ◌≢◌, ◌⊎◌, ℕ, ◌+◌, ◌*◌, ◌/◌, ◌<◌, ◌≤◌, All, List, [], ◌∷◌, Option, Some, None}
 use Rattle.wal_types.specs.declared.lsn.Lsn.{Lsn}
 use Rattle.wal_types.specs.declared.record.Record.{Record}
 use Rattle.wal_types.specs.declared.answers.Cause.{Cause}
 use Rattle.wal_types.specs.declared.answers.Cause.TheVariants.{Full, Disk, Down}
 use Rattle.byte_position.specs.Position.{end_address_of, first_position}
 use Rattle.wal_page.specs.Order.{Entry, finish_of, position_behind, room_at, start_of}
-use Rattle.wal_script.specs.Asked.{Asked, AskedLine, Insert, Commit, Flush}
+use Rattle.wal_script.specs.Asked.{Asked, AskedLine, Insert, Commit, Flush, CommitAsync, WriteBehind}
+use Rattle.wal_script.specs.Writable.{AsksWritable}
 use Rattle.told_lines.specs.declared.told.Told.{Told}
-use Rattle.told_lines.specs.declared.told.Told.TheVariants.{Wrote, Hard, Flushed, Refused}
-use Rattle.wal_core.specs.Views.{View}
+use Rattle.told_lines.specs.declared.told.Told.TheVariants.{Wrote, Hard, Flushed, Async, Idle, Refused}
+use Rattle.wal_core.specs.Views.{FlushPromise, View}
 use Rattle.wal_core.specs.Moves.{entry_reserved}
 use Rattle.wal_core.specs.PassLogs.{PassLog, log_of_view, log_with_entry, log_with_full, log_with_promise}
 
--- what a pass has between two lines: its log, and the down values that it met and set, 0 for none
+-- what a pass has between two lines: its log, the down values that it met and set, 0 for none, the
+-- highest async address that it met, and the byte position up to which it saw records reserved
 pub record PassState : Type 0 where
   pub log : PassLog
   pub met : ℕ
   pub set : ℕ
+  pub async_met : ℕ
+  pub seen : ℕ
 
 abbrev pub pass_state_of : View → PassState
 pass_state_of v = record {
   log = log_of_view v;
   met = (v.writing).down_met;
   set = (v.writing).down_set;
+  async_met = v.async_met;
+  seen = (v.reserving).seen;
 }
 
--- before its first line
-abbrev pub state_at_first : PassState
-state_at_first = record {
+-- before its first line, when it has seen so much reserved
+abbrev pub state_at_first : ℕ → PassState
+state_at_first seen = record {
   log = record { entries = []; stops = []; promises = [] };
   met = 0;
   set = 0;
+  async_met = 0;
+  seen = seen;
 }
 
 -- the pass knows that the disk failed, at this count of faults
@@ -55,6 +63,8 @@ abbrev pub TellsCause : Told → PassState → PassState → Type 0
 TellsCause (Wrote start end) before after = (after.met ≡ 0) × (after.set ≡ 0)
 TellsCause (Hard start end moment) before after = (after.met ≡ 0) × (after.set ≡ 0)
 TellsCause (Flushed upto moment) before after = (after.met ≡ 0) × (after.set ≡ 0)
+TellsCause (Async start end) before after = (after.met ≡ 0) × (after.set ≡ 0)
+TellsCause (Idle upto) before after = (after.met ≡ 0) × (after.set ≡ 0)
 TellsCause (Refused (Full free) reserved) before after = (after.met ≡ 0) × (after.set ≡ 0)
 TellsCause (Refused (Disk faults) reserved) before after = after.set ≡ faults
 TellsCause (Refused (Down faults) reserved) before after =
@@ -91,6 +101,31 @@ module _ (size limit pass : ℕ) where
     pub reserved : ReservesUpto value start end before between
     pub promised : AddsPromise end upto moment between after
 
+  -- a record is reserved, and the pass has met an async address that is no less than its end
+  pub record ReservesAhead (value : Record) (start end : ℕ) (before after : PassState) : Type 0
+    where
+      pub reserved : ReservesUpto value start end before.log after.log
+      pub counted : end ≤ after.async_met
+
+  -- an address is no less than the start of the page that holds the end of a log's entries, and
+  -- than each that the log was promised
+  pub record IsBehind (upto : ℕ) (log : PassLog) : Type 0 where
+    pub page : end_of_own size log.entries / 8192 * 8192 ≤ upto
+    pub furthest : All (λ (p : FlushPromise). p.upto ≤ upto) log.promises
+
+  -- all below such an address is promised from a moment on
+  pub record AddsBehind (upto moment : ℕ) (before after : PassLog) : Type 0 where
+    pub behind : IsBehind upto before
+    pub log_is : after ≡ log_with_promise upto moment before
+
+  -- there was nothing to flush: the async address that the pass met is no greater than such an
+  -- address, which is reserved; and the log is as it was
+  pub record FindsIdle (upto : ℕ) (before after : PassState) : Type 0 where
+    pub behind : IsBehind upto before.log
+    pub ahead : after.async_met ≤ upto
+    pub reserved : upto ≤ end_address_of size after.seen
+    pub log_is : after.log ≡ before.log
+
   -- the log is as it was, and the pass knows a fault
   abbrev pub FindsDown : ℕ → PassState → PassState → Type 0
   FindsDown faults before after = (after.log ≡ before.log) × KnowsFault faults after
@@ -125,24 +160,50 @@ module _ (size limit pass : ℕ) where
       ReservesUpto value start.0 end.0 before.log after.log
   Leaves (Insert value) (Hard start end moment) before after = ⊥
   Leaves (Insert value) (Flushed upto moment) before after = ⊥
+  Leaves (Insert value) (Async start end) before after = ⊥
+  Leaves (Insert value) (Idle upto) before after = ⊥
   Leaves (Insert value) (Refused cause reserved) before after =
       RefusesRecordLine value cause reserved before after
   Leaves (Commit value) (Wrote start end) before after = ⊥
   Leaves (Commit value) (Hard start end moment) before after =
       Seals value start.0 end.0 moment before.log after.log
   Leaves (Commit value) (Flushed upto moment) before after = ⊥
+  Leaves (Commit value) (Async start end) before after = ⊥
+  Leaves (Commit value) (Idle upto) before after = ⊥
   Leaves (Commit value) (Refused cause reserved) before after =
       RefusesRecordLine value cause reserved before after
   Leaves Flush (Wrote start end) before after = ⊥
   Leaves Flush (Hard start end moment) before after = ⊥
   Leaves Flush (Flushed upto moment) before after =
       AddsPromise (end_of_own size (before.log).entries) upto.0 moment before.log after.log
+  Leaves Flush (Async start end) before after = ⊥
+  Leaves Flush (Idle upto) before after = ⊥
   Leaves Flush (Refused cause reserved) before after = RefusesFlushLine cause reserved before after
+  Leaves (CommitAsync value) (Wrote start end) before after = ⊥
+  Leaves (CommitAsync value) (Hard start end moment) before after = ⊥
+  Leaves (CommitAsync value) (Flushed upto moment) before after = ⊥
+  Leaves (CommitAsync value) (Async start end) before after =
+      ReservesAhead value start.0 end.0 before after
+  Leaves (CommitAsync value) (Idle upto) before after = ⊥
+  Leaves (CommitAsync value) (Refused cause reserved) before after =
+      RefusesRecordLine value cause reserved before after
+  Leaves WriteBehind (Wrote start end) before after = ⊥
+  Leaves WriteBehind (Hard start end moment) before after = ⊥
+  Leaves WriteBehind (Flushed upto moment) before after =
+      AddsBehind upto.0 moment before.log after.log
+  Leaves WriteBehind (Async start end) before after = ⊥
+  Leaves WriteBehind (Idle upto) before after = FindsIdle upto.0 before after
+  Leaves WriteBehind (Refused cause reserved) before after =
+      RefusesFlushLine cause reserved before after
 
-  -- and where the pass knew a fault, it is told again and nothing else
+  -- the record asked for can be inserted; the async address that the pass met does not fall, nor
+  -- what it saw reserved; and where the pass knew a fault, it is told again and nothing else
   pub record PlaysLine (asked : Asked) (told : Told) (before after : PassState) : Type 0 where
+    pub writable : AsksWritable asked
     pub leaves : Leaves asked told before after
     pub cause : TellsCause told before after
+    pub counts : before.async_met ≤ after.async_met
+    pub sees : before.seen ≤ after.seen
     pub again : (faults : ℕ) → KnowsFault faults before → told ≡ Refused (Down faults) None
 
   -- line by line
@@ -152,3 +213,9 @@ module _ (size limit pass : ℕ) where
   PlaysLines before (line ∷ lines) [] after = ⊥
   PlaysLines before (line ∷ lines) (told ∷ others) after = (mid : PassState)
       × PlaysLine line.asked told before mid × PlaysLines mid lines others after
+
+  -- from its first line on
+  pub record PlaysAllLines (lines : List AskedLine) (told : List Told) (after : PassState) : Type 0
+    where
+      pub seen : ℕ
+      pub plays : PlaysLines (state_at_first seen) lines told after

@@ -22,7 +22,7 @@ ghost use Rattle.wal_core.specs.Ordered.{entries_under, FrontEndsAt};
 ghost use Rattle.machine_laws.specs.ClosedLogs.{IsLastPass};
 ghost use Rattle.wal_core.specs.PassLogs.{PassLog};
 ghost use Rattle.run_laws.specs.Counted.{all_reserved_count};
-ghost use Rattle.run_laws.specs.Played.{AddsFull, KnowsFault, PassState, PlaysLine, PlaysLines, behind_last_own, state_at_first, pass_state_of};
+ghost use Rattle.run_laws.specs.Played.{AddsFull, KnowsFault, PassState, PlaysAllLines, PlaysLine, PlaysLines, behind_last_own, pass_state_of};
 ghost use Rattle.run_laws.specs.Ended.{HasTakenIn, IsClosedLog, logged_at_end};
 
 /// Lines are played one after another: one more may follow.
@@ -44,8 +44,8 @@ pub fn passes_are_taken_in()
         (lists : List (List Told)) (lines : List AskedLine) (told : List Told)
         → HasTakenIn opening v script lists → (w.reserving).number ≡ 1 + length script
         → (w.reserving).joined ≡ []
-        → PlaysLines (opening.setup).segment_size (log_limit opening.setup) (1 + length script)
-        state_at_first lines told (pass_state_of w)
+        → PlaysAllLines (opening.setup).segment_size (log_limit opening.setup) (1 + length script)
+        lines told (pass_state_of w)
         → ((faults : ℕ) → KnowsFault faults (pass_state_of w) → Rose opening.faults faults)
         → (v.writing).down_set ≡ 0
         → HasTakenIn opening (after_join v w) (script ++ lines ∷ []) (lists ++ told ∷ []) }
@@ -54,6 +54,7 @@ pub fn passes_are_taken_in()
         → (new.reserving).number ≡ (v.reserving).number
         → (new.reserving).entries ≡ (v.reserving).entries
         → (new.reserving).joined ≡ (v.reserving).joined
+        → (v.reserving).seen ≤ (new.reserving).seen
         → ((faults : ℕ) → KnowsFault faults (pass_state_of v)
         → KnowsFault faults (pass_state_of new))
         → ((faults : ℕ) → KnowsFault faults (pass_state_of v)

@@ -3,9 +3,7 @@
 use replay_schedule::Item;
 use std::process::Abort;
 use std::test::Fail;
-use wal_script::{
-    Action, Line, ParseError, Refusal, ScriptFault, parse, parse_backends, parse_replay,
-};
+use wal_script::{Action, Line, ParseError, Refusal, ScriptFault, parse, parse_replay, parse_run};
 
 // The letter of the line that asks for an action.
 fn letter(action: &Action) -> u8 {
@@ -13,6 +11,8 @@ fn letter(action: &Action) -> u8 {
         Action::Insert(_) => b'I',
         Action::Commit(_) => b'C',
         Action::Flush => b'F',
+        Action::CommitAsync(_) => b'A',
+        Action::WriteBehind => b'L',
     }
 }
 
@@ -39,10 +39,19 @@ fn a_script_of_one_backend_is_read(rt: HostRuntime) -> Result<(), Fail> {
 
 #[test]
 fn the_script_of_a_run_is_read(rt: HostRuntime) -> Result<(), Fail> {
-    let backends = parse_backends(rt.alloc(), b"C 1 0\nB\nC 2 0")?;
+    let backends = parse_run(rt.alloc(), b"C 1 0\nB\nC 2 0", None)?;
     assert_eq!(rt; backends.len(), 2);
     has_lines(&rt, &backends[0], &[(1, b'C')]);
     has_lines(&rt, &backends[1], &[(3, b'C')]);
+    Ok(())
+}
+
+#[test]
+fn a_writer_has_its_lines_behind_those_of_a_run(rt: HostRuntime) -> Result<(), Fail> {
+    let backends = parse_run(rt.alloc(), b"A 1 0\nL", Some(3))?;
+    assert_eq!(rt; backends.len(), 2);
+    has_lines(&rt, &backends[0], &[(1, b'A'), (2, b'L')]);
+    has_lines(&rt, &backends[1], &[(1, b'L'), (2, b'L'), (3, b'L')]);
     Ok(())
 }
 

@@ -2,7 +2,7 @@
 
 use command_words::{
     Command, CrashPick, GivenWords, RunOptions, block_number, cap_segments, crash, fork, limit,
-    line_count, lsn, manager, relation, ring_pages, segment_size, xid,
+    line_count, lsn, manager, relation, ring_pages, segment_size, writer_lines, xid,
 };
 use decimal_numbers::{hexadecimal_digit, number, time};
 use wal_types::{Lsn, Rel, Xid};
@@ -16,6 +16,7 @@ fn named<'a>(command: &'a str, topic: Option<&'a str>) -> GivenWords<'a> {
         ring: None,
         cap: None,
         list: false,
+        writer: None,
         crash: None,
         rmgr: None,
         xid: None,
@@ -37,7 +38,7 @@ fn named<'a>(command: &'a str, topic: Option<&'a str>) -> GivenWords<'a> {
 fn shape(given: &GivenWords) -> Option<(u32, u64, u32, u32)> {
     let command = given.command()?;
     match &command {
-        Command::Run(options) => Some(run_shape(0, options)),
+        Command::Run(options) => Some(run_shape(0, &options.run)),
         Command::Gen(options) => Some(run_shape(options.lines, &options.run)),
         _ => None,
     }
@@ -78,6 +79,7 @@ fn the_word_of_each_option_has_its_meaning(rt: HostRuntime) {
     assert_eq!(rt; ring_pages("4"), Some(4));
     assert_eq!(rt; cap_segments("4096"), Some(4096));
     assert_eq!(rt; line_count("100000"), Some(100_000));
+    assert_eq!(rt; writer_lines("1000"), Some(1000));
     assert!(rt; segment_size("1073741824").is_some());
 }
 

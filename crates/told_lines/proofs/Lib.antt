@@ -4,4 +4,3 @@ pub mod FrontLengths
 pub mod Capacities
 pub mod AnswerCounts
 pub mod AnswerLoops
-pub mod MomentLaws

@@ -5,12 +5,16 @@ use Rattle.wal_types.specs.declared.answers.Hard as hard
 use Rattle.wal_types.specs.declared.answers.Sealed.{Sealed}
 use Rattle.wal_types.specs.declared.answers.Refused as refused
 use Rattle.told_lines.specs.declared.told.Told.{Told}
-use Rattle.told_lines.specs.declared.told.Told.TheVariants.{Wrote, Hard, Flushed, Refused}
+use Rattle.told_lines.specs.declared.told.Told.TheVariants.{Wrote, Hard, Flushed, Async, Refused}
 
 -- what a line is told, by what the log answered
 abbrev pub told_of_insert : Result Receipt refused.Refused → Told
 told_of_insert (Ok receipt) = Wrote receipt.start receipt.end
 told_of_insert (Err refusal) = Refused refusal.cause refusal.reserved
+
+abbrev pub told_of_commit_async : Result Receipt refused.Refused → Told
+told_of_commit_async (Ok receipt) = Async receipt.start receipt.end
+told_of_commit_async (Err refusal) = Refused refusal.cause refusal.reserved
 
 abbrev pub told_of_commit : Result Sealed refused.Refused → Told
 told_of_commit (Ok sealed) = Hard sealed.start sealed.end sealed.moment

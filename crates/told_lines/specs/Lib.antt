@@ -5,3 +5,4 @@ pub mod Moments
 pub mod Crash
 pub mod Whole
 pub mod Rooms
+pub mod CatchingUp

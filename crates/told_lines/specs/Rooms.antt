@@ -2,13 +2,15 @@
 use Rattle.std.specs.Prelude.{ℕ, ◌+◌, ◌*◌, List, [], ◌∷◌}
 use Rattle.byte_position.specs.Position.{usable_bytes_in_segment}
 use Rattle.record_spelling.specs.Spelling.{room_of}
-use Rattle.wal_script.specs.Asked.{Asked, AskedLine, Insert, Commit, Flush}
+use Rattle.wal_script.specs.Asked.{Asked, AskedLine, Insert, Commit, Flush, CommitAsync, WriteBehind}
 
 -- the bytes that the records of a script take up together
 abbrev pub room_asked : Asked → ℕ
 room_asked (Insert value) = room_of value
 room_asked (Commit value) = room_of value
 room_asked Flush = 0
+room_asked (CommitAsync value) = room_of value
+room_asked WriteBehind = 0
 
 abbrev pub rooms_asked : List AskedLine → ℕ
 rooms_asked [] = 0

@@ -1,5 +1,5 @@
 -- What lines are told, and the order that it makes.
-use Rattle.std.specs.Prelude.{◌≡◌, ℕ, ◌+◌, ◌<◌, ◌≤◌, ◌⊎◌, All, List, [], ◌∷◌, ◌++◌, length, take, Option, Some, None, option_to_list, nat_le, if◌then◌else◌}
+use Rattle.std.specs.Prelude.{◌≡◌, ℕ, ◌+◌, ◌*◌, ◌/◌, ◌<◌, ◌≤◌, ◌⊎◌, All, List, [], ◌∷◌, ◌++◌, length, take, Option, Some, None, option_to_list, nat_le, if◌then◌else◌}
 use Rattle.segment_disk.specs.Cause.{Rose}
 use Rattle.wal_types.specs.declared.lsn.Lsn.{Lsn}
 use Rattle.wal_types.specs.declared.record.Record.{Record}
@@ -7,9 +7,9 @@ use Rattle.byte_position.specs.Position.{position_of, address_of, end_address_of
 use Rattle.wal_page.specs.Order.{Entry, position_behind, rooms_of, end_position, room_at, room_behind}
 use Rattle.wal_script.specs.Asked.{AskedLine}
 use Rattle.wal_script.specs.Asked.{Asked}
-use Rattle.wal_script.specs.Asked.{Insert, Commit, Flush}
+use Rattle.wal_script.specs.Asked.{Insert, Commit, Flush, CommitAsync, WriteBehind}
 use Rattle.told_lines.specs.declared.told.Told.{Told}
-use Rattle.told_lines.specs.declared.told.Told.TheVariants.{Wrote, Hard, Flushed, Refused}
+use Rattle.told_lines.specs.declared.told.Told.TheVariants.{Wrote, Hard, Flushed, Async, Idle, Refused}
 use Rattle.wal_types.specs.declared.answers.Cause.{Cause}
 use Rattle.wal_types.specs.declared.answers.Cause.TheVariants.{Full, Disk, Down}
 
@@ -18,6 +18,8 @@ abbrev pub reserved_by : Told → Option Lsn
 reserved_by (Wrote start end) = Some start
 reserved_by (Hard start end moment) = Some start
 reserved_by (Flushed upto moment) = None
+reserved_by (Async start end) = Some start
+reserved_by (Idle upto) = None
 reserved_by (Refused cause reserved) = reserved
 
 -- the entry that a line made, where it reserved one; `size` is that of a segment
@@ -30,6 +32,8 @@ abbrev pub entry_of : ℕ → ℕ → Asked → Told → Option Entry
 entry_of size pass (Insert value) told = entry_at size pass value (reserved_by told)
 entry_of size pass (Commit value) told = entry_at size pass value (reserved_by told)
 entry_of size pass Flush told = None
+entry_of size pass (CommitAsync value) told = entry_at size pass value (reserved_by told)
+entry_of size pass WriteBehind told = None
 
 -- a backend's entries, in the order of its lines
 abbrev pub entries_of : ℕ → ℕ → List AskedLine → List Told → List Entry
@@ -96,8 +100,8 @@ pub record MayBeFull (logged : Logged) (pass behind : ℕ) (value : Record) (fre
   pub left : free + rooms_of logged.size (take front logged.order) ≡ logged.capacity
   pub short : free < room_behind logged.size (take front logged.order) value
 
--- why an insert or a commit may be refused: a fault in its own device calls comes once its record
--- is reserved
+-- why an insert or a commit, also one that is answered ahead, may be refused: a fault in its own
+-- device calls comes once its record is reserved
 abbrev pub MayRefuseRecord : Logged → (pass behind : ℕ) → Record → Cause → Option Lsn → Type 0
 MayRefuseRecord logged pass behind value (Full free) None =
     MayBeFull logged pass behind value free
@@ -115,20 +119,31 @@ MayRefuseFlush logged (Full free) reserved = ⊥
 MayRefuseFlush logged (Disk faults) reserved = IsFault logged faults × (reserved ≡ None)
 MayRefuseFlush logged (Down faults) reserved = IsFault logged faults × (reserved ≡ None)
 
+-- a flush behind reaches this address: the start of the page that holds the end of its backend's
+-- entries (byte position `behind`) at least, and no further than the log goes
+pub record ReachesPage (logged : Logged) (behind upto : ℕ) : Type 0 where
+  pub page : end_address_of logged.size behind / 8192 * 8192 ≤ upto
+  pub within : upto ≤ end_address_of logged.size (end_position logged.size logged.order)
+
 -- what a line of a pass may be told, where its backend's earlier entries end at byte position
 -- `behind`: an insert that its record is written, a commit that it is durable, a flush that all is
--- up to there at least and no further than the log goes
+-- up to there at least and no further than the log goes; a commit that is answered ahead that its
+-- record is written, a flush behind that all is durable up to some address, or that it was already
 abbrev pub FitsLine : Logged → (pass behind : ℕ) → Asked → Told → Type 0
 FitsLine logged pass behind (Insert value) (Wrote start end) =
     IsPlaced logged.size value start.0 end.0
 FitsLine logged pass behind (Insert value) (Hard start end moment) = ⊥
 FitsLine logged pass behind (Insert value) (Flushed upto moment) = ⊥
+FitsLine logged pass behind (Insert value) (Async start end) = ⊥
+FitsLine logged pass behind (Insert value) (Idle upto) = ⊥
 FitsLine logged pass behind (Insert value) (Refused cause reserved) =
     MayRefuseRecord logged pass behind value cause reserved
 FitsLine logged pass behind (Commit value) (Wrote start end) = ⊥
 FitsLine logged pass behind (Commit value) (Hard start end moment) =
     IsPlaced logged.size value start.0 end.0
 FitsLine logged pass behind (Commit value) (Flushed upto moment) = ⊥
+FitsLine logged pass behind (Commit value) (Async start end) = ⊥
+FitsLine logged pass behind (Commit value) (Idle upto) = ⊥
 FitsLine logged pass behind (Commit value) (Refused cause reserved) =
     MayRefuseRecord logged pass behind value cause reserved
 FitsLine logged pass behind Flush (Wrote start end) = ⊥
@@ -136,7 +151,24 @@ FitsLine logged pass behind Flush (Hard start end moment) = ⊥
 FitsLine logged pass behind Flush (Flushed upto moment) =
     (end_address_of logged.size behind ≤ upto.0)
     × (upto.0 ≤ end_address_of logged.size (end_position logged.size logged.order))
+FitsLine logged pass behind Flush (Async start end) = ⊥
+FitsLine logged pass behind Flush (Idle upto) = ⊥
 FitsLine logged pass behind Flush (Refused cause reserved) = MayRefuseFlush logged cause reserved
+FitsLine logged pass behind (CommitAsync value) (Wrote start end) = ⊥
+FitsLine logged pass behind (CommitAsync value) (Hard start end moment) = ⊥
+FitsLine logged pass behind (CommitAsync value) (Flushed upto moment) = ⊥
+FitsLine logged pass behind (CommitAsync value) (Async start end) =
+    IsPlaced logged.size value start.0 end.0
+FitsLine logged pass behind (CommitAsync value) (Idle upto) = ⊥
+FitsLine logged pass behind (CommitAsync value) (Refused cause reserved) =
+    MayRefuseRecord logged pass behind value cause reserved
+FitsLine logged pass behind WriteBehind (Wrote start end) = ⊥
+FitsLine logged pass behind WriteBehind (Hard start end moment) = ⊥
+FitsLine logged pass behind WriteBehind (Flushed upto moment) = ReachesPage logged behind upto.0
+FitsLine logged pass behind WriteBehind (Async start end) = ⊥
+FitsLine logged pass behind WriteBehind (Idle upto) = ReachesPage logged behind upto.0
+FitsLine logged pass behind WriteBehind (Refused cause reserved) =
+    MayRefuseFlush logged cause reserved
 
 -- the byte position at which a backend's entries end after one more line
 abbrev pub behind_or : ℕ → ℕ → Option Entry → ℕ
@@ -175,6 +207,8 @@ abbrev pub IsFullAnswer : Told → Type 0
 IsFullAnswer (Wrote start end) = ⊥
 IsFullAnswer (Hard start end moment) = ⊥
 IsFullAnswer (Flushed upto moment) = ⊥
+IsFullAnswer (Async start end) = ⊥
+IsFullAnswer (Idle upto) = ⊥
 IsFullAnswer (Refused (Full free) reserved) = Unit {0}
 IsFullAnswer (Refused (Disk faults) reserved) = ⊥
 IsFullAnswer (Refused (Down faults) reserved) = ⊥
@@ -183,6 +217,8 @@ abbrev pub IsDownAnswer : Told → Type 0
 IsDownAnswer (Wrote start end) = ⊥
 IsDownAnswer (Hard start end moment) = ⊥
 IsDownAnswer (Flushed upto moment) = ⊥
+IsDownAnswer (Async start end) = ⊥
+IsDownAnswer (Idle upto) = ⊥
 IsDownAnswer (Refused (Full free) reserved) = ⊥
 IsDownAnswer (Refused (Disk faults) reserved) = ⊥
 IsDownAnswer (Refused (Down faults) reserved) = Unit {0}
@@ -191,6 +227,8 @@ abbrev pub IsRefused : Told → Type 0
 IsRefused (Wrote start end) = ⊥
 IsRefused (Hard start end moment) = ⊥
 IsRefused (Flushed upto moment) = ⊥
+IsRefused (Async start end) = ⊥
+IsRefused (Idle upto) = ⊥
 IsRefused (Refused cause reserved) = Unit {0}
 
 -- the fact holds of some answer of some backend
@@ -213,6 +251,8 @@ StaysDown [] = Unit {0}
 StaysDown (Wrote start end ∷ others) = StaysDown others
 StaysDown (Hard start end moment ∷ others) = StaysDown others
 StaysDown (Flushed upto moment ∷ others) = StaysDown others
+StaysDown (Async start end ∷ others) = StaysDown others
+StaysDown (Idle upto ∷ others) = StaysDown others
 StaysDown (Refused (Full free) reserved ∷ others) = StaysDown others
 StaysDown (Refused (Disk faults) reserved ∷ others) = AllDown faults others
 StaysDown (Refused (Down faults) reserved ∷ others) = AllDown faults others

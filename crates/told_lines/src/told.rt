@@ -1,5 +1,5 @@
 ghost use Rattle.std.specs.Prelude.{◌≡◌, ◌↔◌, IsTrue, if◌then◌else◌};
-ghost use Rattle.told_lines.specs.Answered.{told_of_insert, told_of_commit, told_of_flush};
+ghost use Rattle.told_lines.specs.Answered.{told_of_insert, told_of_commit, told_of_commit_async, told_of_flush};
 ghost use Rattle.told_lines.specs.Counts.{is_hard};
 ghost use Rattle.told_lines.specs.Told.{reserved_by, IsFullAnswer};
 
@@ -14,6 +14,10 @@ pub enum Told {
     Hard { start: Lsn, end: Lsn, moment: u64 },
     /// All below an address is durable from this moment of the disk on.
     Flushed { upto: Lsn, moment: u64 },
+    /// A commit's record was written; the commit is answered before it is durable.
+    Async { start: Lsn, end: Lsn },
+    /// A flush behind found nothing to flush: all below an address was durable already.
+    Idle { upto: Lsn },
     /// Nothing is told to be durable; where a record was reserved all the same, its start.
     Refused { cause: Cause, reserved: Option<Lsn> },
 }
@@ -35,6 +39,16 @@ impl Told {
     {
         match answer {
             Ok(Sealed { start, end, moment }) => Told::Hard { start, end, moment },
+            Err(refused) => Told::of_refusal(refused),
+        }
+    }
+
+    /// The same of a commit that is answered ahead of the disk.
+    pub fn of_commit_async(answer: Result<Receipt, Refused>) -> Told
+        ensures { result ≡ told_of_commit_async answer }
+    {
+        match answer {
+            Ok(Receipt { start, end }) => Told::Async { start, end },
             Err(refused) => Told::of_refusal(refused),
         }
     }
@@ -63,8 +77,10 @@ impl Told {
         ensures { result ≡ reserved_by self.now }
     {
         match self {
-            Told::Wrote { start, .. } | Told::Hard { start, .. } => Some(*start),
-            Told::Flushed { .. } => None,
+            Told::Wrote { start, .. } | Told::Hard { start, .. } | Told::Async { start, .. } => {
+                Some(*start)
+            }
+            Told::Flushed { .. } | Told::Idle { .. } => None,
             Told::Refused { reserved, .. } => *reserved,
         }
     }
@@ -75,7 +91,11 @@ impl Told {
     {
         match self {
             Told::Hard { .. } => true,
-            Told::Wrote { .. } | Told::Flushed { .. } | Told::Refused { .. } => false,
+            Told::Wrote { .. }
+            | Told::Flushed { .. }
+            | Told::Async { .. }
+            | Told::Idle { .. }
+            | Told::Refused { .. } => false,
         }
     }
 
@@ -88,7 +108,11 @@ impl Told {
                 Cause::Full { .. } => true,
                 Cause::Disk { .. } | Cause::Down { .. } => false,
             },
-            Told::Wrote { .. } | Told::Hard { .. } | Told::Flushed { .. } => false,
+            Told::Wrote { .. }
+            | Told::Hard { .. }
+            | Told::Flushed { .. }
+            | Told::Async { .. }
+            | Told::Idle { .. } => false,
         }
     }
 }

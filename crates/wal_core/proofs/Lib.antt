@@ -4,3 +4,4 @@ pub mod Stages
 pub mod Landing
 pub mod Tapes
 pub mod NothingFound
+pub mod LocksEnough

@@ -3,7 +3,7 @@
 -- knows, and on nothing else; so it may come between any two steps of others. A step that has to
 -- come behind another one of its pass asks for what only that one leaves in the view (`Place`,
 -- `Stage`, `Hold` of Views).
-use Rattle.std.specs.Prelude.{◌≡◌, ◌≢◌, ◌⊎◌, ℕ, ◌+◌, ◌*◌, ◌/◌, ◌%◌, ◌<◌, ◌≤◌, true, Contains, List, [], ◌∷◌, ◌++◌, length, set, slice_index, ◌==◌, if◌then◌else◌}
+use Rattle.std.specs.Prelude.{◌≡◌, ◌≢◌, ◌⊎◌, ℕ, ◌+◌, ◌*◌, ◌/◌, ◌%◌, ◌<◌, ◌≤◌, true, IsTrue, Contains, List, [], ◌∷◌, ◌++◌, length, set, slice_index, ◌==◌, if◌then◌else◌}
 use Rattle.std.specs.Int.{w64, to_le_bytes}
 use Rattle.byte_position.specs.Position.{address_of}
 use Rattle.byte_position.specs.Geometry.{pages_of}
@@ -12,13 +12,15 @@ use Rattle.segment_disk.specs.Tape.{create_call, sync_call, write_call}
 use Rattle.segment_disk.specs.Cause.{Rose}
 use mathlib.Core.Option.{Option, none, some}
 use Rattle.wal_types.specs.declared.record.Record.{Record}
-use Rattle.record_spelling.specs.Spelling.{IsWritable, assembled}
+use Rattle.record_spelling.specs.Record.{is_switch}
+use Rattle.record_spelling.specs.Spelling.{IsLogRecord, assembled}
 use Rattle.wal_page.specs.EntryWords.{address_of_word, words_owned}
 use Rattle.wal_page.specs.Order.{room_at}
 use Rattle.wal_page.specs.Placed.{entry_word}
 use Rattle.wal_core.specs.declared.setup.Setup.{Setup}
 use Rattle.wal_core.specs.Words.{async_number, end_form, log_limit}
 use Rattle.wal_core.specs.Views.{HasAt, Place, Free, Locked, Loaded, Stored, StopCause, LogFull, AtSegmentStart, Copy, Flight, Landed, Copying, AreSomeOf, Stage, Taken, Looked, Ready, Zeroing, Published, Plain, Lent, Hold, Idle, Turned, Out, Away, View}
+use Rattle.wal_core.specs.Failed.{KnowsOfFault}
 use Rattle.wal_core.specs.Locked.{most_told}
 use Rattle.wal_core.specs.Paged.{IsOpen}
 use Rattle.wal_core.specs.Moves.{CallOutcome, Done, Failed, fault_number, after_split, split_off, after_join, spent, without_work, orphan_of, with_stage, with_hold, with_confirmed, with_writer, after_load_position, after_take_write_turn, after_slot_out, after_lock_position, after_load_prev, after_store_prev, after_store_position, after_stop, after_load_lock, after_take_lock, after_advance, after_release, after_store_word, after_load_word, after_load_written, after_load_flushed, after_load_moment, after_load_down, after_store_written, after_store_moment, after_store_flushed, after_set_down, after_load_async, after_raise_async, after_take_mapping_turn, after_load_initialised, after_create, after_write, after_sync}
@@ -28,6 +30,11 @@ use Rattle.wal_core.specs.Moves.{CallOutcome, Done, Failed, fault_number, after_
 -- a word of the ring by the number of the log's word that it holds
 abbrev pub ring_place : Setup → ℕ → ℕ
 ring_place setup k = k / 1024 % setup.ring_pages * 1024 + k % 1024
+
+-- a record may stand in the log under these locks: a segment switch under all eight alone
+pub record MayStandUnder (locks : List ℕ) (value : Record) : Type 0 where
+  pub logged : IsLogRecord value
+  pub all_locks : IsTrue (is_switch value) → (lock : ℕ) → lock < 8 → Contains locks lock
 
 -- a copy is not at its end, and its next word lies on a page that the pass has met
 pub record CopiesOn (setup : Setup) (confirmed : ℕ) (c : Copy) : Type 0 where
@@ -283,8 +290,9 @@ module _ (v : View) where
   value_behind (sync segment outcome) met = met
 
   -- ---- what the pass must know for the step (`MayStep`)
-  -- Reserving: each step needs the one before it; the entry can be written and fits, nothing is in
-  -- flight, and it is to stand under locks that are held. Locks: only a holder tells or releases;
+  -- Reserving: each step needs the one before it; the entry may stand in the log and fits, nothing
+  -- is in flight, and it is to stand under locks that are held, a segment switch under all of them.
+  -- Locks: only a holder tells or releases;
   -- it tells at most up to its next word, or, where no entry stands under the lock, up to the end
   -- that it has seen reserved; and it releases what is copied whole. Addresses that are told, asked
   -- for, answered or written up to are multiples of 8 (Aligned). Words of the ring: a copy's next
@@ -304,10 +312,6 @@ module _ (v : View) where
   abbrev pub IsCopying : (Copy → Type 0) → Type 0
   IsCopying P = (c : Copy) × ((v.working).flight ≡ Copying c) × P c
 
-  -- it met a down value, or set it
-  abbrev pub KnowsDown : Type 0
-  KnowsDown = ((v.writing).down_met ≢ 0) ⊎ ((v.writing).down_set ≢ 0)
-
   -- a fault that a call tells is above the count at the opening
   abbrev pub IsCallFault : CallOutcome → Type 0
   IsCallFault Done = Unit {0}
@@ -318,13 +322,14 @@ module _ (v : View) where
   MayStep take_write_turn = (v.writing).hold ≡ Idle
   MayStep slot_out = (v.writing).hold ≡ Turned
   MayStep slot_in = HasOut (λ l.
-      (((l.writer).fault ≡ none) × (l.stored ≡ (l.writer).written)) ⊎ KnowsDown)
+      (((l.writer).fault ≡ none) × (l.stored ≡ (l.writer).written)) ⊎ KnowsOfFault v)
   MayStep release_write_turn = (v.writing).hold ≡ Turned
   MayStep (lock_position expected) = ((v.reserving).place ≡ Free) × (expected % 2 ≡ 0)
   MayStep load_prev = (at : ℕ) × ((v.reserving).place ≡ Locked at)
   MayStep store_prev = (at prev : ℕ) × ((v.reserving).place ≡ Loaded at prev)
   MayStep (store_position locks value) = (at prev : ℕ) × ((v.reserving).place ≡ Stored at prev)
-      × IsWritable value × (at + room_at (setup_of).segment_size at value ≤ log_limit setup_of)
+      × MayStandUnder locks value
+      × (at + room_at (setup_of).segment_size at value ≤ log_limit setup_of)
       × AreSomeOf locks (v.working).locks × ((v.working).flight ≡ Landed)
   MayStep (give_position_back value) = (at : ℕ) × ((v.reserving).place ≡ Locked at)
       × (log_limit setup_of < at + room_at (setup_of).segment_size at value)
@@ -494,7 +499,7 @@ pub record Joins (id other : ℕ) (s t : State) : Type 0 where
 
 -- a pass that met or set a down value, and is about nothing but a copy that it does not end
 pub record IsStranded (v : View) : Type 0 where
-  pub down : KnowsDown v
+  pub down : KnowsOfFault v
   pub flight : (v.working).flight ≢ Landed
   pub place : (v.reserving).place ≡ Free
   pub stage : (v.mapping).stage ≡ Away

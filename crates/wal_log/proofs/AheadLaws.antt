@@ -10,6 +10,7 @@ use Rattle.byte_position.proofs.Words.{end_address_of-mod_word}
 use Rattle.record_spelling.specs.Spelling.{Assembled}
 use Rattle.wal_types.specs.declared.answers.Receipt.{Receipt}
 use Rattle.wal_page.specs.Order.{Entry, FollowsFrom, finish_of, position_behind}
+use Rattle.wal_page.proofs.PaddingLaws.{room_at-whole}
 use Rattle.wal_page.proofs.WordPositions.{first_position-whole}
 use Rattle.wal_core.specs.declared.setup.Setup.{Setup}
 use Rattle.wal_core.specs.Moves.{with_async}
@@ -149,13 +150,19 @@ module _ {D : Type 0} where
 
 -- ---- entries end at words
 
-starts_whole : (size position : ℕ) (es : List Entry) → position % 8 ≡ 0
+behind_whole : (size : ℕ) → IsSegmentSize size → (e : Entry) → e.start % 8 ≡ 0
+    → position_behind size e % 8 ≡ 0
+behind_whole size valid e whole =
+    let room = room_at-whole size valid e.start e.value whole in omega (arith, whole, room)
+
+starts_whole : (size position : ℕ) (es : List Entry) → IsSegmentSize size → position % 8 ≡ 0
     → FollowsFrom size position es → (e : Entry) → Contains es e → e.start % 8 ≡ 0
-starts_whole size position [] whole follows e (k, low, is) = absurd (omega (arith, low))
-starts_whole size position (x ∷ xs) whole follows e (zero, low, is) =
+starts_whole size position [] valid whole follows e (k, low, is) = absurd (omega (arith, low))
+starts_whole size position (x ∷ xs) valid whole follows e (zero, low, is) =
     let same = ap (λ (y : Entry). y.start) is in omega (arith, same, follows.0, whole)
-starts_whole size position (x ∷ xs) whole follows e (suc k, low, is) =
-    starts_whole size (position_behind size x) xs (omega (arith, follows.0, whole)) follows.2 e
+starts_whole size position (x ∷ xs) valid whole follows e (suc k, low, is) =
+    starts_whole size (position_behind size x) xs valid
+    (behind_whole size valid x (omega (arith, follows.0, whole))) follows.2 e
     (k, omega (arith, low), is)
 
 finish_is_whole : (v : View) (e : Entry) → StandsWhole v e
@@ -164,9 +171,9 @@ finish_is_whole v e stands =
     let sound = (stands.stands).sound in
     let size : ℕ = ((v.opening).setup).segment_size in
     let valid = (sound.setup_is).size in
-    let start = starts_whole size (first_position size) sound.order
+    let start = starts_whole size (first_position size) sound.order valid
     (first_position-whole size valid) (sound.reserved).chained e stands.in_order in
-    end_address_of-mod_word size valid (position_behind size e) (omega (arith, start))
+    end_address_of-mod_word size valid (position_behind size e) (behind_whole size valid e start)
 
 -- ---- a record that was inserted
 

@@ -9,16 +9,17 @@ use Rattle.wal_types.specs.declared.lsn.Lsn.{Lsn}
 use Rattle.wal_page.specs.Placed.{PlacedState, placed_end}
 use Rattle.wal_core.specs.declared.setup.Setup.{Setup}
 use Rattle.wal_core.specs.Moves.{entry_reserved, unlocked}
-use Rattle.wal_core.specs.Steps.{load_down, release, IsResting, view_behind, MayStep}
+use Rattle.wal_core.specs.Steps.{load_down, IsResting, view_behind}
 use Rattle.wal_rule.specs.Downs.{KnowsDown}
 use Rattle.wal_core.specs.Views.{Copy, Copying, Flight, View, Working}
 use Rattle.wal_rule.specs.declared.seated.SeatedPass.{SeatedPass}
 use Rattle.wal_rule.specs.SeatedPasses.{HasView, StandsAtRest, Steps, view_of}
+use Rattle.insert_locks.proofs.Runs.{one_lock}
 use Rattle.reserve_lock.specs.declared.reserving.ReserveErr.{ReserveErr}
 use Rattle.reserve_lock.specs.declared.reserving.ReserveErr.TheVariants.{Busy, Full}
 use Rattle.insert_locks.specs.Taking.{with_lock}
 use Rattle.insert_locks.specs.Watching.{with_sight}
-use Rattle.reserve_lock.specs.Reserved.{IsPlaceReserved, IsPositionBusy, TellsWhy, full_view, placed_first, reserved_view, seen_view}
+use Rattle.reserve_lock.specs.Reserved.{IsInsertReserved, IsPlaceReserved, IsPositionBusy, TellsWhy, full_view, placed_first, reserved_view, seen_view}
 use Rattle.word_ring.specs.Copied.{rest_of}
 use Rattle.wal_log.specs.declared.beginning.Begun.{Begun}
 use Rattle.wal_log.specs.declared.beginning.TryErr.{TryErr}
@@ -27,20 +28,20 @@ use Rattle.wal_log.specs.Beginning.{AnswersBeginTry, IsFoundBusy, IsPlaceBegun, 
 use Rattle.wal_log.specs.Downs.{KnowsNoFault}
 use Rattle.wal_log.specs.Inserting.{FindsLogFull, HasReserved}
 use Rattle.wal_log.specs.PassLogs.{log_of_pass, log_with_entry, log_with_full}
-use Rattle.wal_log.specs.Standing.{CopiesUnderOneLock, HasOneLock, HoldsOneLock, KeepsPass, entry_in_flight}
+use Rattle.wal_log.specs.Standing.{CopiesUnder, HasLocks, HoldsLocks, KeepsPass, entry_in_flight}
 use Rattle.wal_log.proofs.Keeping.{down_met_keeps, meets_since, none_loaded}
 use Rattle.wal_log.proofs.Plain.{down_loaded}
 use Rattle.wal_log.proofs.Seated.{hand_is, view_is}
-use Rattle.wal_log.proofs.Unlocking.{may_unlock, rested, rested_keeps, unlocked_rests, unlocked_view}
+use Rattle.wal_log.proofs.Unlocking.{rested, rested_keeps, unlocked_rests}
 
 -- ---- the place was reserved
 
-module _ (setup : Setup) (body : Assembled) (old new : View) (lock start : ℕ)
-    (placed : PlacedState) (r : IsPlaceReserved setup body lock old new start placed) where
+module _ (setup : Setup) (body : Assembled) (old new : View) (locks : List ℕ) (start : ℕ)
+    (placed : PlacedState) (r : IsPlaceReserved setup body locks old new start placed) where
   abbrev entry : Entry
   entry = entry_reserved (old.reserving).number r.at (r.reserved).value
 
-  new_is : new ≡ reserved_view setup.segment_size entry r.prev lock old
+  new_is : new ≡ reserved_view setup.segment_size entry r.prev locks old
   new_is = (r.reserved).new_is
 
   seen_is : (new.reserving).seen ≡ position_behind setup.segment_size entry
@@ -61,16 +62,16 @@ module _ (setup : Setup) (body : Assembled) (old new : View) (lock start : ℕ)
 
 -- and begins to be copied, under just this lock
 pub begun_is : (setup : Setup) (body : Assembled) (old new : View) (lock : ℕ) (start end : Lsn)
-    (placed : PlacedState) → IsPlaceReserved setup body lock old new start.0 placed
-    → end.0 ≡ placed_end placed → lock < 8 → HasOneLock lock old → KnowsNoFault old
+    (placed : PlacedState) → IsInsertReserved setup body lock old new start.0 placed
+    → end.0 ≡ placed_end placed → lock < 8 → HasLocks (lock ∷ []) old → KnowsNoFault old
     → IsPlaceBegun setup body old new
     (record { lock = lock; start = start; end = end; placed = placed })
-begun_is setup body old new lock start end placed r end_is low one up = record {
+begun_is setup body old new lock start end placed insert end_is low one up = record {
   entry = e;
   reserved = record {
     own = record {
       value = (r.reserved).value;
-      writable = (r.reserved).writable;
+      writable = insert.writable;
       of_body = (r.reserved).of_body;
       at = r.at;
       entry_is = refl;
@@ -82,7 +83,7 @@ begun_is setup body old new lock start end placed r end_is low one up = record {
   };
   up = subst KnowsNoFault (sym is) (record { met = up.met; set = up.set });
   lock_low = low;
-  copies = subst (λ (v : View). CopiesUnderOneLock setup lock placed v) (sym is) (record {
+  copies = subst (λ (v : View). CopiesUnder setup (lock ∷ []) placed v) (sym is) (record {
     copy = c;
     working = ap (λ (w : Working). record w { flight = Copying c }) one.working;
     under = refl;
@@ -98,13 +99,16 @@ begun_is setup body old new lock start end placed r end_is low one up = record {
   end_is = end_is;
 }
   where
+    r : IsPlaceReserved setup body (lock ∷ []) old new start.0 placed
+    r = insert.place
+
     e : Entry
     e = entry_reserved (old.reserving).number r.at (r.reserved).value
 
     c : Copy
     c = record { entry = e; prev = r.prev; locks = lock ∷ []; copied = 0 }
 
-    is : new ≡ reserved_view setup.segment_size e r.prev lock old
+    is : new ≡ reserved_view setup.segment_size e r.prev (lock ∷ []) old
     is = (r.reserved).new_is
 
     own : PlacedState
@@ -153,15 +157,15 @@ module _ (setup : Setup) (body : Assembled) (old between : View) where
       subst (KeepsPass old) (sym why.new_is) (seen_keeps old (unlocked why.loaded))
   keeps_in_vain (Full free) why = subst (KeepsPass old) (sym why.new_is) (full_keeps old why.at)
 
-  pub holds_in_vain : (lock : ℕ) → HasOneLock lock old → (e : ReserveErr)
-      → TellsWhy setup body old between e → HasOneLock lock between
-  holds_in_vain lock holds (Busy seen) why = subst (HasOneLock lock) (sym why.new_is) (record {
+  pub holds_in_vain : (locks : List ℕ) → HasLocks locks old → (e : ReserveErr)
+      → TellsWhy setup body old between e → HasLocks locks between
+  holds_in_vain locks holds (Busy seen) why = subst (HasLocks locks) (sym why.new_is) (record {
     working = holds.working;
     place = holds.place;
     stage = holds.stage;
     hold = holds.hold;
   })
-  holds_in_vain lock holds (Full free) why = subst (HasOneLock lock) (sym why.new_is) (record {
+  holds_in_vain locks holds (Full free) why = subst (HasLocks locks) (sym why.new_is) (record {
     working = holds.working;
     place = refl;
     stage = holds.stage;
@@ -186,11 +190,11 @@ module _ (setup : Setup) (body : Assembled) (old between : View) where
 
   -- the position was met by the pass as it is behind the lock's release, but for the lock, and that
   -- it had seen what it had before
-  found_busy : (lock seen : ℕ) → HasOneLock lock old → IsPositionBusy seen old between
+  found_busy : (lock seen : ℕ) → HasLocks (lock ∷ []) old → IsPositionBusy seen old between
       → IsFoundBusy seen old (rested between)
   found_busy lock seen holds busy =
       let holding = ap (λ (w : Working). record between { working = w })
-      (holds_in_vain lock holds (Busy seen) busy).working in
+      (holds_in_vain (lock ∷ []) holds (Busy seen) busy).working in
       let before = ap (λ (v : View). with_sight (old.reserving).seen v) busy.new_is in
       record {
         lock = lock;
@@ -198,7 +202,7 @@ module _ (setup : Setup) (body : Assembled) (old between : View) where
             holding (subst (λ (v : View). IsPositionBusy seen v between) (sym before) busy);
       }
 
-  tells_in_vain : (lock : ℕ) → HasOneLock lock old → KnowsNoFault old → (e : ReserveErr)
+  tells_in_vain : (lock : ℕ) → HasLocks (lock ∷ []) old → KnowsNoFault old → (e : ReserveErr)
       → TellsWhy setup body old between e
       → TellsBeginTry setup body old (rested between) (try_err_of_reserve e)
   tells_in_vain lock holds up (Busy seen) why =
@@ -223,27 +227,21 @@ module _ (setup : Setup) (body : Assembled) (old between : View) where
         record { met = still.met; set = still.set },
       )
 
-  module _ (lock : ℕ) (holds : HasOneLock lock old) (e : ReserveErr)
+  module _ (lock : ℕ) (holds : HasLocks (lock ∷ []) old) (e : ReserveErr)
       (why : TellsWhy setup body old between e) where
-    between_holds : HasOneLock lock between
-    between_holds = holds_in_vain lock holds e why
+    pub between_holds : HasLocks (lock ∷ []) between
+    between_holds = holds_in_vain (lock ∷ []) holds e why
 
-    pub may_unlock_in_vain : MayStep between (release lock)
-    may_unlock_in_vain = may_unlock lock between between_holds
-
-    module _ (new : View) (is : new ≡ view_behind between (release lock) 0 none) where
-      new_rested : new ≡ rested between
-      new_rested = is ∙ unlocked_view lock between between_holds
-
+    module _ (new : View) (is : new ≡ rested between) where
       pub tried_in_vain : KnowsNoFault old
           → TellsBeginTry setup body old new (try_err_of_reserve e) × IsResting new
       tried_in_vain up = subst
           (λ (v : View). TellsBeginTry setup body old v (try_err_of_reserve e) × IsResting v)
-          (sym new_rested)
-          (tells_in_vain lock holds up e why, unlocked_rests lock between between_holds)
+          (sym is)
+          (tells_in_vain lock holds up e why, unlocked_rests (lock ∷ []) between between_holds)
 
       pub vain_keeps : KeepsPass old new
-      vain_keeps = subst (KeepsPass old) (sym new_rested)
+      vain_keeps = subst (KeepsPass old) (sym is)
           (rested_keeps old between (keeps_in_vain e why))
 
 -- ---- since an earlier view, from which the pass's log is the same
@@ -408,15 +406,16 @@ pub held_one : {D : Type 0} → (old loaded taken : SeatedPass D) (met : ℕ)
     → Steps load_down met old loaded
     → ((faults : ℕ) → KnowsDown faults (view_of old) → met ≡ faults) → (lock : ℕ) → lock < 8
     → HasView (with_lock lock (view_of loaded)) loaded taken → StandsAtRest old
-    → HoldsOneLock lock taken
+    → HoldsLocks (lock ∷ []) taken
 held_one old loaded taken met load known lock low take rest = record {
-  low = low;
-  one = subst (λ (v : View). HasOneLock lock v) (sym (view_is take))
+  some = omega arith;
+  are = one_lock lock low;
+  has = subst (λ (v : View). HasLocks (lock ∷ []) v) (sym (view_is take))
       (only_lock (loaded_rests (view_of old) (view_of loaded) met (view_is load) known rest.rests));
   empty = hand_is take ∙ hand_is load ∙ rest.empty;
 }
   where
-    only_lock : IsResting (view_of loaded) → HasOneLock lock (with_lock lock (view_of loaded))
+    only_lock : IsResting (view_of loaded) → HasLocks (lock ∷ []) (with_lock lock (view_of loaded))
     only_lock rests = record {
       working = ap (λ (locks : List ℕ). record (view_of loaded).working {
         locks = locks ++ lock ∷ [];

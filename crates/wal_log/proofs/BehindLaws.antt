@@ -1,5 +1,5 @@
 -- What a pass finds that flushes behind: its target is reserved, and what it tells follows.
-use Rattle.std.proofs.Common.{◌≡◌, ◌⊎◌, inl, inr, ℕ, ◌-◌, ◌%◌, ◌<◌, ◌≤◌, map, max, refl, sym, ap, ◌∙◌, subst, arith}
+use Rattle.std.proofs.Common.{◌≡◌, ◌⊎◌, inl, inr, ℕ, ◌-◌, ◌%◌, ◌<◌, ◌≤◌, All, map, max, refl, sym, ap, ◌∙◌, subst, arith}
 use mathlib.Core.Option.{none}
 use Rattle.atomic_table.proofs.Lists.{at_map}
 use Rattle.byte_position.specs.Geometry.{IsSegmentSize}
@@ -10,7 +10,7 @@ use Rattle.wal_page.specs.Order.{end_position}
 use Rattle.machine_laws.proofs.OrderSteps.{unlocked-is}
 use Rattle.wal_core.specs.Moves.{unlocked, with_async}
 use Rattle.wal_core.specs.Steps.{load_async, load_down, load_flushed, view_behind}
-use Rattle.wal_core.specs.Views.{View, async_met_of, reserving_of}
+use Rattle.wal_core.specs.Views.{FlushPromise, View, async_met_of, reserving_of, writing_of}
 use Rattle.wal_core.specs.Words.{Opening, end_form, position_word, prev_word}
 use Rattle.wal_rule.specs.declared.seated.SeatedPass.{SeatedPass}
 use Rattle.wal_rule.specs.Downs.{KnowsDown}
@@ -49,6 +49,23 @@ async_is_reserved v seen sees =
     subst (λ (n : ℕ). v.async_met ≤ end_form (v.opening).setup n) (sym is)
     (omega (arith, low, reserved))
 
+-- so is the flushed address that it loaded
+pub flushed_is_reserved : (v : View) (seen : ℕ) → SeesPosition v seen
+    → v.writing.flushed ≤ end_form (v.opening).setup seen
+flushed_is_reserved v seen sees =
+    let s : Stands v = (sees.met).before in
+    let sound = s.sound in
+    let size : ℕ = ((v.opening).setup).segment_size in
+    let is : seen ≡ end_position size sound.order =
+    sees.seen_is ∙ ap unlocked (sees.met).met_is
+    ∙ unlocked-is (v.opening).setup (v.opening).found sound.order (position_word s.words)
+    (prev_word s.words) (map reserving_of s.views) sound.reserved (sound.setup_is).size in
+    let positions = sound.positions in
+    let low = (positions.views s.id v.writing
+    (at_map writing_of s.views s.id v s.here)).flushed_met in
+    subst (λ (n : ℕ). v.writing.flushed ≤ end_form (v.opening).setup n) (sym is)
+    (omega (arith, low, positions.flushed_low, positions.written_low, positions.reserved))
+
 -- ---- the target
 
 -- the end's page, as the code computes it
@@ -70,7 +87,9 @@ module _ (flushed async seen : ℕ) (old first next new : View)
     (by_sight : new ≡ with_sight seen next)
     (met : Meets old load_flushed flushed) (async_met : Meets first load_async async)
     (higher : first.async_met ≤ async)
-    (rises : (next.reserving).seen ≤ seen) (sees : SeesPosition next seen) where
+    (furthest : All (λ (p : FlushPromise). p.upto ≤ flushed) old.writing.promises)
+    (rises : (next.reserving).seen ≤ seen) (sees : SeesPosition next seen)
+    (begun : ((old.opening).setup).segment_size ≤ end_form (old.opening).setup seen) where
   first_is : first ≡ record old {
     reserving = record old.reserving {
       seen = max (old.reserving).seen (position_of ((old.opening).setup).segment_size flushed);
@@ -107,6 +126,17 @@ module _ (flushed async seen : ℕ) (old first next new : View)
       subst (λ (o : Opening). async ≤ end_form o.setup seen) opening
       (omega (arith, low, same))
 
+  flushed_reserved : flushed ≤ end_form (old.opening).setup seen
+  flushed_reserved =
+      let low = flushed_is_reserved next seen sees in
+      let same : next.writing.flushed ≡ flushed =
+      ap (λ (v : View). v.writing.flushed) by_async
+      ∙ ap (λ (v : View). v.writing.flushed) first_is in
+      let opening : next.opening ≡ old.opening =
+      ap (λ (v : View). v.opening) by_async ∙ ap (λ (v : View). v.opening) first_is in
+      subst (λ (o : Opening). flushed ≤ end_form o.setup seen) opening
+      (omega (arith, low, same))
+
   sees_target : (target : ℕ)
       → ((flushed < page_of_end old seen) × (target ≡ page_of_end old seen))
       ⊎ ((page_of_end old seen ≤ flushed) × (target ≡ async))
@@ -118,6 +148,9 @@ module _ (flushed async seen : ℕ) (old first next new : View)
         position = subst (λ (v : View). SeesPosition v seen)
             (by_async ∙ ap (λ (v : View). view_behind v load_async async none) by_flushed) sees;
         rises = risen;
+        furthest = furthest;
+        flushed_low = flushed_reserved;
+        begun = begun;
         new_is = (let is : async ≡ max old.async_met async =
             omega (arith, same_async_met, higher) in
             ap (λ (n : ℕ). sighted flushed n seen old) is);

@@ -1,5 +1,5 @@
--- A copy under one lock: its next word lies far below the last address, and each step leaves a copy
--- under that lock.
+-- A copy under locks: its next word lies far below the last address, and each step leaves a copy
+-- under them.
 use Rattle.std.proofs.Common.{◌≡◌, ℕ, ◌+◌, ◌*◌, ◌%◌, ◌^◌, ◌<◌, ◌≤◌, List, ◌∷◌, map, refl, sym, ap, ◌∙◌, subst, arith}
 use Rattle.std.proofs.Math.Logic.{∥∥₁_elim}
 use Rattle.std.specs.Coded.{Coded-set, coded_ℕ, le_prop}
@@ -28,7 +28,7 @@ use Rattle.wal_rule.specs.SeatedPasses.{HasView, StaysSeated, setup_of, view_of}
 use Rattle.wal_log.specs.Copying.{CopyGoesOn, IsSamePlace, MapsPage, mapped_view}
 use Rattle.wal_log.specs.Downs.{KnowsNoFault}
 use Rattle.wal_log.specs.PassLogs.{log_of_pass}
-use Rattle.wal_log.specs.Standing.{CopiesAlone, CopiesUnderOneLock, GoesOnSeated, HasNoTurn, KeepsPass, KeepsWork, entry_in_flight, entry_of_flight}
+use Rattle.wal_log.specs.Standing.{CopiesAlone, CopiesUnder, GoesOnSeated, HasNoTurn, KeepsPass, KeepsWork, entry_in_flight, entry_of_flight}
 use Rattle.wal_log.proofs.Keeping.{copies_stay, further_pass, same_pass, told_pass}
 use Rattle.wal_log.proofs.Seated.{further_seated, own_setup, same_setup, seat_stays, view_is}
 
@@ -94,10 +94,10 @@ module _ (v : View) (stands : Stands v) (c : Copy) (is : (v.working).flight ≡ 
       → c.copied ≡ words_owned size c.entry
   whole_where_ended here = let ended = ends in omega (arith, here, ended)
 
--- ---- a copy under one lock
+-- ---- a copy under locks
 
-module _ (setup : Setup) (lock : ℕ) (placed : PlacedState) (v : View)
-    (c : CopiesUnderOneLock setup lock placed v) where
+module _ (setup : Setup) (locks : List ℕ) (placed : PlacedState) (v : View)
+    (c : CopiesUnder setup locks placed v) where
   flight_is : (v.working).flight ≡ Copying c.copy
   flight_is = ap (λ (w : Working). w.flight) c.working
 
@@ -127,11 +127,11 @@ further_same : (count : ℕ) (f : Flight) → entry_of_flight (further count f) 
 further_same count Landed = refl
 further_same count (Copying c) = refl
 
--- what steps of a copy keep: the lock, the words that are left, the entry, the pass and its log
+-- what steps of a copy keep: the locks, the words that are left, the entry, the pass and its log
 pub record StaysCopying (setup : Setup) (before after : PlacedState) (old new : View) : Type 0
   where
-    pub copies : (lock : ℕ) → CopiesUnderOneLock setup lock before old
-        → CopiesUnderOneLock setup lock after new
+    pub copies : (locks : List ℕ) → CopiesUnder setup locks before old
+        → CopiesUnder setup locks after new
     pub keeps : KeepsPass old new
     pub up : KnowsNoFault old → KnowsNoFault new
     pub entry_is : entry_in_flight new ≡ entry_in_flight old
@@ -140,7 +140,7 @@ pub record StaysCopying (setup : Setup) (before after : PlacedState) (old new : 
 module _ (setup : Setup) (p : PlacedState) (v : View) where
   pub stays : StaysCopying setup p p v v
   stays = record {
-    copies = λ lock c. c;
+    copies = λ locks c. c;
     keeps = same_pass v;
     up = λ up. up;
     entry_is = refl;
@@ -150,7 +150,7 @@ module _ (setup : Setup) (p : PlacedState) (v : View) where
   pub mapped_stays : (confirmed written : ℕ)
       → StaysCopying setup p p v (mapped_view confirmed written v)
   mapped_stays confirmed written = record {
-    copies = λ lock c. record {
+    copies = λ locks c. record {
       copy = c.copy;
       working = c.working;
       under = c.under;
@@ -179,7 +179,7 @@ module _ (setup : Setup) (p : PlacedState) (v : View) where
   pub copied_stays : (count : ℕ)
       → StaysCopying setup p (record p { next = p.next + 8 * count }) v (copied_view count v)
   copied_stays count = record {
-    copies = λ lock c.
+    copies = λ locks c.
         let further_on : address_of_word setup.segment_size (c.copy).entry (c.copy).copied
         + 8 * count
         ≡ address_of_word setup.segment_size (c.copy).entry ((c.copy).copied + count) =
@@ -214,7 +214,7 @@ module _ (setup : Setup) (p q r : PlacedState) (u v w : View) where
   pub stays_on : StaysCopying setup p q u v → StaysCopying setup q r v w
       → StaysCopying setup p r u w
   stays_on x y = record {
-    copies = λ lock c. y.copies lock (x.copies lock c);
+    copies = λ locks c. y.copies locks (x.copies locks c);
     keeps = further_pass u v w x.keeps y.keeps;
     up = λ up. y.up (x.up up);
     entry_is = y.entry_is ∙ x.entry_is;
@@ -235,11 +235,12 @@ same_place a b c x y = y ∙ ap (λ (p : PlacedState). record p { next = c.next 
 module _ {D : Type 0} (old new : SeatedPass D) (seats : StaysSeated old new) where
   module _ (p q : PlacedState)
       (s : StaysCopying (setup_of old) p q (view_of old) (view_of new)) where
-    pub copies_still : (lock : ℕ) → CopiesAlone lock p old → CopiesAlone lock q new
-    copies_still lock c = record {
-      low = c.low;
-      under = subst (λ (setup : Setup). CopiesUnderOneLock setup lock q (view_of new))
-          (sym (same_setup old new seats.same_table)) (s.copies lock c.under);
+    pub copies_still : (locks : List ℕ) → CopiesAlone locks p old → CopiesAlone locks q new
+    copies_still locks c = record {
+      some = c.some;
+      are = c.are;
+      under = subst (λ (setup : Setup). CopiesUnder setup locks q (view_of new))
+          (sym (same_setup old new seats.same_table)) (s.copies locks c.under);
       empty = seats.same_hand ∙ c.empty;
     }
 
@@ -251,31 +252,32 @@ module _ {D : Type 0} (old new : SeatedPass D) (seats : StaysSeated old new) whe
       log = s.log_is;
     }
 
--- work that stays, at the same table and with nothing in hand, leaves a copy under its lock
+-- work that stays, at the same table and with nothing in hand, leaves a copy under its locks
 pub alone_still : {D : Type 0} → (old new : SeatedPass D) → new.table ≡ old.table
-    → KeepsWork (view_of old) (view_of new) → HasNoTurn new → (lock : ℕ) (p : PlacedState)
-    → CopiesAlone lock p old → CopiesAlone lock p new
-alone_still old new same work rests lock p c = record {
-  low = c.low;
-  under = subst (λ (setup : Setup). CopiesUnderOneLock setup lock p (view_of new))
+    → KeepsWork (view_of old) (view_of new) → HasNoTurn new → (locks : List ℕ) (p : PlacedState)
+    → CopiesAlone locks p old → CopiesAlone locks p new
+alone_still old new same work rests locks p c = record {
+  some = c.some;
+  are = c.are;
+  under = subst (λ (setup : Setup). CopiesUnder setup locks p (view_of new))
       (sym (same_setup old new same))
-      (copies_stay (setup_of old) lock p (view_of old) (view_of new) c.under work rests.idle);
+      (copies_stay (setup_of old) locks p (view_of old) (view_of new) c.under work rests.idle);
   empty = rests.empty;
 }
 
 -- its next word lies far below the last address
-pub alone_low : {D : Type 0} → (v : SeatedPass D) (lock : ℕ) (p : PlacedState)
-    → CopiesAlone lock p v → p.next < 2 ^ 50
-alone_low v lock p c = next_low (setup_of v) lock p (view_of v) c.under (v.seated).stands
+pub alone_low : {D : Type 0} → (v : SeatedPass D) (locks : List ℕ) (p : PlacedState)
+    → CopiesAlone locks p v → p.next < 2 ^ 50
+alone_low v locks p c = next_low (setup_of v) locks p (view_of v) c.under (v.seated).stands
     (sym (own_setup v))
 
 -- and where the record has ended, all its words are copied
-pub alone_whole : {D : Type 0} → (v : SeatedPass D) (lock : ℕ) (p : PlacedState)
-    → (c : CopiesAlone lock p v) → (before : PlacedState) → IsSamePlace before p
+pub alone_whole : {D : Type 0} → (v : SeatedPass D) (locks : List ℕ) (p : PlacedState)
+    → (c : CopiesAlone locks p v) → (before : PlacedState) → IsSamePlace before p
     → p.next ≡ placed_end before
     → ((c.under).copy).copied
     ≡ words_owned (((view_of v).opening).setup).segment_size ((c.under).copy).entry
-alone_whole v lock p c = all_copied (setup_of v) lock p (view_of v) c.under (v.seated).stands
+alone_whole v locks p c = all_copied (setup_of v) locks p (view_of v) c.under (v.seated).stands
     (sym (own_setup v))
 
 -- one copy behind another
@@ -305,9 +307,9 @@ stood_still p a b goes_on same work = record {
 -- ---- a page is reached, and its words are copied
 
 -- the words that are left of a pass's copy are those of its record
-pub alone_rest : {D : Type 0} → (v : SeatedPass D) (lock : ℕ) (p : PlacedState)
-    → CopiesAlone lock p v → IsRestOf (setup_of v) (view_of v) p
-alone_rest v lock p c = (
+pub alone_rest : {D : Type 0} → (v : SeatedPass D) (locks : List ℕ) (p : PlacedState)
+    → CopiesAlone locks p v → IsRestOf (setup_of v) (view_of v) p
+alone_rest v locks p c = (
   (c.under).copy,
   ap (λ (w : Working). w.flight) (c.under).working,
   (c.under).rest,

@@ -1,5 +1,5 @@
 -- A record in flight, with its pass seated at the log's table and put back from there.
-use Rattle.std.proofs.Common.{◌≡◌, ◌≢◌, ◌≤◌, inl, ℕ, List, [], refl, sym, ap, ◌∙◌, subst, arith}
+use Rattle.std.proofs.Common.{◌≡◌, ◌≢◌, ◌≤◌, inl, ℕ, List, [], ◌∷◌, refl, sym, ap, ◌∙◌, subst, arith}
 use Rattle.byte_position.specs.Position.{address_of}
 use Rattle.record_spelling.specs.Spelling.{Assembled}
 use Rattle.wal_types.specs.declared.answers.Receipt.{Receipt}
@@ -7,7 +7,7 @@ use mathlib.Core.Option.{some}
 use Rattle.wal_page.specs.EntryWords.{words_owned}
 use Rattle.wal_page.specs.Order.{Entry}
 use Rattle.wal_page.specs.Placed.{PlacedState, placed_end}
-use Rattle.wal_core.specs.Steps.{load_down, IsResting, IsStranded, release, MayStep}
+use Rattle.wal_core.specs.Steps.{load_down, IsResting, IsStranded}
 use Rattle.wal_core.specs.Views.{Copy, View, Working}
 use Rattle.wal_core.specs.declared.setup.Setup.{Setup}
 use Rattle.wal_rule.specs.declared.pass.Pass.{Pass}
@@ -19,6 +19,8 @@ use Rattle.wal_rule.specs.Passes.{view_of_pass}
 use Rattle.wal_rule.specs.SeatedPasses.{HasView, Steps, setup_of, view_of}
 use Rattle.wal_rule.specs.Stepping.{Meets}
 use Rattle.wal_rule.specs.Tables.{IsPassOn, setup_of_table}
+use Rattle.insert_locks.specs.Holding.{NothingLeft}
+use Rattle.insert_locks.proofs.Runs.{one_lock}
 use Rattle.word_ring.proofs.CopyLaws.{words-left}
 use Rattle.wal_log.specs.declared.beginning.Begun.{Begun}
 use Rattle.wal_log.specs.declared.in_flight.Inflight.{Inflight}
@@ -29,14 +31,14 @@ use Rattle.wal_log.specs.Downs.{KnowsNoFault, MeetsDown}
 use Rattle.wal_log.specs.Flights.{Finishes, GivesUpCopy, IsHandedBack, IsInFlightOf, KeepsLog, view_of_flight}
 use Rattle.wal_log.specs.Logs.{setup_of_log, table_of}
 use Rattle.wal_log.specs.PassLogs.{log_of_pass}
-use Rattle.wal_log.specs.Standing.{CopiesAlone, CopiesUnderOneLock, GoesOnSeated, KeepsPass, entry_in_flight, entry_of_flight}
+use Rattle.wal_log.specs.Standing.{CopiesAlone, CopiesUnder, GoesOnSeated, KeepsPass, entry_in_flight, entry_of_flight}
 use Rattle.wal_log.specs.Whole.{CopiesWhole}
 use Rattle.wal_log.proofs.CopyLaws.{alone_rest, alone_whole}
 use Rattle.wal_log.proofs.Keeping.{copies_stay, down_met_keeps, none_loaded, same_pass}
 use Rattle.wal_log.proofs.Passing.{back_on, seen_is}
 use Rattle.wal_log.proofs.Seated.{view_is}
 use Rattle.wal_log.proofs.WholeLaws.{copies_whole}
-use Rattle.wal_log.proofs.Unlocking.{landed_rests, landed_view, may_land, rested, rested_keeps, strands}
+use Rattle.wal_log.proofs.Unlocking.{landed_rests, locks_under, none_left, rested, rested_keeps, strands}
 
 -- with the same start, another entry starts at the same address
 same_start : (setup : Setup) (c : Copy) (placed : PlacedState) (start at : ℕ)
@@ -94,19 +96,20 @@ module _ {D : Type 0} (wal : Wal D) (pass : Pass) (seated : SeatedPass D)
 module _ {D : Type 0} (wal : Wal D) (flight : Inflight) (is : IsInFlightOf wal flight)
     (seated : SeatedPass D) (view : (seated.seat).me ≡ (view_of_pass flight.pass, []))
     (table : (seated.table).now ≡ table_of wal) where
-  abbrev lock : ℕ
-  lock = (flight.begun).lock
+  abbrev locks : List ℕ
+  locks = (flight.begun).lock ∷ []
 
   abbrev placed : PlacedState
   placed = (flight.begun).placed
 
   -- seated, it copies under its lock
-  pub flight_copies : CopiesAlone lock placed seated
+  pub flight_copies : CopiesAlone locks placed seated
   flight_copies = record {
-    low = is.lock_low;
-    under = subst (λ (v : View). CopiesUnderOneLock (setup_of seated) lock placed v)
+    some = omega arith;
+    are = one_lock (flight.begun).lock is.lock_low;
+    under = subst (λ (v : View). CopiesUnder (setup_of seated) locks placed v)
         (sym (seen_is wal flight.pass seated view))
-        (subst (λ (s : Setup). CopiesUnderOneLock s lock placed (view_of_flight flight))
+        (subst (λ (s : Setup). CopiesUnder s locks placed (view_of_flight flight))
         (sym (own wal flight.pass seated view table)) is.copies);
     empty = ap (λ (m : View × List (ℕ × LogWriter D)). m.1) view;
   }
@@ -114,13 +117,13 @@ module _ {D : Type 0} (wal : Wal D) (flight : Inflight) (is : IsInFlightOf wal f
   -- ---- words were copied
 
   module _ (further : PlacedState) (new : SeatedPass D)
-      (alone : CopiesAlone lock further new) (on : CopyGoesOn placed further seated new)
+      (alone : CopiesAlone locks further new) (on : CopyGoesOn placed further seated new)
       (after : Pass) (back : view_of_pass after ≡ view_of new)
       (put : IsPassOn (new.table).now after) where
-    still_under : CopiesUnderOneLock (setup_of_log wal) lock further (view_of_pass after)
-    still_under = subst (λ (v : View). CopiesUnderOneLock (setup_of_log wal) lock further v)
+    still_under : CopiesUnder (setup_of_log wal) locks further (view_of_pass after)
+    still_under = subst (λ (v : View). CopiesUnder (setup_of_log wal) locks further v)
         (sym back)
-        (subst (λ (s : Setup). CopiesUnderOneLock s lock further (view_of new))
+        (subst (λ (s : Setup). CopiesUnder s locks further (view_of new))
         (ap (λ t. setup_of_table t.now) ((on.goes_on).stays).same_table
         ∙ own wal flight.pass seated view table) alone.under)
 
@@ -152,18 +155,22 @@ module _ {D : Type 0} (wal : Wal D) (flight : Inflight) (is : IsInFlightOf wal f
   -- a record's next word is no further than its end
   pub flight_ended : placed_end placed ≤ placed.next → placed.next ≡ placed_end placed
   flight_ended far =
-      let left = words-left seated placed (alone_rest seated lock placed flight_copies) in
+      let left = words-left seated placed (alone_rest seated locks placed flight_copies) in
       omega (arith, left.0, far)
 
   module _ (ended : placed.next ≡ placed_end placed) where
     all_copied : (((flight_copies.under).copy).copied)
         ≡ words_owned (((view_of seated).opening).setup).segment_size
         ((flight_copies.under).copy).entry
-    all_copied = alone_whole seated lock placed flight_copies placed refl ended
+    all_copied = alone_whole seated locks placed flight_copies placed refl ended
 
-    pub may_finish : MayStep (view_of seated) (release lock)
-    may_finish = may_land (setup_of seated) lock placed (view_of seated) flight_copies.under
-        all_copied
+    pub flight_locks : (view_of seated).working.locks ≡ locks
+    flight_locks = locks_under (setup_of seated) locks placed (view_of seated) flight_copies.under
+
+    pub flight_whole : NothingLeft (view_of seated).opening.setup locks
+        (view_of seated).working.flight
+    flight_whole = none_left (setup_of seated) locks placed (view_of seated) flight_copies.under
+        flight_copies.some all_copied
 
     abbrev entry : Entry
     entry = ((flight_copies.under).copy).entry
@@ -171,20 +178,20 @@ module _ {D : Type 0} (wal : Wal D) (flight : Inflight) (is : IsInFlightOf wal f
     flies : entry_in_flight (view_of seated) ≡ some entry
     flies = ap (λ (w : Working). entry_of_flight w.flight) (flight_copies.under).working
 
-    pub flight_finishes : (new : SeatedPass D) → Steps (release lock) 0 seated new → (after : Pass)
+    pub flight_finishes : (new : SeatedPass D) → HasView (rested (view_of seated)) seated new
+        → (after : Pass)
         → view_of_pass after ≡ view_of new → IsPassOn (new.table).now after → (receipt : Receipt)
         → receipt.start ≡ (flight.begun).start → receipt.end ≡ (flight.begun).end
         → Finishes wal flight receipt after
     flight_finishes new steps after back put receipt from to =
-        let landed : view_of new ≡ rested (view_of seated) = view_is steps
-        ∙ landed_view (setup_of seated) lock placed (view_of seated) flight_copies.under in
+        let landed : view_of new ≡ rested (view_of seated) = view_is steps in
         let keeps : KeepsPass (view_of seated) (view_of new) =
         subst (KeepsPass (view_of seated)) (sym landed)
         (rested_keeps (view_of seated) (view_of seated) (same_pass (view_of seated))) in record {
           pass_is = record {
             of_log = back_on wal flight.pass seated view new steps.same_table table after put;
             rests = subst IsResting (sym (back ∙ landed))
-                (landed_rests (setup_of seated) lock placed (view_of seated) flight_copies.under);
+                (landed_rests (setup_of seated) locks placed (view_of seated) flight_copies.under);
           };
           none_left = ended;
           entry = entry;
@@ -192,7 +199,7 @@ module _ {D : Type 0} (wal : Wal D) (flight : Inflight) (is : IsInFlightOf wal f
               (seen_is wal flight.pass seated view) flies;
           whole = moved wal flight.pass seated view table (λ setup old w. CopiesWhole old w entry)
               (view_of new) after back
-              (copies_whole (setup_of seated) lock placed (view_of seated) (view_of seated)
+              (copies_whole (setup_of seated) locks placed (view_of seated) (view_of seated)
               (view_of new) flight_copies.under (seated.seated).stands all_copied entry flies
               (same_pass (view_of seated)) keeps);
           start_is = from;
@@ -206,8 +213,8 @@ module _ {D : Type 0} (wal : Wal D) (flight : Inflight) (is : IsInFlightOf wal f
   module _ (faults : ℕ) (loaded : SeatedPass D) (load : Steps load_down faults seated loaded)
       (known : (n : ℕ) → KnowsDown n (view_of seated) → faults ≡ n)
       (met : Meets (view_of seated) load_down faults) where
-    loaded_under : CopiesUnderOneLock (setup_of seated) lock placed (view_of loaded)
-    loaded_under = copies_stay (setup_of seated) lock placed (view_of seated) (view_of loaded)
+    loaded_under : CopiesUnder (setup_of seated) locks placed (view_of loaded)
+    loaded_under = copies_stay (setup_of seated) locks placed (view_of seated) (view_of loaded)
         flight_copies.under
         (down_met_keeps (view_of seated) faults (view_of loaded) (view_is load) known)
         (ap (λ (v : View). v.writing.hold) (view_is load) ∙ (flight_copies.under).hold)
@@ -232,16 +239,16 @@ module _ {D : Type 0} (wal : Wal D) (flight : Inflight) (is : IsInFlightOf wal f
         of_log = back_on wal flight.pass seated view loaded load.same_table table after put;
         lock_low = is.lock_low;
         copies = moved wal flight.pass seated view table
-            (λ setup old w. CopiesUnderOneLock setup lock placed w) (view_of loaded) after back
+            (λ setup old w. CopiesUnder setup locks placed w) (view_of loaded) after back
             loaded_under;
         start_is = same_start (setup_of_log wal)
             (moved wal flight.pass seated view table
-            (λ setup old w. CopiesUnderOneLock setup lock placed w) (view_of loaded) after back
+            (λ setup old w. CopiesUnder setup locks placed w) (view_of loaded) after back
             loaded_under).copy placed (flight.begun).start.0 ((is.copies).copy.entry).start
             is.start_is (ap (λ (p : PlacedState). p.start) (is.copies).rest)
             (sym (ap (λ (p : PlacedState). p.start)
             (moved wal flight.pass seated view table
-            (λ setup old w. CopiesUnderOneLock setup lock placed w) (view_of loaded) after back
+            (λ setup old w. CopiesUnder setup locks placed w) (view_of loaded) after back
             loaded_under).rest));
         end_is = is.end_is;
       };
@@ -257,7 +264,7 @@ module _ {D : Type 0} (wal : Wal D) (flight : Inflight) (is : IsInFlightOf wal f
 
     -- one was: the copy may be given up
     pub flight_strands : faults ≢ 0 → IsStranded (view_of loaded)
-    flight_strands nonzero = strands (setup_of seated) lock placed (view_of loaded) loaded_under
+    flight_strands nonzero = strands (setup_of seated) locks placed (view_of loaded) loaded_under
         (inl (λ zero. nonzero (sym (ap (λ (v : View). v.writing.down_met) (view_is load)) ∙ zero)))
 
     pub flight_given_up : faults ≢ 0 → (new : SeatedPass D)
@@ -270,7 +277,7 @@ module _ {D : Type 0} (wal : Wal D) (flight : Inflight) (is : IsInFlightOf wal f
             of_log = back_on wal flight.pass seated view new
                 (gives.same_table ∙ load.same_table) table after put;
             rests = subst IsResting (sym (back ∙ is_rested))
-                (landed_rests (setup_of seated) lock placed (view_of loaded) loaded_under);
+                (landed_rests (setup_of seated) locks placed (view_of loaded) loaded_under);
           };
           faults = faults;
           met = met_so;

@@ -1,5 +1,5 @@
 -- What stays of a pass, and of what it is about, stays over several steps.
-use Rattle.std.proofs.Common.{◌≡◌, ◌⊎◌, inl, inr, max, ℕ, refl, sym, ap, ◌∙◌, subst, arith}
+use Rattle.std.proofs.Common.{◌≡◌, ◌⊎◌, inl, inr, max, ℕ, List, refl, sym, ap, ◌∙◌, subst, arith}
 use mathlib.Core.Logic.{dite}
 use mathlib.Core.Option.{none}
 use native.Mathlib.Decide.{ℕ_discrete}
@@ -14,7 +14,7 @@ use Rattle.wal_rule.specs.SeatedPasses.{view_of}
 use Rattle.page_writing.specs.InHand.{ChangesHand}
 use Rattle.wal_log.specs.Downs.{KnowsNoFault, MeetsDown, SetsDownItself}
 use Rattle.wal_log.specs.Hands.{SetsDownAndRests}
-use Rattle.wal_log.specs.Standing.{CopiesUnderOneLock, KeepsPass, KeepsWork}
+use Rattle.wal_log.specs.Standing.{CopiesUnder, KeepsPass, KeepsWork}
 use Rattle.wal_log.proofs.Plain.{down_loaded}
 
 pub same_pass : (v : View) → KeepsPass v v
@@ -135,11 +135,11 @@ down_met_keeps v met w is known = subst (λ (x : View). KeepsWork v x)
     (sym (is ∙ down_loaded met v))
     (downs_keep v v.writing.hold met v.writing.down_set (λ faults knows. inl (known faults knows)))
 
--- a pass goes on to copy under its lock
-pub copies_stay : (setup : Setup) (lock : ℕ) (placed : PlacedState) (v w : View)
-    → CopiesUnderOneLock setup lock placed v → KeepsWork v w → w.writing.hold ≡ Idle
-    → CopiesUnderOneLock setup lock placed w
-copies_stay setup lock placed v w copies work rests = record {
+-- a pass goes on to copy under its locks
+pub copies_stay : (setup : Setup) (locks : List ℕ) (placed : PlacedState) (v w : View)
+    → CopiesUnder setup locks placed v → KeepsWork v w → w.writing.hold ≡ Idle
+    → CopiesUnder setup locks placed w
+copies_stay setup locks placed v w copies work rests = record {
   copy = copies.copy;
   working = work.working ∙ copies.working;
   under = copies.under;

@@ -9,6 +9,7 @@ pub mod FlushLaws
 pub mod FlightLaws
 pub mod InHandLaws
 pub mod InsertLaws
+pub mod LandLaws
 pub mod Keeping
 pub mod NextWord
 pub mod Opens

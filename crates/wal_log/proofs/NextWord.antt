@@ -1,13 +1,13 @@
 -- How far an insert tells its copy to be: up to the address of the next word, which is within the
 -- log, and a multiple of 8.
-use Rattle.std.proofs.Common.{◌≡◌, ℕ, ◌^◌, ◌<◌, List, [], ◌∷◌, refl, sym, ap, ◌∙◌, subst, arith}
+use Rattle.std.proofs.Common.{◌≡◌, ℕ, ◌^◌, ◌<◌, List, Contains, sym, ap, ◌∙◌, subst, arith}
 use Rattle.wal_page.specs.EntryWords.{address_of_word}
 use Rattle.wal_page.specs.Placed.{PlacedState}
 use Rattle.wal_core.specs.declared.setup.Setup.{Setup}
-use Rattle.wal_core.specs.Steps.{advance, MayStep}
 use Rattle.wal_core.specs.Locked.{most_told}
 use Rattle.wal_core.specs.Words.{end_form}
 use Rattle.wal_core.specs.Views.{Copy, Copying, Flight, Working, View}
+use Rattle.insert_locks.specs.Holding.{MayTell}
 use Rattle.machine_laws.proofs.ToldLaws.{told_of_copy}
 use Rattle.wal_rule.specs.declared.seated.SeatedPass.{SeatedPass}
 use Rattle.wal_rule.specs.SeatedPasses.{view_of}
@@ -16,8 +16,8 @@ use Rattle.wal_log.specs.Standing.{CopiesAlone}
 use Rattle.wal_log.proofs.CopyLaws.{alone_low}
 use Rattle.wal_log.proofs.Seated.{own_setup}
 
-module _ {D : Type 0} (p : SeatedPass D) (lock : ℕ) (placed : PlacedState)
-    (copies : CopiesAlone lock placed p) where
+module _ {D : Type 0} (p : SeatedPass D) (locks : List ℕ) (placed : PlacedState)
+    (copies : CopiesAlone locks placed p) where
   abbrev v : View
   v = view_of p
 
@@ -33,15 +33,14 @@ module _ {D : Type 0} (p : SeatedPass D) (lock : ℕ) (placed : PlacedState)
       (sym (own_setup p))
 
   pub told_low : placed.next < 2 ^ 60
-  told_low = let low = alone_low p lock placed copies in omega (arith, low)
+  told_low = let low = alone_low p locks placed copies in omega (arith, low)
 
-  one_lock : (locks : List ℕ) → locks ≡ lock ∷ [] → Rattle.std.specs.Prelude.Contains locks lock
-  one_lock locks are = subst (λ (l : List ℕ). Rattle.std.specs.Prelude.Contains l lock) (sym are)
-      (0, omega arith, refl)
+  has : (held : List ℕ) → held ≡ locks → (lock : ℕ) → Contains locks lock → Contains held lock
+  has held are lock among = subst (λ (l : List ℕ). Contains l lock) (sym are) among
 
-  pub may_tell : MayStep v (advance lock placed.next)
-  may_tell = (
-    one_lock (v.working).locks (ap (λ (w : Working). w.locks) (copies.under).working),
+  pub may_tell : MayTell locks placed.next v
+  may_tell lock among = (
+    has (v.working).locks (ap (λ (w : Working). w.locks) (copies.under).working) lock among,
     subst (λ (f : Flight). placed.next < most_told ((v.opening).setup).segment_size
         (end_form (v.opening).setup (v.reserving).seen) lock f) (sym flight)
         (omega (
@@ -49,7 +48,7 @@ module _ {D : Type 0} (p : SeatedPass D) (lock : ℕ) (placed : PlacedState)
           next_is,
           told_of_copy ((v.opening).setup).segment_size
               (end_form (v.opening).setup (v.reserving).seen) copy lock
-              (one_lock copy.locks (copies.under).under),
+              (has copy.locks (copies.under).under lock among),
         )),
     next-whole p placed (copy, flight, (copies.under).rest),
   )

@@ -1,5 +1,5 @@
 -- A copy that has no word left: its entry stands whole.
-use Rattle.std.proofs.Common.{◌≡◌, ℕ, sym, ap, ◌∙◌, subst, arith}
+use Rattle.std.proofs.Common.{◌≡◌, ℕ, List, sym, ap, ◌∙◌, subst, arith}
 use Rattle.std.proofs.Math.Logic.{∥∥₁_map}
 use mathlib.Core.Option.{Option, none, some}
 use Rattle.wal_page.specs.EntryWords.{words_owned}
@@ -10,7 +10,7 @@ use Rattle.wal_core.specs.Views.{Copy, Copying, View, Working}
 use Rattle.machine_laws.proofs.EntryLaws.{entries_are_whole_or_in_flight}
 use Rattle.machine_laws.proofs.ShownLaws.{entries_are_copied}
 use Rattle.wal_rule.specs.Stepping.{Stands}
-use Rattle.wal_log.specs.Standing.{CopiesUnderOneLock, KeepsPass, entry_in_flight, entry_of_flight}
+use Rattle.wal_log.specs.Standing.{CopiesUnder, KeepsPass, entry_in_flight, entry_of_flight}
 use Rattle.wal_log.specs.Whole.{CopiesWhole, StandsWhole}
 use Rattle.wal_log.proofs.Keeping.{further_pass}
 
@@ -31,9 +31,9 @@ abbrev entry_or : Entry → Option Entry → Entry
 entry_or e none = e
 entry_or e (some other) = other
 
--- what a copy under one lock leaves that has ended
-module _ (setup : Setup) (lock : ℕ) (placed : PlacedState) (old v new : View)
-    (c : CopiesUnderOneLock setup lock placed v) (stood : ∥ Stands v ∥₁)
+-- what a copy leaves that has ended
+module _ (setup : Setup) (locks : List ℕ) (placed : PlacedState) (old v new : View)
+    (c : CopiesUnder setup locks placed v) (stood : ∥ Stands v ∥₁)
     (all : (c.copy).copied ≡ words_owned ((v.opening).setup).segment_size (c.copy).entry) where
   flies : (v.working).flight ≡ Copying c.copy
   flies = ap (λ (w : Working). w.flight) c.working
@@ -61,6 +61,20 @@ copied_behind old mid new e behind was = record {
   view = was.view;
   since = was.since;
   until = further_pass was.view mid new was.until behind;
+  copy = was.copy;
+  in_flight = was.in_flight;
+  entry_is = was.entry_is;
+  none_left = was.none_left;
+  whole = was.whole;
+}
+
+-- and behind earlier ones
+pub copied_since : (old mid new : View) (e : Entry) → KeepsPass old mid → CopiesWhole mid new e
+    → CopiesWhole old new e
+copied_since old mid new e before was = record {
+  view = was.view;
+  since = further_pass old mid was.view before was.since;
+  until = was.until;
   copy = was.copy;
   in_flight = was.in_flight;
   entry_is = was.entry_is;

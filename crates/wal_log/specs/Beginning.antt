@@ -1,5 +1,5 @@
 -- What one try to reserve a record's place answers, and what it leaves of its pass.
-use Rattle.std.specs.Prelude.{◌≡◌, ℕ, ◌<◌, Result, Ok, Err}
+use Rattle.std.specs.Prelude.{◌≡◌, ℕ, ◌<◌, Result, Ok, Err, [], ◌∷◌}
 use mathlib.Core.Option.{some}
 use Rattle.record_spelling.specs.Spelling.{Assembled}
 use Rattle.wal_page.specs.Order.{Entry, start_of}
@@ -18,7 +18,7 @@ use Rattle.wal_log.specs.declared.beginning.TryErr.TheVariants.{Busy, AllHeld, F
 use Rattle.wal_log.specs.Downs.{KnowsNoFault, MeetsDown}
 use Rattle.wal_log.specs.Inserting.{FindsLogFull, HasReserved}
 use Rattle.wal_log.specs.PassLogs.{log_of_pass}
-use Rattle.wal_log.specs.Standing.{CopiesUnderOneLock, entry_in_flight}
+use Rattle.wal_log.specs.Standing.{CopiesUnder, entry_in_flight}
 
 -- an entry was reserved, and is copied under one lock, of which all words are left; it starts and
 -- ends at these addresses
@@ -28,7 +28,7 @@ pub record IsPlaceBegun (setup : Setup) (body : Assembled) (old new : View) (beg
   pub reserved : HasReserved setup body old new entry
   pub up : KnowsNoFault new
   pub lock_low : begun.lock < 8
-  pub copies : CopiesUnderOneLock setup begun.lock begun.placed new
+  pub copies : CopiesUnder setup (begun.lock ∷ []) begun.placed new
   pub in_flight : entry_in_flight new ≡ some entry
   pub prev : ℕ
   pub placed_is : begun.placed ≡ placed_first setup body entry.start prev

@@ -1,11 +1,11 @@
 -- Commits that are answered before they are durable, and what a flush behind them answers.
-use Rattle.std.specs.Prelude.{◌≡◌, ◌⊎◌, ℕ, ◌*◌, ◌/◌, ◌<◌, ◌≤◌, Result, Ok, Err}
+use Rattle.std.specs.Prelude.{◌≡◌, ◌⊎◌, ℕ, ◌*◌, ◌/◌, ◌<◌, ◌≤◌, All, Result, Ok, Err}
 use mathlib.Core.Option.{none}
 use Rattle.wal_types.specs.declared.answers.Hard.{Hard}
 use Rattle.wal_core.specs.Moves.{with_async}
 use Rattle.wal_core.specs.Steps.{load_async, load_down, load_flushed, view_behind}
 use Rattle.wal_core.specs.Words.{end_form}
-use Rattle.wal_core.specs.Views.{View}
+use Rattle.wal_core.specs.Views.{FlushPromise, View}
 use Rattle.wal_rule.specs.declared.seated.SeatedPass.{SeatedPass}
 use Rattle.wal_rule.specs.SeatedPasses.{HasView, view_of}
 use Rattle.wal_rule.specs.Stepping.{Meets}
@@ -36,14 +36,19 @@ abbrev pub page_of_end : View → ℕ → ℕ
 page_of_end v seen = page_start (end_form (v.opening).setup seen)
 
 -- the flushed address, the async address and the position were loaded, one behind another, and
--- nothing else of the view has changed. The target is where the page begins that holds the end met
--- as reserved, where that is above the flushed address, else the async address; it is reserved
+-- nothing else of the view has changed. The pass was promised nothing above the flushed address,
+-- which is reserved. The target is where the page begins that holds the end met as reserved, where
+-- that is above the flushed address, else the async address; it is reserved
 pub record SeesTarget (flushed target : ℕ) (old new : View) : Type 0 where
   pub met : Meets old load_flushed flushed
   pub async : Meets (view_behind old load_flushed flushed none) load_async new.async_met
   pub position : SeesPosition (view_behind (view_behind old load_flushed flushed none)
       load_async new.async_met none) (new.reserving).seen
   pub rises : (old.reserving).seen ≤ (new.reserving).seen
+  pub furthest : All (λ (p : FlushPromise). p.upto ≤ flushed) old.writing.promises
+  pub flushed_low : flushed ≤ end_form (old.opening).setup (new.reserving).seen
+  pub begun : ((old.opening).setup).segment_size
+      ≤ end_form (old.opening).setup (new.reserving).seen
   pub new_is : new ≡ with_async new.async_met (record old {
     reserving = record old.reserving { seen = (new.reserving).seen };
     writing = record old.writing { flushed = flushed };

@@ -1,5 +1,5 @@
 -- A record in flight, which its caller copies: what it is, and what each call leaves of it.
-use Rattle.std.specs.Prelude.{◌≡◌, ℕ, ◌<◌, Result, Ok, Err}
+use Rattle.std.specs.Prelude.{◌≡◌, ℕ, ◌<◌, Result, Ok, Err, [], ◌∷◌}
 use mathlib.Core.Option.{some}
 use Rattle.record_spelling.specs.Spelling.{Assembled}
 use Rattle.wal_types.specs.declared.answers.Receipt.{Receipt}
@@ -18,7 +18,7 @@ use Rattle.wal_log.specs.Beginning.{IsPlaceBegun, TellsBeginTry}
 use Rattle.wal_log.specs.Downs.{KnowsNoFault, MeetsDown}
 use Rattle.wal_log.specs.Logs.{IsPassOfLog, setup_of_log, table_of}
 use Rattle.wal_log.specs.PassLogs.{log_of_pass}
-use Rattle.wal_log.specs.Standing.{CopiesUnderOneLock, KeepsPass, entry_in_flight}
+use Rattle.wal_log.specs.Standing.{CopiesUnder, KeepsPass, entry_in_flight}
 use Rattle.wal_log.specs.Whole.{CopiesWhole}
 
 -- what its pass knows and is about
@@ -30,7 +30,7 @@ view_of_flight flight = view_of_pass flight.pass
 pub record IsInFlightOf {D : Type 0} (wal : Wal D) (flight : Inflight) : Type 0 where
   pub of_log : IsPassOn (table_of wal) flight.pass
   pub lock_low : (flight.begun).lock < 8
-  pub copies : CopiesUnderOneLock (setup_of_log wal) (flight.begun).lock (flight.begun).placed
+  pub copies : CopiesUnder (setup_of_log wal) ((flight.begun).lock ∷ []) (flight.begun).placed
       (view_of_flight flight)
   pub start_is : (flight.begun).start.0
       ≡ start_of (setup_of_log wal).segment_size (copies.copy).entry

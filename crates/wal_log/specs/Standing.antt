@@ -1,11 +1,12 @@
 -- What stays of a pass in a call, and what it is about in the midst of one.
-use Rattle.std.specs.Prelude.{◌≡◌, ℕ, ◌<◌, ◌≤◌, [], ◌∷◌}
+use Rattle.std.specs.Prelude.{◌≡◌, ℕ, ◌≤◌, List, [], length}
 use mathlib.Core.Option.{Option, none, some}
 use Rattle.wal_page.specs.Order.{Entry}
 use Rattle.wal_page.specs.Placed.{PlacedState}
 use Rattle.wal_core.specs.declared.setup.Setup.{Setup}
 use Rattle.wal_core.specs.Views.{Away, Copy, Copying, Flight, Free, Landed, Idle, View}
 use Rattle.word_ring.specs.Copied.{rest_of}
+use Rattle.insert_locks.specs.Holding.{AreLocks}
 use Rattle.wal_rule.specs.declared.seated.SeatedPass.{SeatedPass}
 use Rattle.wal_rule.specs.Downs.{KnowsDown}
 use Rattle.wal_rule.specs.SeatedPasses.{StandsAtRest, StaysSeated, hand_of, setup_of, view_of}
@@ -44,20 +45,20 @@ entry_of_flight (Copying c) = some c.entry
 abbrev pub entry_in_flight : View → Option Entry
 entry_in_flight v = entry_of_flight (v.working).flight
 
--- it has one insertion lock, and is about nothing else
-pub record HasOneLock (lock : ℕ) (v : View) : Type 0 where
-  pub working : v.working ≡ record { locks = lock ∷ []; flight = Landed }
+-- it has these insertion locks, and is about nothing else
+pub record HasLocks (locks : List ℕ) (v : View) : Type 0 where
+  pub working : v.working ≡ record { locks = locks; flight = Landed }
   pub place : (v.reserving).place ≡ Free
   pub stage : (v.mapping).stage ≡ Away
   pub hold : v.writing.hold ≡ Idle
 
--- it copies an entry under one insertion lock, of which this record at its place gives the words
--- that are left, and is about nothing else
-pub record CopiesUnderOneLock (setup : Setup) (lock : ℕ) (placed : PlacedState) (v : View)
+-- it copies an entry under these insertion locks, which are all that it has. This record at its
+-- place gives the words that are left of the entry; and it is about nothing else
+pub record CopiesUnder (setup : Setup) (locks : List ℕ) (placed : PlacedState) (v : View)
     : Type 0 where
   pub copy : Copy
-  pub working : v.working ≡ record { locks = lock ∷ []; flight = Copying copy }
-  pub under : copy.locks ≡ lock ∷ []
+  pub working : v.working ≡ record { locks = locks; flight = Copying copy }
+  pub under : copy.locks ≡ locks
   pub rest : placed ≡ rest_of setup copy
   pub place : (v.reserving).place ≡ Free
   pub stage : (v.mapping).stage ≡ Away
@@ -65,19 +66,21 @@ pub record CopiesUnderOneLock (setup : Setup) (lock : ℕ) (placed : PlacedState
 
 -- ---- what it is about at its table
 
--- it holds just this insertion lock, and has nothing in hand
-pub record HoldsOneLock {D : Type 0} (lock : ℕ) (p : SeatedPass D) : Type 0 where
-  pub low : lock < 8
-  pub one : HasOneLock lock (view_of p)
+-- it holds just these insertion locks, at least one, and has nothing in hand
+pub record HoldsLocks {D : Type 0} (locks : List ℕ) (p : SeatedPass D) : Type 0 where
+  pub some : 1 ≤ length locks
+  pub are : AreLocks locks
+  pub has : HasLocks locks (view_of p)
   pub empty : hand_of p ≡ []
 
--- it copies under just this insertion lock, of which this record at its place gives the words that
--- are left, and has nothing in hand
-pub record CopiesAlone {D : Type 0} (lock : ℕ) (placed : PlacedState) (p : SeatedPass D) : Type 0
-  where
-    pub low : lock < 8
-    pub under : CopiesUnderOneLock (setup_of p) lock placed (view_of p)
-    pub empty : hand_of p ≡ []
+-- it copies an entry under just these insertion locks, at least one, of which entry this record at
+-- its place gives the words that are left, and has nothing in hand
+pub record CopiesAlone {D : Type 0} (locks : List ℕ) (placed : PlacedState) (p : SeatedPass D)
+    : Type 0 where
+  pub some : 1 ≤ length locks
+  pub are : AreLocks locks
+  pub under : CopiesUnder (setup_of p) locks placed (view_of p)
+  pub empty : hand_of p ≡ []
 
 -- it has neither the turn to write nor the writer
 pub record HasNoTurn {D : Type 0} (p : SeatedPass D) : Type 0 where

@@ -4,7 +4,8 @@
 // the address as its goal, and what it is told to flush is whole. Nothing is held meanwhile, and
 // others may raise it further in between: then nothing is stored. It makes no device call for it.
 // What is answered so may be lost in a crash, until a flush by anybody has passed its end.
-ghost use Rattle.std.specs.Prelude.{◌≡◌, ◌%◌, ◌≤◌, Err, IfOk, None};
+ghost use Rattle.std.specs.Prelude.{◌≡◌, ◌%◌, ◌≤◌, false, Err, IfOk, None};
+ghost use Rattle.record_spelling.specs.Spelling.{is_assembled_switch};
 ghost use Rattle.wal_core.specs.Words.{end_form};
 ghost use Rattle.wal_rule.specs.Downs.{KnowsDown};
 ghost use Rattle.wal_rule.specs.Passes.{view_of_pass};
@@ -35,6 +36,8 @@ impl<D: Disk> Wal<D> {
         body: &Body,
     ) -> Result<Receipt, InsertErr>
         requires pass { IsPassOfLog self.now pass.old }
+        // A segment switch is no record to insert: it closes its segment under all locks.
+        requires inserted { is_assembled_switch body.now ≡ false }
         // As an insert tells it, and refuses it.
         ensures inserts { AnswersInsert (setup_of_log self.now) body.now
             (view_of_pass pass.old) result (view_of_pass pass.new) }
@@ -64,6 +67,7 @@ fn commit_async_on<'p, D: Disk, R: Wait>(
     body: &Body,
 ) -> Result<Receipt, InsertErr>
     requires rests { StandsAtRest seated.old }
+    requires inserted { is_assembled_switch body.now ≡ false }
     ensures inserts { AnswersInsert (setup_of seated.old) body.now (view_of seated.old) result
         (view_of seated.new) }
     ensures counts { IfOk result (λ receipt. receipt.end.0 ≤ (view_of seated.new).async_met) }

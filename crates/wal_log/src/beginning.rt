@@ -5,15 +5,16 @@
 // watch that sees the record reserved finds it held until all is copied. It stays held with the
 // record in flight under it. A try that reserves nothing releases it: the caller waits with
 // nothing held.
-ghost use Rattle.std.specs.Prelude.{◌≡◌, IsErrOf};
+ghost use Rattle.std.specs.Prelude.{◌≡◌, false, [], ◌∷◌, IsErrOf};
+ghost use Rattle.record_spelling.specs.Spelling.{is_assembled_switch};
 ghost use Rattle.wal_rule.specs.Downs.{KnowsDown};
 ghost use Rattle.wal_rule.specs.SeatedPasses.{StandsAtRest, setup_of, view_of};
 ghost use Rattle.wal_log.specs.Beginning.{AnswersBeginTry, try_err_known_down, try_err_of_reserve};
 ghost use Rattle.wal_log.specs.Downs.{KnowsNoFault};
-ghost use Rattle.wal_log.specs.Standing.{GoesOnSeated, HoldsOneLock};
+ghost use Rattle.wal_log.specs.Standing.{GoesOnSeated, HoldsLocks};
 ghost use Rattle.wal_log.specs.declared.beginning.TryErr.TheVariants.{AllHeld};
 
-use insert_locks::{AllHeld, try_take};
+use insert_locks::{AllHeld, Held, release, try_take};
 use record_spelling::Body;
 use reserve_lock::{ReserveErr, try_reserve};
 use segment_disk::Disk;
@@ -51,6 +52,7 @@ pub(crate) fn try_begin<'p, 'a, D: Disk>(
     body: &'a Body,
 ) -> Result<Begun<'a>, TryErr>
     requires rests { StandsAtRest seated.old }
+    requires inserted { is_assembled_switch body.now ≡ false }
     // Reserved: the entry is the last of the pass's log, and in flight under one lock that it
     // holds, with all its words left to copy. Else the pass is about nothing again, and its log is
     // as it was, but for a note if the log was full.
@@ -79,8 +81,9 @@ fn reserve_under<'p, 'a, D: Disk>(
     lock: u32,
     body: &'a Body,
 ) -> Result<Begun<'a>, TryErr>
-    requires holds { HoldsOneLock lock seated.old }
+    requires holds { HoldsLocks (lock ∷ []) seated.old }
     requires up { KnowsNoFault (view_of seated.old) }
+    requires inserted { is_assembled_switch body.now ≡ false }
     ensures begins { AnswersBeginTry (setup_of seated.old) body.now (view_of seated.old) result
         (view_of seated.new) }
     ensures sets_none { (view_of seated.new).writing.down_set
@@ -95,7 +98,7 @@ fn reserve_under<'p, 'a, D: Disk>(
             placed: reserved.placed,
         }),
         Err(e) => {
-            seated.release(lock);
+            release(seated, Held::One(lock));
             Err(TryErr::from(e))
         }
     }

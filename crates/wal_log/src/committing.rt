@@ -2,7 +2,8 @@
 // XLogFlush): an insert, then a flush to the record's end. Nothing is held between the two. Others
 // may flush in between, and make this record durable too: then the flush tells what it finds as
 // flushed. If the flush is refused the record keeps its place, and nothing is promised of it.
-ghost use Rattle.std.specs.Prelude.{◌≡◌};
+ghost use Rattle.std.specs.Prelude.{◌≡◌, false};
+ghost use Rattle.record_spelling.specs.Spelling.{is_assembled_switch};
 ghost use Rattle.wal_rule.specs.Downs.{KnowsDown};
 ghost use Rattle.wal_rule.specs.Passes.{view_of_pass};
 ghost use Rattle.wal_rule.specs.SeatedPasses.{StandsAtRest, setup_of, view_of};
@@ -45,6 +46,8 @@ impl<D: Disk> Wal<D> {
     /// the record's end. Where the flush is refused, the record's start is told.
     pub fn commit<R: Wait>(&self, rt: &R, pass: &mut Pass, body: &Body) -> Result<Sealed, Refused>
         requires pass { IsPassOfLog self.now pass.old }
+        // A segment switch is no record to insert: it closes its segment under all locks.
+        requires inserted { is_assembled_switch body.now ≡ false }
         // The pass's log has the record's entry and then a promise that reaches its end, with the
         // places and the moment that are told. Or it tells why not.
         ensures commits { AnswersCommit (setup_of_log self.now) body.now
@@ -71,6 +74,7 @@ fn commit_on<'p, D: Disk, R: Wait>(
     body: &Body,
 ) -> Result<Sealed, Refused>
     requires rests { StandsAtRest seated.old }
+    requires inserted { is_assembled_switch body.now ≡ false }
     ensures commits { AnswersCommit (setup_of seated.old) body.now (view_of seated.old) result
         (view_of seated.new) }
     ensures down_again { (faults : _) → KnowsDown faults (view_of seated.old)

@@ -1,13 +1,14 @@
 // A reserved record's words are copied, page by page (PostgreSQL's xlog.c, CopyXLogRecordToWAL,
-// GetXLogBuffer). The record is in flight under one insertion lock, which stays held. Of the page
-// of its next word the buffer's end is loaded: if it is the page's own, the words are stored, else
-// one page is mapped and the end loaded again. A copy stops where so many words are copied as were
-// asked for, where somebody else has the turn to map, or where the page to be replaced is not
-// written. Where words are left it tells its progress under its lock, which PostgreSQL does before
-// it maps any page (WALInsertLockUpdateInsertingAt): a lock that tells nothing holds every watcher
-// back, also one that would write that page. An insert goes on from there: it loads down (word 16)
-// before it pauses.
+// GetXLogBuffer). The record is in flight under insertion locks, which stay held: one, or for a
+// segment switch all. Of the page of its next word the buffer's end is loaded: if it is the page's
+// own, the words are stored, else one page is mapped and the end loaded again. A copy stops where
+// so many words are copied as were asked for, where somebody else has the turn to map, or where the
+// page to be replaced is not written. Where words are left it tells its progress under its locks,
+// which PostgreSQL does before it maps any page (WALInsertLockUpdateInsertingAt): a lock that tells
+// nothing holds every watcher back, also one that would write that page. An insert goes on from
+// there: it loads down (word 16) before it pauses.
 ghost use Rattle.std.specs.Prelude.{◌≡◌, ◌<◌, ◌≤◌, ◌^◌, MatchResult};
+ghost use Rattle.insert_locks.specs.Holding.{locks_of};
 ghost use Rattle.wal_core.specs.Views.{Away};
 ghost use Rattle.wal_page.specs.Placed.{placed_end};
 ghost use Rattle.wal_rule.specs.SeatedPasses.{setup_of, view_of};
@@ -21,6 +22,7 @@ use crate::fault::Fault;
 use crate::writing::{WriteErr, tell_progress, write_early};
 use byte_position::PAGE_SIZE;
 use crossbeam_utils::Backoff;
+use insert_locks::Held;
 use segment_disk::Disk;
 use std::sync::Wait;
 use wal_page::Placed;
@@ -64,18 +66,18 @@ pub struct Copied {
 pub(crate) fn copy_whole<'p, 'a, D: Disk, R: Wait>(
     rt: &R,
     seated: &mut SeatedPass<'p, D>,
-    lock: u32,
+    held: Held,
     end: Lsn,
     placed: &mut Placed<'a>,
 ) -> Result<(), Fault>
-    // The pass copies this record under this one lock and is about nothing else. It knows of no
+    // The pass copies this record under these locks and is about nothing else. It knows of no
     // failed disk.
-    requires copies { CopiesAlone lock placed.old seated.old }
+    requires copies { CopiesAlone (locks_of held) placed.old seated.old }
     requires end { end.0 ≡ placed_end placed.old }
     requires up { KnowsNoFault (view_of seated.old) }
-    // However it ends, the record stays in flight under the lock; at Ok no word of it is left. Else
-    // the disk failed in this call or before: the caller may give the copy up.
-    ensures copies { CopiesAlone lock placed.new seated.new }
+    // However it ends, the record stays in flight under the locks; at Ok no word of it is left.
+    // Else the disk failed in this call or before: the caller may give the copy up.
+    ensures copies { CopiesAlone (locks_of held) placed.new seated.new }
     ensures ends { MatchResult result
         (λ _. (placed.new.next ≡ placed_end placed.old) × KnowsNoFault (view_of seated.new))
         (λ e. MeetsFault (view_of seated.old) (view_of seated.new) e) }
@@ -83,13 +85,13 @@ pub(crate) fn copy_whole<'p, 'a, D: Disk, R: Wait>(
 {
     let backoff = Backoff::new();
     for _ in rt.forever() {
-        let copied = copy_front(seated, lock, end, placed, u32::MAX);
+        let copied = copy_front(seated, held, end, placed, u32::MAX);
         match copied.stop {
             CopyStop::Whole => return Ok(()),
             CopyStop::Asked => backoff.reset(),
             CopyStop::Absent(absent) => {
                 reset_behind(&backoff, copied.k);
-                wait_for_page(seated, lock, placed, absent, &backoff)?;
+                wait_for_page(seated, held, placed, absent, &backoff)?;
             }
         }
     }
@@ -107,16 +109,16 @@ fn reset_behind(backoff: &Backoff, copied: u32) {
 // none was asked for. It does not wait. The record's last word ends at `end`.
 pub(crate) fn copy_front<'p, 'a, D: Disk>(
     seated: &mut SeatedPass<'p, D>,
-    lock: u32,
+    held: Held,
     end: Lsn,
     placed: &mut Placed<'a>,
     most: u32,
 ) -> Copied
-    // The pass copies this record under this one lock and is about nothing else.
-    requires copies { CopiesAlone lock placed.old seated.old }
+    // The pass copies this record under these locks and is about nothing else.
+    requires copies { CopiesAlone (locks_of held) placed.old seated.old }
     requires end { end.0 ≡ placed_end placed.old }
     // So it does behind it. It tells how many words were copied, and why it stopped.
-    ensures copies { CopiesAlone lock placed.new seated.new }
+    ensures copies { CopiesAlone (locks_of held) placed.new seated.new }
     ensures tells { CopiesFront (setup_of seated.old) most placed.old placed.new
         (view_of seated.old) (view_of seated.new) result }
     // No fault was met on the way.
@@ -134,7 +136,7 @@ pub(crate) fn copy_front<'p, 'a, D: Disk>(
         match copy_some(seated, end, placed, most - k) {
             Ok(count) => k += count,
             Err(stop) => {
-                tell_progress(seated, lock, placed);
+                tell_progress(seated, held, placed);
                 return Copied { k, stop };
             }
         }
@@ -153,12 +155,12 @@ fn copy_some<'p, 'a, D: Disk>(
     placed: &mut Placed<'a>,
     most: u32,
 ) -> Result<u32, CopyStop>
-    // The pass copies this record under one lock, and does so still behind the step.
-    requires copies { (lock : _) × CopiesAlone lock placed.old seated.old }
+    // The pass copies this record under locks, and does so still behind the step.
+    requires copies { (locks : _) × CopiesAlone locks placed.old seated.old }
     requires end { end.0 ≡ placed_end placed.old }
     requires left { placed.old.next < placed_end placed.old }
-    ensures copies { (lock : _) → CopiesAlone lock placed.old seated.old
-        → CopiesAlone lock placed.new seated.new }
+    ensures copies { (locks : _) → CopiesAlone locks placed.old seated.old
+        → CopiesAlone locks placed.new seated.new }
     ensures tells { MatchResult result (λ count. CopiesSome most count placed.old placed.new)
         (λ stop. (placed.new ≡ placed.old)
         × StopsAtOnce (setup_of seated.old) most placed.old (view_of seated.new) stop) }
@@ -218,16 +220,16 @@ fn reach_page<'p, D: Disk>(seated: &mut SeatedPass<'p, D>, page: u64) -> Result<
 // Pauses where somebody has the turn to map; else makes room, or pauses if that cannot be done.
 fn wait_for_page<'p, 'a, D: Disk>(
     seated: &mut SeatedPass<'p, D>,
-    lock: u32,
+    held: Held,
     placed: &Placed<'a>,
     absent: Absent,
     backoff: &Backoff,
 ) -> Result<(), Fault>
-    requires copies { CopiesAlone lock placed.now seated.old }
+    requires copies { CopiesAlone (locks_of held) placed.now seated.old }
     requires up { KnowsNoFault (view_of seated.old) }
     requires low { absent.written < 2 ^ 60 }
     // It copies so behind it. That the page can be mapped now is not said; the caller looks again.
-    ensures copies { CopiesAlone lock placed.now seated.new }
+    ensures copies { CopiesAlone (locks_of held) placed.now seated.new }
     ensures ends { MatchResult result (λ _. KnowsNoFault (view_of seated.new))
         (λ e. MeetsFault (view_of seated.old) (view_of seated.new) e) }
     ensures copies_on { CopyGoesOn placed.now placed.now seated.old seated.new }
@@ -236,14 +238,14 @@ fn wait_for_page<'p, 'a, D: Disk>(
         return wait_up(seated, backoff);
     }
     let upto = (absent.written / PAGE_SIZE + 1) * PAGE_SIZE;
-    match write_early(seated, lock, placed, upto) {
+    match write_early(seated, held, placed, upto) {
         Ok(()) => Ok(()),
         Err(WriteErr::Fault(fault)) => Err(fault),
         Err(_) => wait_up(seated, backoff),
     }
 }
 
-// Pauses, unless the disk has failed. Its lock and its copy the pass has as before.
+// Pauses, unless the disk has failed. Its locks and its copy the pass has as before.
 fn wait_up<'p, D: Disk>(seated: &mut SeatedPass<'p, D>, backoff: &Backoff) -> Result<(), Fault>
     ensures ends { MatchResult result (λ _. KnowsNoFault (view_of seated.new))
         (λ e. FindsDown (view_of seated.old) (view_of seated.new) e) }

@@ -5,7 +5,8 @@
 // other passes insert and flush beside it. While the lock tells nothing, each flush of an address
 // that is not flushed yet ends at it, also one below the record; once it tells an address, flushes
 // pass up to there. Behind a failed disk the copy may be given up, as an insert does it.
-ghost use Rattle.std.specs.Prelude.{◌≡◌, IsErrAnd};
+ghost use Rattle.std.specs.Prelude.{◌≡◌, false, IsErrAnd};
+ghost use Rattle.record_spelling.specs.Spelling.{is_assembled_switch};
 ghost use Rattle.wal_rule.specs.Downs.{KnowsDown};
 ghost use Rattle.wal_rule.specs.Passes.{view_of_pass};
 ghost use Rattle.wal_log.specs.Beginning.{try_err_known_down};
@@ -16,6 +17,7 @@ ghost use Rattle.wal_log.specs.Logs.{IsPassOfLog, setup_of_log};
 use crate::beginning::{Begun, TryErr, try_begin};
 use crate::copying::{Copied, copy_front};
 use crate::wal::Wal;
+use insert_locks::{Held, release};
 use record_spelling::Body;
 use segment_disk::Disk;
 use wal_rule::Pass;
@@ -38,6 +40,8 @@ impl<D: Disk> Wal<D> {
         body: &'a Body,
     ) -> Result<Inflight<'a>, (TryErr, Pass)>
         requires pass { IsPassOfLog self.now pass }
+        // A segment switch is no record to insert: it closes its segment under all locks.
+        requires inserted { is_assembled_switch body.now ≡ false }
         // The pass's log has the record's entry last, which is in flight with all its words left.
         // Or it tells why not: the pass is about nothing, and its log is as it was, but for a note
         // if the log was full.
@@ -71,7 +75,7 @@ impl<'a> Inflight<'a> {
     {
         let mut seated = self.pass.seat(&wal.table);
         let Begun { lock, end, .. } = self.begun;
-        let copied = copy_front(&mut seated, lock, end, &mut self.begun.placed, n);
+        let copied = copy_front(&mut seated, Held::One(lock), end, &mut self.begun.placed, n);
         self.pass.put_back(seated);
         copied
     }
@@ -88,7 +92,7 @@ impl<'a> Inflight<'a> {
         }
         let Inflight { mut pass, begun } = self;
         let mut seated = pass.seat(&wal.table);
-        seated.release(begun.lock);
+        release(&mut seated, Held::One(begun.lock));
         pass.put_back(seated);
         let receipt = Receipt {
             start: begun.start,

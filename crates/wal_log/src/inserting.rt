@@ -1,10 +1,9 @@
 // A record is inserted (PostgreSQL's xlog.c, XLogInsertRecord): its place is reserved under an
-// insertion lock (beginning.rt), its words are copied (copying.rt), and the lock is released, which
-// tells each watcher that no word of it is left (WALInsertLockRelease). From the reservation on it
-// has its place, whatever fails: the record behind it names its start. If the disk has failed the
-// copy is given up: record and lock stay with a view with which nobody steps any more, so that no
-// watch ever takes the record for copied. Nothing is said here of what is durable.
-ghost use Rattle.std.specs.Prelude.{◌≡◌, Err, IsErrOf, MatchResult, None};
+// insertion lock (beginning.rt), its words are copied, and the lock is given back (landing.rt).
+// From the reservation on it has its place, whatever fails: the record behind it names its start.
+// Nothing is said here of what is durable.
+ghost use Rattle.std.specs.Prelude.{◌≡◌, false, Err, IsErrOf, MatchResult, None};
+ghost use Rattle.record_spelling.specs.Spelling.{is_assembled_switch};
 ghost use Rattle.wal_core.specs.Steps.{IsResting};
 ghost use Rattle.wal_rule.specs.Downs.{KnowsDown};
 ghost use Rattle.wal_rule.specs.Passes.{view_of_pass};
@@ -16,10 +15,11 @@ ghost use Rattle.wal_log.specs.Standing.{ComesToRest, GoesOnSeated, KeepsPass};
 ghost use Rattle.wal_log.specs.declared.inserting.InsertErr.TheVariants.{Down};
 
 use crate::beginning::{Begun, TryErr, try_begin};
-use crate::copying::copy_whole;
 use crate::fault::Fault;
+use crate::landing::land;
 use crate::wal::Wal;
 use crossbeam_utils::Backoff;
+use insert_locks::Held;
 use record_spelling::Body;
 use segment_disk::Disk;
 use std::sync::Wait;
@@ -64,6 +64,8 @@ impl<D: Disk> Wal<D> {
         body: &Body,
     ) -> Result<Receipt, InsertErr>
         requires pass { IsPassOfLog self.now pass.old }
+        // A segment switch is no record to insert: it closes its segment under all locks.
+        requires inserted { is_assembled_switch body.now ≡ false }
         // The pass's log has the record's entry last, with the places that are told. Or it tells
         // why not, and the start of the entry if that stands in the order all the same.
         ensures inserts { AnswersInsert (setup_of_log self.now) body.now
@@ -90,6 +92,7 @@ pub(crate) fn insert_on<'p, D: Disk, R: Wait>(
     body: &Body,
 ) -> Result<Receipt, InsertErr>
     requires rests { StandsAtRest seated.old }
+    requires inserted { is_assembled_switch body.now ≡ false }
     ensures inserts { AnswersInsert (setup_of seated.old) body.now (view_of seated.old) result
         (view_of seated.new) }
     ensures down_again { (faults : _) → KnowsDown faults (view_of seated.old)
@@ -97,18 +100,13 @@ pub(crate) fn insert_on<'p, D: Disk, R: Wait>(
     ensures rests { ComesToRest seated.old seated.new }
 {
     let mut begun = begin(rt, seated, body)?;
-    match copy_whole(rt, seated, begun.lock, begun.end, &mut begun.placed) {
-        Ok(()) => {
-            seated.release(begun.lock);
-            Ok(Receipt {
-                start: begun.start,
-                end: begun.end,
-            })
-        }
-        Err(fault) => {
-            seated.give_up();
-            Err(InsertErr::at(begun.start, fault))
-        }
+    let held = Held::One(begun.lock);
+    match land(rt, seated, held, begun.end, &mut begun.placed) {
+        Ok(()) => Ok(Receipt {
+            start: begun.start,
+            end: begun.end,
+        }),
+        Err(fault) => Err(InsertErr::at(begun.start, fault)),
     }
 }
 
@@ -120,6 +118,7 @@ fn begin<'p, 'a, D: Disk, R: Wait>(
     body: &'a Body,
 ) -> Result<Begun<'a>, InsertErr>
     requires rests { StandsAtRest seated.old }
+    requires inserted { is_assembled_switch body.now ≡ false }
     ensures begins { MatchResult result
         (λ b. IsPlaceBegun (setup_of seated.old) body.now (view_of seated.old)
         (view_of seated.new) b)

@@ -3,10 +3,10 @@
 //! XLogFlush).
 //!
 //! `wal` says what a pass may hold at once. An insert is `inserting`: its place is reserved in
-//! `beginning`, its words are copied in `copying`. Its steps are calls of their own in `in_flight`.
-//! A flush is `flushing`; `promised` tells what is durable without one. `ahead` answers a commit
-//! before it is durable, and `behind` flushes behind such commits. `writing` and `turns` serve a
-//! flush, and an insert that needs a buffer.
+//! `beginning`, its words are copied in `copying`, its lock is given back in `landing`. Its steps
+//! are calls of their own in `in_flight`. A flush is `flushing`; `promised` tells what is durable
+//! without one. `ahead` answers a commit before it is durable, and `behind` flushes behind such
+//! commits. `writing` and `turns` serve a flush, and an insert that needs a buffer.
 #![tactic(auto)]
 
 mod ahead;
@@ -19,6 +19,7 @@ mod fault;
 mod flushing;
 mod in_flight;
 mod inserting;
+mod landing;
 pub mod numbers;
 mod opening;
 mod promised;

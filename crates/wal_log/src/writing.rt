@@ -2,10 +2,11 @@
 // XLogWrite), and stored as written (word 13), so that its pages may be replaced. This is not
 // durable yet and nobody is told so: a sync and two stores come behind it, in a flush alone.
 // An insert that needs the buffer of a page not written (AdvanceXLInsertBuffer) comes here with its
-// insertion lock held and its record in flight. In this order: it tells its progress under its
-// lock, which would hold its own watch back else; it watches; it takes the turn to write and the
+// insertion locks held and its record in flight. In this order: it tells its progress under its
+// locks, which would hold its own watch back else; it watches; it takes the turn to write and the
 // writer; it writes, stores what is written, and gives writer and turn back.
 ghost use Rattle.std.specs.Prelude.{◌≡◌, ◌≤◌, MatchResult};
+ghost use Rattle.insert_locks.specs.Holding.{locks_of};
 ghost use Rattle.wal_core.specs.Moves.{after_advance};
 ghost use Rattle.page_writing.specs.InHand.{IsReady, known_copied, writer_in};
 ghost use Rattle.wal_rule.specs.SeatedPasses.{HasView, view_of};
@@ -21,7 +22,7 @@ use crate::fault::Fault;
 use crate::turns::{TurnErr, give_back, go_down, take_ready};
 use byte_position::PAGE_SIZE;
 use flush_core::DiskFault;
-use insert_locks::{Watched, watch};
+use insert_locks::{Held, Watched, tell, watch};
 use page_writing::{write_out, writer_now};
 use segment_disk::Disk;
 use wal_page::Placed;
@@ -96,20 +97,20 @@ pub(crate) fn store_written<'p, D: Disk>(seated: &mut SeatedPass<'p, D>)
     seated.store_written(written);
 }
 
-// Tells how far a record's copy has come under its lock: up to the address of its next word. No
-// word of it is left below, so a watch may pass the lock up to there. The view keeps what was told,
-// and is else as it was.
+// Tells how far a record's copy has come, under each of its locks: up to the address of its next
+// word. No word of it is left below, so a watch may pass the locks up to there. The view keeps what
+// was told, and is else as it was.
 pub(crate) fn tell_progress<'p, 'a, D: Disk>(
     seated: &mut SeatedPass<'p, D>,
-    lock: u32,
+    held: Held,
     placed: &Placed<'a>,
 )
-    requires copies { CopiesAlone lock placed.now seated.old }
+    requires copies { CopiesAlone (locks_of held) placed.now seated.old }
     ensures view { HasView (after_advance placed.now.next (view_of seated.old))
         seated.old seated.new }
 {
     let next = placed.next_lsn().0;
-    seated.advance(lock, next);
+    tell(seated, held, next);
 }
 
 // For an insert that needs a page's buffer: tells how far its own copy has come, and writes all
@@ -117,21 +118,21 @@ pub(crate) fn tell_progress<'p, 'a, D: Disk>(
 // turn to write is free. The pass's next word lies behind that page.
 pub(crate) fn write_early<'p, 'a, D: Disk>(
     seated: &mut SeatedPass<'p, D>,
-    lock: u32,
+    held: Held,
     placed: &Placed<'a>,
     upto: u64,
 ) -> Result<(), WriteErr>
-    // The pass copies under this one lock, with no turn and no writer in hand, and so it does
+    // The pass copies under these locks, with no turn and no writer in hand, and so it does
     // behind it, however it ends.
-    requires copies { CopiesAlone lock placed.now seated.old }
+    requires copies { CopiesAlone (locks_of held) placed.now seated.old }
     requires up { KnowsNoFault (view_of seated.old) }
-    ensures copies { CopiesAlone lock placed.now seated.new }
+    ensures copies { CopiesAlone (locks_of held) placed.now seated.new }
     ensures copies_on { CopyGoesOn placed.now placed.now seated.old seated.new }
     // It was not written: the disk has failed, or a lock or the turn to write was in the way.
     ensures ends { MatchResult result (λ _. KnowsNoFault (view_of seated.new))
         (λ e. TellsWriteErr (view_of seated.old) (view_of seated.new) e) }
 {
-    tell_progress(seated, lock, placed);
+    tell_progress(seated, held, placed);
     let known = match watch(seated, upto) {
         Watched::Finished { upto } => upto,
         Watched::Behind { lock, word } => return Err(WriteErr::Behind { lock, word }),

@@ -100,7 +100,8 @@ module _ {D : Type 0} (tape : D → Option Tape) (moment faults : D → ℕ)
 
     began_on : BeganSuited (opening_of_log wal) t
     began_on = at_told (BeganSuited opening) (tape (slot_disk (run.closes).writer)) t tape_is
-        (began_suited opening began (tape (slot_disk (run.closes).writer)) refl
+        (began_suited opening began (tape (slot_disk (run.closes).writer))
+        (ap (λ (o : Opening). o.made) (run.opened).opening)
         (subst HoldsNothing (sym (run.opened).began) nothing) counted (ends.of_log).on_first
         (ends.of_log).goes_on)
 

@@ -7,6 +7,7 @@ use Rattle.record_spelling.specs.Spelling.{Assembled}
 use Rattle.wal_types.specs.declared.answers.Cause.{Cause}
 use Rattle.wal_types.specs.declared.answers.Cause.TheVariants as causes
 use Rattle.wal_types.specs.declared.answers.Hard.{Hard}
+use Rattle.wal_types.specs.declared.answers.Receipt.{Receipt}
 use Rattle.wal_types.specs.declared.answers.Refused.{Refused}
 use Rattle.wal_types.specs.declared.answers.Sealed.{Sealed}
 use Rattle.wal_types.specs.declared.lsn.Lsn.{Lsn}
@@ -25,7 +26,9 @@ use Rattle.wal_log.specs.declared.wal.Wal.{Wal}
 use Rattle.wal_log.specs.Beginning.{TellsBeginTry}
 use Rattle.wal_log.specs.Flights.{AnswersTryBegin, view_of_flight}
 use Rattle.wal_log.specs.Flushing.{AnswersFlushTry, TellsHard}
-use Rattle.wal_log.specs.Inserting.{IsStarted}
+use Rattle.wal_log.specs.declared.inserting.InsertErr.{InsertErr}
+use Rattle.wal_log.specs.declared.inserting.InsertErr.TheVariants as inserts
+use Rattle.wal_log.specs.Inserting.{AnswersInsert, IsStarted, RefusesInsert}
 use Rattle.wal_log.specs.Logs.{setup_of_log}
 use Rattle.wal_log.specs.PassLogs.{PassLog, log_of_pass, log_with_entry, log_with_full, log_with_promise}
 use Rattle.wal_log.specs.Standing.{KeepsPass}
@@ -104,6 +107,21 @@ module _ (setup : Setup) (body : Assembled) (old new : View) where
   refused_grows (causes.Down faults) None told = grows_so (log_of_pass old) _ (log_of_pass new)
       told.0 (grows_itself (log_of_pass old))
   refused_grows (causes.Down faults) (Some start) told = started_grows start.0 told.0
+
+  refused_insert_grows : (e : InsertErr) → RefusesInsert setup body old new e
+      → GrowsTo (log_of_pass old) (log_of_pass new)
+  refused_insert_grows (inserts.Full free) told = grows_so (log_of_pass old) _ (log_of_pass new)
+      (told.0).log_is (with_full (told.0).at (log_of_pass old))
+  refused_insert_grows (inserts.Disk faults start) told = started_grows start.0 told.0
+  refused_insert_grows (inserts.Down faults None) told = grows_so (log_of_pass old) _ (log_of_pass new)
+      told.0 (grows_itself (log_of_pass old))
+  refused_insert_grows (inserts.Down faults (Some start)) told = started_grows start.0 told.0
+
+  pub insert_grows : (answer : Result Receipt InsertErr) → AnswersInsert setup body old answer new
+      → GrowsTo (log_of_pass old) (log_of_pass new)
+  insert_grows (Ok receipt) told = grows_so (log_of_pass old) _ (log_of_pass new)
+      (told.reserved).log_is (with_entry told.entry (log_of_pass old))
+  insert_grows (Err e) told = refused_insert_grows e told
 
   pub commit_grows : (answer : Result Sealed Refused) → AnswersCommit setup body old answer new
       → GrowsTo (log_of_pass old) (log_of_pass new)

@@ -1,6 +1,6 @@
 -- A pass that has all numbers is held up by nobody in the calls that do not wait.
 use Rattle.std.specs.Prelude.{Result, Ok, Err}
-use Rattle.std.proofs.Common.{◌≡◌, ◌≢◌, ◌⊎◌, inl, inr, ℕ, ◌+◌, ◌%◌, ◌<◌, Contains, List, [], slice_index, refl, sym, ap, ◌∙◌, subst, ⊎_elim, arith}
+use Rattle.std.proofs.Common.{◌≡◌, ◌≢◌, inl, inr, ℕ, ◌+◌, ◌%◌, ◌<◌, Contains, List, [], slice_index, refl, sym, ap, ◌∙◌, subst, ⊎_elim, arith}
 use Rattle.wal_types.specs.declared.answers.Hard.{Hard}
 use Rattle.record_spelling.specs.Spelling.{Assembled}
 use Rattle.wal_page.specs.Placed.{PlacedState}
@@ -9,10 +9,9 @@ use Rattle.wal_core.specs.Words.{Opening}
 use Rattle.wal_core.specs.Failed.{KnowsOfFault}
 use Rattle.wal_core.specs.Locked.{HasTurn, HasWriteTurn}
 use Rattle.wal_core.specs.Opened.{first_view}
-use Rattle.wal_core.specs.Sound.{IsSound}
 use Rattle.wal_core.specs.Steps.{IsResting, load_position, lock_position}
 use Rattle.wal_core.specs.Views.{Away, Free, Idle, View}
-use Rattle.machine_laws.specs.LonePasses.{HasAllThatIsHeld, HasSameEntries, IsLone}
+use Rattle.machine_laws.specs.LonePasses.{HasAllThatIsHeld, IsLone}
 use Rattle.machine_laws.proofs.ClosingNumbers.{first_has_all}
 use Rattle.machine_laws.proofs.LoneLaws.{has_all, same_position}
 use Rattle.wal_rule.specs.Closing.{KeepsNumbers}

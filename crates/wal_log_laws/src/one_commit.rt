@@ -1,6 +1,7 @@
 //! One record committed on an empty disk survives: a caller that meets the laws' premises.
 
-ghost use Rattle.std.specs.Prelude.{◌≡◌, IfSome, Some, List};
+ghost use Rattle.std.specs.Prelude.{◌≡◌, false, IfSome, Some, List};
+ghost use Rattle.record_spelling.specs.Spelling.{is_assembled_switch};
 ghost use Rattle.segment_disk.specs.Tape.{Tape};
 ghost use Rattle.flush_core.specs.Pages.{HoldsNothing};
 ghost use Rattle.wal_page.specs.Order.{Entry, start_of, finish_of};
@@ -29,6 +30,7 @@ pub fn commit_one<D: Disk + Drop, R: Wait>(
     body: &Body,
 ) -> Option<(Sealed, Closed<D>)>
     requires nothing { HoldsNothing (D.tape disk) }
+    requires inserted { is_assembled_switch body.now ≡ false }
     ensures { IfSome result (λ r. (t : Tape) → D.tape r.1.disk ≡ Some t
         → (order : List Entry) × (e : Entry)
         × Survives setup.segment_size order t r.0.moment e

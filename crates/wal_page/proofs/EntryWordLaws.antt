@@ -8,13 +8,14 @@ use Rattle.wal_page.specs.Order.{Entry, assembled_room_at}
 use Rattle.wal_page.specs.EntryWords.{words_owned, address_of_word}
 use Rattle.wal_page.specs.Placed.{Owns}
 use Rattle.wal_page.proofs.OwnerLaws.{Owns-between, Owns-from_between}
+use Rattle.wal_page.proofs.PaddingLaws.{room_at-whole}
 
 module _ (size : ℕ) (valid : IsSegmentSize size) (e : Entry) (whole : e.start % 8 ≡ 0) where
   first-whole : end_address_of size e.start % 8 ≡ 0
   first-whole = end_address_of-mod_word size valid e.start whole
 
   end-whole : end_address_of size (e.start + assembled_room_at size e.start (assembled e.value)) % 8 ≡ 0
-  end-whole = end_address_of-mod_word size valid (e.start + assembled_room_at size e.start (assembled e.value)) (omega arith)
+  end-whole = end_address_of-mod_word size valid (e.start + assembled_room_at size e.start (assembled e.value)) (omega (arith, whole, room_at-whole size valid e.start e.value whole))
 
   pub numbered_word-owned : (k : ℕ) → k < words_owned size e → Owns size (assembled e.value) e.start (address_of_word size e k)
   numbered_word-owned k lt = Owns-from_between size valid (assembled e.value) e.start (address_of_word size e k) (omega arith) (omega (arith, first-whole, end-whole))

@@ -2,6 +2,8 @@ mod Flags
 mod HeaderWords
 mod PlacedSteps
 mod RunSteps
+pub mod NextSegmentLaws
+pub mod PaddingLaws
 pub mod OrderLaws
 pub mod PageLaws
 pub mod StreamLaws

@@ -1,23 +1,27 @@
 -- Laws of the log's words, for the proofs of this crate and of those above.
-use Rattle.std.proofs.Common.{◌≡◌, ℕ, zero, suc, ◌+◌, ◌-◌, ◌*◌, ◌/◌, ◌%◌, ◌<◌, ◌≤◌, true, false, List, [], ◌∷◌, ◌++◌, length, get_or, take, drop, All, None, refl, ap, subst, sym, ◌∙◌, inl, inr, arith}
+use Rattle.std.proofs.Common.{◌≡◌, ℕ, zero, suc, ◌+◌, ◌-◌, ◌*◌, ◌/◌, ◌%◌, ◌<◌, ◌≤◌, cond, ltb, true, false, List, [], ◌∷◌, ◌++◌, length, get_or, take, drop, All, None, refl, ap, subst, sym, ◌∙◌, inl, inr, arith}
 use Rattle.std.specs.Int.{w64, from_le_bytes, to_le_bytes}
-use Rattle.std.proofs.lemmas.Bool.{cases_Bool, cond-true, cond-false}
-use Rattle.std.proofs.lemmas.List.{get_or-take, get_or-drop, length-take, length-drop}
+use Rattle.std.proofs.lemmas.Bool.{cases_Bool, cases_lt, cond-true, cond-false, le-ltb, lt-ltb}
+use Rattle.std.proofs.lemmas.List.{get_or-take, get_or-drop, get_or_past, length-take, length-drop}
 use Rattle.std.proofs.lemmas.List.Elements.{All-from_recursion}
 use Rattle.byte_position.specs.Geometry.{IsSegmentSize}
 use Rattle.byte_position.specs.Position.{is_in_header, position_of, end_address_of, first_position}
 use Rattle.byte_position.proofs.HeaderSizes.{header_size_bounds}
-use Rattle.record_spelling.specs.Spelling.{Assembled, assembled, filled, word_at}
+use Rattle.record_spelling.specs.Record.{switch_record}
+use Rattle.record_spelling.specs.Spelling.{Assembled, assembled, assembled_room, filled, room_of, word_at}
+use Rattle.record_spelling.proofs.SpellingLaws.{length-filled}
+use Rattle.record_spelling.proofs.SwitchLaws.{room-switch}
 use Rattle.record_spelling.proofs.Bytes.{IsBytes-from_All, IsBytes-take, IsBytes-drop, wide64}
-use Rattle.wal_page.specs.Order.{Entry, IsChained, rooms_of, prev_of}
+use Rattle.wal_page.specs.Order.{Entry, IsChained, position_behind, rooms_of, prev_of}
 use Rattle.wal_page.specs.Page.{header_size, page_header}
 use Rattle.wal_page.specs.Log.{stream_of, owner_of, owner_at, remaining_at, header_byte, log_byte, log_word}
 use Rattle.wal_page.specs.LogPage.{IsLogPage}
 use Rattle.wal_page.specs.Placed.{IsWordOfLog, Owns, entry_word, header_word, still_to_come}
 use Rattle.wal_page.proofs.OrderLaws.{FollowsFrom-parts, prev_in-entry}
 use Rattle.wal_page.proofs.WordPositions.{is_in_header-word, position_of-header_word, position_of-own_word, position_of-whole, first_position-whole, in_header-page, position_of-header_of_page}
-use Rattle.wal_page.proofs.OwnerLaws.{owner_at-entry_iff, owner_of-entry, owner_of-none_where, owner_of-none_before, owner_of-none_behind, owns_or_not, rooms_of-whole, start-whole}
-use Rattle.wal_page.proofs.LogByteLaws.{log_byte-header, log_byte-stream, stream_of-entry, log_byte_push, log_byte-unowned, log_byte-behind, log_byte-fits}
+use Rattle.wal_page.proofs.OwnerLaws.{owner_at-entry_iff, owner_of-entry, owner_of-none_where, owner_of-none_before, owner_of-none_behind, owns_or_not, end_position-whole, rooms_of-whole, start-whole}
+use Rattle.wal_page.proofs.PaddingLaws.{assembled_room_at-whole, room_at-whole}
+use Rattle.wal_page.proofs.LogByteLaws.{header_byte-own, header_byte-padding, log_byte-header, log_byte-stream, stream_of-entry, log_byte_push, log_byte-unowned, log_byte-behind, log_byte-fits}
 
 -- ---- a word is its bytes
 
@@ -84,9 +88,9 @@ IsLogPage-from_numbers size sysid es chain page bytes long fits words =
 -- ---- the words of an entry
 
 module _ (size sysid : ℕ) (valid : IsSegmentSize size) where
-  entry_word-header : (front back : List Entry) (e : Entry) → IsChained size (front ++ e ∷ back) → (a : ℕ) → a % 8 ≡ 0 → Owns size (assembled e.value) e.start a → is_in_header size a ≡ true → (i : ℕ) → i < 8
+  log_byte-of_header : (front back : List Entry) (e : Entry) → IsChained size (front ++ e ∷ back) → (a : ℕ) → a % 8 ≡ 0 → Owns size (assembled e.value) e.start a → is_in_header size a ≡ true → position_of size a < e.start + room_of e.value → (i : ℕ) → i < 8
       → log_byte size sysid (front ++ e ∷ back) (a + i) ≡ get_or (page_header size sysid (a / 8192) (remaining_at e (position_of size a))) (8 * (a % 8192 / 8) + i) 0
-  entry_word-header front back e chain a whole owns inside i lt =
+  log_byte-of_header front back e chain a whole owns inside below i lt =
       let es = front ++ e ∷ back in
       let p = position_of size a in
       let same = position_of-header_word size valid a i whole (omega arith) inside in
@@ -96,12 +100,13 @@ module _ (size sysid : ℕ) (valid : IsSegmentSize size) where
       log_byte-header size sysid es (a + i) (is_in_header-word size valid a i whole lt ∙ inside)
       ∙ ap (λ (q : ℕ). header_byte size sysid (a + i) q (owner_of size es q)) same
       ∙ ap (header_byte size sysid (a + i) p) owner
+      ∙ header_byte-own size sysid (a + i) p e below
       ∙ ap (λ (q : ℕ). get_or (page_header size sysid q (remaining_at e p)) ((a + i) % 8192) 0) page
       ∙ ap (λ (q : ℕ). get_or (page_header size sysid (a / 8192) (remaining_at e p)) q 0) place
 
-  entry_word-own : (front back : List Entry) (e : Entry) → IsChained size (front ++ e ∷ back) → (a : ℕ) → a % 8 ≡ 0 → Owns size (assembled e.value) e.start a → is_in_header size a ≡ false → (i : ℕ) → i < 8
+  log_byte-of_record : (front back : List Entry) (e : Entry) → IsChained size (front ++ e ∷ back) → (a : ℕ) → a % 8 ≡ 0 → Owns size (assembled e.value) e.start a → is_in_header size a ≡ false → (i : ℕ) → i < 8
       → log_byte size sysid (front ++ e ∷ back) (a + i) ≡ get_or (filled (assembled e.value) (prev_of size 0 front)) (8 * ((position_of size a - e.start) / 8) + i) 0
-  entry_word-own front back e chain a whole owns outside i lt =
+  log_byte-of_record front back e chain a whole owns outside i lt =
       let es = front ++ e ∷ back in
       let p = position_of size a in
       let first = first_position size in
@@ -109,12 +114,52 @@ module _ (size sysid : ℕ) (valid : IsSegmentSize size) where
       let parts = FollowsFrom-parts size first front (e ∷ back) chain in
       let whole_start = start-whole size valid front back e chain in
       let whole_position = position_of-whole size valid a whole in
-      let own = filled (assembled e.value) (prev_of size 0 front) in
+      let room = room_at-whole size valid e.start e.value whole_start in
       let k : ℕ = 8 * ((p - e.start) / 8) + i in
       let at : position_of size (a + i) - first ≡ rooms_of size front + k = omega (arith, next, parts.1.0, whole_start, whole_position, owns.0) in
       log_byte-stream size sysid es (a + i) (is_in_header-word size valid a i whole lt ∙ outside) (omega (arith, next, parts.1.0, owns.0))
       ∙ ap (λ (q : ℕ). get_or (stream_of size es) q 0) at
-      ∙ stream_of-entry size front back e k (omega (arith, whole_start, whole_position, owns.0, owns.1))
+      ∙ stream_of-entry size front back e k (omega (arith, whole_start, whole_position, room, owns.0, owns.1))
+
+  -- behind a switch's bytes, which are whole words, its headers and its own bytes are 0
+  log_byte-of_padding : (front back : List Entry) (e : Entry) → IsChained size (front ++ e ∷ back) → (a : ℕ) → a % 8 ≡ 0 → Owns size (assembled e.value) e.start a → e.start + room_of e.value ≤ position_of size a → (i : ℕ) → i < 8
+      → log_byte size sysid (front ++ e ∷ back) (a + i) ≡ 0
+  log_byte-of_padding front back e chain a whole owns behind i lt =
+      let es = front ++ e ∷ back in
+      let p = position_of size a in
+      let whole_start = start-whole size valid front back e chain in
+      let whole_position = position_of-whole size valid a whole in
+      let own = filled (assembled e.value) (prev_of size 0 front) in
+      elim (cases_Bool (is_in_header size a)) [
+        | inl inside ↦ (
+            let same = position_of-header_word size valid a i whole (omega arith) inside in
+            let owner = owner_of-entry size (first_position size) front back e chain p owns.0 owns.1 in
+            log_byte-header size sysid es (a + i) (is_in_header-word size valid a i whole lt ∙ inside)
+            ∙ ap (λ (q : ℕ). header_byte size sysid (a + i) q (owner_of size es q)) same
+            ∙ ap (header_byte size sysid (a + i) p) owner
+            ∙ header_byte-padding size sysid (a + i) p e behind
+            )
+        | inr outside ↦ log_byte-of_record front back e chain a whole owns outside i lt ∙ get_or_past own (8 * ((p - e.start) / 8) + i) 0 (omega (arith, length-filled (assembled e.value) (prev_of size 0 front), whole_start, whole_position, behind))
+      ]
+
+  pub log_word-padding : (front back : List Entry) (e : Entry) → IsChained size (front ++ e ∷ back) → (a : ℕ) → a % 8 ≡ 0 → Owns size (assembled e.value) e.start a → e.start + room_of e.value ≤ position_of size a → log_word size sysid (front ++ e ∷ back) a ≡ 0
+  log_word-padding front back e chain a whole owns behind = log_word-zero size sysid (front ++ e ∷ back) a (log_byte-of_padding front back e chain a whole owns behind)
+
+  -- so are all words between a switch and the next entry
+  pub log_word-behind_switch : (front back : List Entry) (e : Entry) → IsChained size (front ++ e ∷ back) → e.value ≡ switch_record → (a : ℕ) → a % 8 ≡ 0 → e.start + 24 ≤ position_of size a → position_of size a < position_behind size e → log_word size sysid (front ++ e ∷ back) a ≡ 0
+  log_word-behind_switch front back e chain switch a whole behind within =
+      let room : room_of e.value ≡ 24 = ap room_of switch ∙ room-switch in
+      log_word-padding front back e chain a whole (omega arith, within) (omega (arith, room, behind))
+
+  -- what a record gives: a header's word or its own up to its room's end, and 0 behind it
+  pub entry_word-inside : (a : Assembled) (start prev address : ℕ) → position_of size address < start + assembled_room a
+      → entry_word size sysid a start prev address ≡ cond (is_in_header size address) (word_at (page_header size sysid (address / 8192) (still_to_come a start (position_of size address))) (address % 8192 / 8)) (word_at (filled a prev) ((position_of size address - start) / 8))
+  entry_word-inside a start prev address below =
+      cond-true (ltb (position_of size address) (start + assembled_room a)) _ 0 (lt-ltb (position_of size address) (start + assembled_room a) below)
+
+  pub entry_word-padding : (a : Assembled) (start prev address : ℕ) → start + assembled_room a ≤ position_of size address → entry_word size sysid a start prev address ≡ 0
+  entry_word-padding a start prev address behind =
+      cond-false (ltb (position_of size address) (start + assembled_room a)) _ 0 (le-ltb (position_of size address) (start + assembled_room a) behind)
 
   -- the log's word at an address that an entry owns is the word that the entry gives
   pub log_word-entry : (front back : List Entry) (e : Entry) → IsChained size (front ++ e ∷ back) → (a : ℕ) → a % 8 ≡ 0 → Owns size (assembled e.value) e.start a
@@ -122,11 +167,15 @@ module _ (size sysid : ℕ) (valid : IsSegmentSize size) where
   log_word-entry front back e chain a whole owns =
       let es = front ++ e ∷ back in
       let p = position_of size a in
+      let prev = prev_of size 0 front in
       let header = page_header size sysid (a / 8192) (remaining_at e p) in
-      let own = filled (assembled e.value) (prev_of size 0 front) in
-      elim (cases_Bool (is_in_header size a)) [
-        | inl inside ↦ log_word-reads size sysid es a (take 8 (drop (8 * (a % 8192 / 8)) header)) (λ i lt. entry_word-header front back e chain a whole owns inside i lt ∙ word_at-reads header (a % 8192 / 8) i lt) ∙ sym (cond-true (is_in_header size a) (word_at header (a % 8192 / 8)) (word_at own ((p - e.start) / 8)) inside)
-        | inr outside ↦ log_word-reads size sysid es a (take 8 (drop (8 * ((p - e.start) / 8)) own)) (λ i lt. entry_word-own front back e chain a whole owns outside i lt ∙ word_at-reads own ((p - e.start) / 8) i lt) ∙ sym (cond-false (is_in_header size a) (word_at header (a % 8192 / 8)) (word_at own ((p - e.start) / 8)) outside)
+      let own = filled (assembled e.value) prev in
+      elim (cases_lt p (e.start + room_of e.value)) [
+        | inl below ↦ elim (cases_Bool (is_in_header size a)) [
+          | inl inside ↦ log_word-reads size sysid es a (take 8 (drop (8 * (a % 8192 / 8)) header)) (λ i lt. log_byte-of_header front back e chain a whole owns inside below i lt ∙ word_at-reads header (a % 8192 / 8) i lt) ∙ sym (cond-true (is_in_header size a) (word_at header (a % 8192 / 8)) (word_at own ((p - e.start) / 8)) inside)
+          | inr outside ↦ log_word-reads size sysid es a (take 8 (drop (8 * ((p - e.start) / 8)) own)) (λ i lt. log_byte-of_record front back e chain a whole owns outside i lt ∙ word_at-reads own ((p - e.start) / 8) i lt) ∙ sym (cond-false (is_in_header size a) (word_at header (a % 8192 / 8)) (word_at own ((p - e.start) / 8)) outside)
+        ] ∙ sym (entry_word-inside (assembled e.value) e.start prev a below)
+        | inr behind ↦ log_word-padding front back e chain a whole owns behind ∙ sym (entry_word-padding (assembled e.value) e.start prev a behind)
       ]
 
   -- what a record gives at its place is the log's word, in each order that holds it there
@@ -147,15 +196,22 @@ module _ (size sysid : ℕ) (valid : IsSegmentSize size) where
   pub entry_word-header_word : (a : Assembled) (start prev page n : ℕ) → 8 * n < header_size size page → entry_word size sysid a start prev (page * 8192 + 8 * n) ≡ header_word size sysid page a start n
   entry_word-header_word a start prev page n within =
       let at = page * 8192 + 8 * n in
+      let first = position_of size (page * 8192) in
       let bounds = header_size_bounds size valid page in
       let inside = in_header-page size valid page n within in
       let same = position_of-header_of_page size valid page n within in
       let page_is : at / 8192 ≡ page = omega (arith, bounds.1) in
       let place : at % 8192 / 8 ≡ n = omega (arith, bounds.1) in
-      cond-true (is_in_header size at) _ _ inside
-      ∙ ap (λ (q : ℕ). word_at (page_header size sysid (at / 8192) (still_to_come a start q)) (at % 8192 / 8)) same
-      ∙ ap (λ (q : ℕ). word_at (page_header size sysid q (still_to_come a start (position_of size (page * 8192)))) (at % 8192 / 8)) page_is
-      ∙ ap (word_at (page_header size sysid page (still_to_come a start (position_of size (page * 8192))))) place
+      let header : ℕ = word_at (page_header size sysid page (still_to_come a start first)) n in
+      elim (cases_lt first (start + assembled_room a)) [
+        | inl below ↦ entry_word-inside a start prev at (omega (arith, same, below))
+            ∙ cond-true (is_in_header size at) _ _ inside
+            ∙ ap (λ (q : ℕ). word_at (page_header size sysid (at / 8192) (still_to_come a start q)) (at % 8192 / 8)) same
+            ∙ ap (λ (q : ℕ). word_at (page_header size sysid q (still_to_come a start first)) (at % 8192 / 8)) page_is
+            ∙ ap (word_at (page_header size sysid page (still_to_come a start first))) place
+            ∙ sym (cond-true (ltb first (start + assembled_room a)) header 0 (lt-ltb first (start + assembled_room a) below))
+        | inr behind ↦ entry_word-padding a start prev at (omega (arith, same, behind)) ∙ sym (cond-false (ltb first (start + assembled_room a)) header 0 (le-ltb first (start + assembled_room a) behind))
+      ]
 
   -- ---- words that an entry leaves
 
@@ -171,17 +227,18 @@ module _ (size sysid : ℕ) (valid : IsSegmentSize size) where
   owns_in_word : (a : Assembled) (start : ℕ) → start % 8 ≡ 0 → (address i : ℕ) → address % 8 ≡ 0 → i < 8 → (Owns size a start address → ⊥) → Owns size a start (address + i) → ⊥
   owns_in_word a start whole_start address i whole lt not_owned owns =
       let at = position_in_word address i whole lt in
-      elim (owns_or_not size a start address not_owned) [ inl before ↦ omega (arith, at.0, at.1, at.2, owns.0) | inr behind ↦ omega (arith, at.0, at.1, at.2, owns.1) ]
+      let room = assembled_room_at-whole size valid start a whole_start in
+      elim (owns_or_not size a start address not_owned) [ inl before ↦ omega (arith, at.0, at.1, at.2, owns.0) | inr behind ↦ omega (arith, at.0, at.1, at.2, room, owns.1) ]
 
-  pub log_word_push : (es : List Entry) (e : Entry) → e.start ≡ first_position size + rooms_of size es → (a : ℕ) → a % 8 ≡ 0 → (Owns size (assembled e.value) e.start a → ⊥) → log_word size sysid (es ++ e ∷ []) a ≡ log_word size sysid es a
-  log_word_push es e at a whole not_owned =
-      let whole_start : e.start % 8 ≡ 0 = omega (arith, at, rooms_of-whole size es, first_position-whole size valid) in
+  pub log_word_push : (es : List Entry) (e : Entry) → IsChained size es → e.start ≡ first_position size + rooms_of size es → (a : ℕ) → a % 8 ≡ 0 → (Owns size (assembled e.value) e.start a → ⊥) → log_word size sysid (es ++ e ∷ []) a ≡ log_word size sysid es a
+  log_word_push es e chain at a whole not_owned =
+      let whole_start : e.start % 8 ≡ 0 = omega (arith, at, end_position-whole size valid es chain) in
       log_word-reads size sysid (es ++ e ∷ []) a (bytes_at size sysid es a) (λ i lt. log_byte_push size sysid es e at (a + i) (owns_in_word (assembled e.value) e.start whole_start a i whole lt not_owned) ∙ sym (bytes_at-reads size sysid es a i lt))
 
   pub log_word-unowned : (es : List Entry) → IsChained size es → (a : ℕ) → a % 8 ≡ 0 → owner_at size es a ≡ None → log_word size sysid es a ≡ 0
   log_word-unowned es chain a whole none =
       let first = first_position size in
-      let wholes : (first % 8 ≡ 0) × (rooms_of size es % 8 ≡ 0) = (first_position-whole size valid, rooms_of-whole size es) in
+      let wholes : (first % 8 ≡ 0) × (rooms_of size es % 8 ≡ 0) = (first_position-whole size valid, rooms_of-whole size valid es chain) in
       log_word-zero size sysid es a (λ i lt.
       let at = position_in_word a i whole lt in
       log_byte-unowned size sysid es chain (a + i) (elim (owner_of-none_where size first es chain (position_of size a) none) [

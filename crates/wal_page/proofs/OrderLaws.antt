@@ -4,7 +4,7 @@ use Rattle.std.proofs.lemmas.Bool.{lt-ltb, le-ltb, cond-true, cond-false}
 use Rattle.std.proofs.lemmas.List.{take-take}
 use Rattle.std.proofs.lemmas.List.Sums.{sum_by_push, sum_by-cons, sum_by-append, sum_by_more, sum_by-take-le}
 use Rattle.byte_position.specs.Position.{address_of, first_position}
-use Rattle.record_spelling.specs.Spelling.{IsWritable}
+use Rattle.record_spelling.specs.Spelling.{IsLogRecord}
 use Rattle.wal_page.specs.Order.{Entry, FollowsFrom, IsChained, position_behind, rooms_of, prev_of, prev_before, prev_in, room_at}
 
 -- no record takes up less than its header
@@ -25,12 +25,12 @@ prev_of_push size prev [] e = refl
 prev_of_push size prev (f ∷ es) e = prev_of_push size (address_of size f.start) es e
 
 -- an entry may follow that starts where the others end
-pub FollowsFrom_push : (size position : ℕ) (es : List Entry) (e : Entry) → FollowsFrom size position es → e.start ≡ position + rooms_of size es → IsWritable e.value → FollowsFrom size position (es ++ e ∷ [])
-FollowsFrom_push size position [] e chain at writable = (omega (arith, at), writable, tt)
-FollowsFrom_push size position (f ∷ es) e chain at writable =
-    (chain.0, chain.1, FollowsFrom_push size (position_behind size f) es e chain.2 (omega (arith, at, chain.0, rooms_of_cons size f es)) writable)
+pub FollowsFrom_push : (size position : ℕ) (es : List Entry) (e : Entry) → FollowsFrom size position es → e.start ≡ position + rooms_of size es → IsLogRecord e.value → FollowsFrom size position (es ++ e ∷ [])
+FollowsFrom_push size position [] e chain at logged = (omega (arith, at), logged, tt)
+FollowsFrom_push size position (f ∷ es) e chain at logged =
+    (chain.0, chain.1, FollowsFrom_push size (position_behind size f) es e chain.2 (omega (arith, at, chain.0, rooms_of_cons size f es)) logged)
 
-pub IsChained_push : (size : ℕ) (es : List Entry) (e : Entry) → IsChained size es → e.start ≡ first_position size + rooms_of size es → IsWritable e.value → IsChained size (es ++ e ∷ [])
+pub IsChained_push : (size : ℕ) (es : List Entry) (e : Entry) → IsChained size es → e.start ≡ first_position size + rooms_of size es → IsLogRecord e.value → IsChained size (es ++ e ∷ [])
 IsChained_push size es e = FollowsFrom_push size (first_position size) es e
 
 -- orders that follow each other are one order, and an order may be parted anywhere
@@ -47,18 +47,18 @@ FollowsFrom-parts size position (e ∷ es) fs chain =
     let at : position_behind size e + rooms_of size es ≡ position + rooms_of size (e ∷ es) = omega (arith, chain.0, rooms_of_cons size e es) in
     ((chain.0, chain.1, parts.0), subst (λ (p : ℕ). FollowsFrom size p fs) at parts.1)
 
--- each entry starts behind those before it, and is writable
+-- each entry starts behind those before it, and its record is one that the log may hold
 pub FollowsFrom-start : (size position : ℕ) (es : List Entry) → FollowsFrom size position es → (k : ℕ) (d : Entry) → k < length es → (get_or es k d).start ≡ position + rooms_of size (take k es)
 FollowsFrom-start size position [] chain k d within = absurd (omega arith)
 FollowsFrom-start size position (e ∷ es) chain zero d within = omega (arith, chain.0)
 FollowsFrom-start size position (e ∷ es) chain (suc k) d within =
     omega (arith, chain.0, rooms_of_cons size e (take k es), FollowsFrom-start size (position_behind size e) es chain.2 k d (omega arith))
 
-pub FollowsFrom-writable : (size position : ℕ) (es : List Entry) → FollowsFrom size position es → (k : ℕ) (d : Entry) → k < length es → IsWritable (get_or es k d).value
-FollowsFrom-writable size position [] chain k d within = absurd (omega arith)
-FollowsFrom-writable size position (e ∷ es) chain zero d within = chain.1
-FollowsFrom-writable size position (e ∷ es) chain (suc k) d within =
-    FollowsFrom-writable size (position_behind size e) es chain.2 k d (omega arith)
+pub FollowsFrom-logged : (size position : ℕ) (es : List Entry) → FollowsFrom size position es → (k : ℕ) (d : Entry) → k < length es → IsLogRecord (get_or es k d).value
+FollowsFrom-logged size position [] chain k d within = absurd (omega arith)
+FollowsFrom-logged size position (e ∷ es) chain zero d within = chain.1
+FollowsFrom-logged size position (e ∷ es) chain (suc k) d within =
+    FollowsFrom-logged size (position_behind size e) es chain.2 k d (omega arith)
 
 -- a later entry starts at the end of an earlier one or behind it, and no record is empty
 pub FollowsFrom-rises : (size position : ℕ) (es : List Entry) → FollowsFrom size position es → (i j : ℕ) (d : Entry) → i < j → j < length es → (position_behind size (get_or es i d) ≤ (get_or es j d).start) × ((get_or es i d).start < (get_or es j d).start)

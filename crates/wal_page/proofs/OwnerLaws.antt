@@ -6,11 +6,13 @@ use Rattle.std.proofs.lemmas.Option.{same_Some, none-some}
 use Rattle.byte_position.specs.Geometry.{IsSegmentSize}
 use Rattle.byte_position.specs.Position.{position_of, end_address_of, first_position}
 use Rattle.byte_position.proofs.EndAddresses.{le-position_of, end_address_of-le}
+use Rattle.record_spelling.specs.Record.{switch_record}
 use Rattle.record_spelling.specs.Spelling.{Assembled, assembled}
-use Rattle.wal_page.specs.Order.{Entry, FollowsFrom, IsChained, position_behind, rooms_of, assembled_room_at}
+use Rattle.wal_page.specs.Order.{Entry, FollowsFrom, IsChained, end_position, next_segment, position_behind, rooms_of, assembled_room_at}
 use Rattle.wal_page.specs.Log.{owner_of, owner_at}
 use Rattle.wal_page.specs.Placed.{Owns}
 use Rattle.wal_page.proofs.OrderLaws.{rooms_of_cons, FollowsFrom-parts}
+use Rattle.wal_page.proofs.PaddingLaws.{position_behind-switch_record, room_at-whole}
 use Rattle.wal_page.proofs.WordPositions.{first_position-whole, end_address_of-first_position}
 
 -- ---- one entry more at the front
@@ -143,14 +145,28 @@ owner_at-none_behind size valid es chain address behind =
 
 -- ---- positions come in words
 
-pub rooms_of-whole : (size : ℕ) (es : List Entry) → rooms_of size es % 8 ≡ 0
-rooms_of-whole size [] = refl
-rooms_of-whole size (e ∷ es) = omega (arith, rooms_of_cons size e es, rooms_of-whole size es)
+pub FollowsFrom-whole : (size : ℕ) → IsSegmentSize size → (position : ℕ) (es : List Entry) → FollowsFrom size position es → position % 8 ≡ 0 → rooms_of size es % 8 ≡ 0
+FollowsFrom-whole size valid position [] chain whole = refl
+FollowsFrom-whole size valid position (e ∷ es) chain whole =
+    let room = room_at-whole size valid e.start e.value (omega (arith, whole, chain.0)) in
+    omega (arith, rooms_of_cons size e es, room, FollowsFrom-whole size valid (position_behind size e) es chain.2 (omega (arith, whole, chain.0, room)))
+
+pub rooms_of-whole : (size : ℕ) → IsSegmentSize size → (es : List Entry) → IsChained size es → rooms_of size es % 8 ≡ 0
+rooms_of-whole size valid es chain = FollowsFrom-whole size valid (first_position size) es chain (first_position-whole size valid)
+
+pub end_position-whole : (size : ℕ) → IsSegmentSize size → (es : List Entry) → IsChained size es → end_position size es % 8 ≡ 0
+end_position-whole size valid es chain = omega (arith, rooms_of-whole size valid es chain, first_position-whole size valid)
 
 pub start-whole : (size : ℕ) → IsSegmentSize size → (front back : List Entry) (e : Entry) → IsChained size (front ++ e ∷ back) → e.start % 8 ≡ 0
 start-whole size valid front back e chain =
     let parts = FollowsFrom-parts size (first_position size) front (e ∷ back) chain in
-    omega (arith, parts.1.0, rooms_of-whole size front, first_position-whole size valid)
+    omega (arith, parts.1.0, end_position-whole size valid front parts.0)
+
+-- the entry behind a switch starts with the segment behind the one in which the switch ends
+pub start-behind_switch : (size : ℕ) → IsSegmentSize size → (front back : List Entry) (e next : Entry) → IsChained size (front ++ e ∷ next ∷ back) → e.value ≡ switch_record → next.start ≡ next_segment size (e.start + 23)
+start-behind_switch size valid front back e next chain switch =
+    let parts = FollowsFrom-parts size (first_position size) front (e ∷ next ∷ back) chain in
+    parts.1.2.0 ∙ position_behind-switch_record size valid e (start-whole size valid front (next ∷ back) e chain) switch
 
 -- ---- both ways at once
 

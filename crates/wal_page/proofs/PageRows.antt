@@ -1,5 +1,5 @@
 -- A long header's checks among those of a page.
-use Rattle.std.proofs.Common.{◌≡◌, ℕ, ◌*◌, ◌&&◌, not, Bool, true, false, cond, ◌==◌, nat_lt, Some, List, [], ◌∷◌, ◌++◌, refl, arith}
+use Rattle.std.proofs.Common.{◌≡◌, ℕ, ◌*◌, not, Bool, true, false, cond, ◌==◌, nat_lt, Some, List, [], ◌∷◌, ◌++◌, arith}
 use Rattle.std.specs.Int.{w16, w64}
 use Rattle.record_spelling.specs.Numbers.{number_at}
 use Rattle.wal_page.specs.declared.checks.PageErr.{PageErr}

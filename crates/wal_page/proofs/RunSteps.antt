@@ -1,5 +1,5 @@
 -- The steps by which words of a record that lie together are put at once.
-use Rattle.std.proofs.Common.{◌≡◌, ℕ, ◌+◌, ◌-◌, ◌*◌, ◌/◌, ◌%◌, ◌<◌, ◌≤◌, false, List, ◌++◌, length, get_or, take, ap, ◌∙◌, inl, inr, arith}
+use Rattle.std.proofs.Common.{◌≡◌, ℕ, ◌+◌, ◌-◌, ◌*◌, ◌/◌, ◌%◌, ◌<◌, ◌≤◌, false, List, ◌++◌, length, take, ap, ◌∙◌, inl, inr, arith}
 use Rattle.std.proofs.lemmas.Bool.{cases_lt, le-ltb, cond-false}
 use Rattle.std.proofs.lemmas.List.{length-take, get_or-take, get_or_append_left, get_or-append_right}
 use Rattle.byte_position.specs.Geometry.{IsSegmentSize}
@@ -8,11 +8,11 @@ use Rattle.byte_position.proofs.EndAddresses.{position_of-end_address_of}
 use Rattle.byte_position.proofs.Pages.{is_in_header-by_page, header_below}
 use Rattle.byte_position.proofs.PositionLaws.{position_of-run}
 use Rattle.byte_position.proofs.Rising.{position_of-mono}
-use Rattle.record_spelling.specs.Spelling.{Assembled, filled, word_at}
+use Rattle.record_spelling.specs.Spelling.{Assembled, assembled_room, filled, word_at}
 use Rattle.wal_page.specs.Order.{assembled_room_at}
 use Rattle.wal_page.specs.Page.{header_size}
 use Rattle.wal_page.specs.Placed.{PlacedState, HasWordsFrom, StandsAt, entry_word}
-use Rattle.wal_page.proofs.PlacedSteps.{passed-whole}
+use Rattle.wal_page.proofs.LogWordLaws.{entry_word-inside}
 
 -- behind a page's header no byte of the page is in one, and positions rise with addresses
 module _ (size : ℕ) (valid : IsSegmentSize size) (a : ℕ) (outside : is_in_header size a ≡ false) where
@@ -25,34 +25,34 @@ module _ (size : ℕ) (valid : IsSegmentSize size) (a : ℕ) (outside : is_in_he
   position_of-on_page : (k : ℕ) → a % 8192 + k ≤ 8192 → position_of size (a + k) ≡ position_of size a + k
   position_of-on_page k le = position_of-run size a k (λ i lt. outside_on_page i (omega arith))
 
-module _ (size : ℕ) (a : Assembled) (start next passed : ℕ) (stands : StandsAt size a start next passed) (outside : is_in_header size next ≡ false) (count : ℕ) (on_page : next % 8192 + 8 * count ≤ 8192) where
+module _ (size : ℕ) (a : Assembled) (start room next passed : ℕ) (stands : StandsAt size a start room next passed) (outside : is_in_header size next ≡ false) (count : ℕ) (on_page : next % 8192 + 8 * count ≤ 8192) where
   position_behind_run : position_of size (next + 8 * count) ≡ start + passed + 8 * count
   position_behind_run = omega (arith, position_of-on_page size stands.valid next outside (8 * count) on_page, stands.position)
 
   -- the words are the record's own
-  pub own_words_next : (sysid prev k : ℕ) → k < count → entry_word size sysid a start prev (next + 8 * k) ≡ word_at (filled a prev) (passed / 8 + k)
-  own_words_next sysid prev k lt =
+  pub own_words_next : (sysid prev n : ℕ) → 8 * n ≡ position_of size next - start → position_of size next + 8 * count ≤ start + assembled_room a → (k : ℕ) → k < count → entry_word size sysid a start prev (next + 8 * k) ≡ word_at (filled a prev) (n + k)
+  own_words_next sysid prev n number own k lt =
       let at = next + 8 * k in
       let on = position_of-on_page size stands.valid next outside (8 * k) (omega arith) in
-      let place : (position_of size at - start) / 8 ≡ passed / 8 + k = omega (arith, on, stands.position, passed-whole size a start next passed stands) in
-      cond-false (is_in_header size at) _ _ (outside_on_page size stands.valid next outside (8 * k) (omega arith)) ∙ ap (word_at (filled a prev)) place
+      let place : (position_of size at - start) / 8 ≡ n + k = omega (arith, on, number, stands.position) in
+      entry_word-inside size sysid stands.valid a start prev at (omega (arith, on, own))
+      ∙ cond-false (is_in_header size at) _ _ (outside_on_page size stands.valid next outside (8 * k) (omega arith))
+      ∙ ap (word_at (filled a prev)) place
 
-  module _ (owned : next + 8 * count ≤ end_address_of size (start + assembled_room_at size start a)) where
-    pub run_within : passed + 8 * count ≤ assembled_room_at size start a
-    run_within =
-        let below = position_of-mono size (next + 8 * count) (end_address_of size (start + assembled_room_at size start a)) owned in
-        omega (arith, below, position_behind_run, position_of-end_address_of size stands.valid (start + assembled_room_at size start a))
-
-    pub stands_over_run : StandsAt size a start (next + 8 * count) (passed + 8 * count)
-    stands_over_run = record {
-      valid = stands.valid;
-      whole_start = stands.whole_start;
-      within = stands.within;
-      whole_next = omega (arith, stands.whole_next);
-      position = omega (arith, position_behind_run);
-      passed_within = run_within;
-      next_within = owned;
-    }
+  pub stands_over_run : next + 8 * count ≤ end_address_of size (start + assembled_room_at size start a) → StandsAt size a start room (next + 8 * count) (passed + 8 * count)
+  stands_over_run owned =
+      let ends : next + 8 * count ≤ end_address_of size (start + room) = rw stands.takes_up owned in
+      let below = position_of-mono size (next + 8 * count) (end_address_of size (start + room)) ends in
+      record {
+        valid = stands.valid;
+        takes_up = stands.takes_up;
+        whole_start = stands.whole_start;
+        within = stands.within;
+        whole_next = omega (arith, stands.whole_next);
+        position = omega (arith, position_behind_run);
+        passed_within = omega (arith, below, position_behind_run, position_of-end_address_of size stands.valid (start + room));
+        next_within = ends;
+      }
 
 -- further words behind those that were put
 module _ (first placed : PlacedState) (put count : ℕ) (at : placed ≡ record first { next = first.next + 8 * put }) where

@@ -3,16 +3,20 @@
 use Rattle.std.specs.Prelude.{◌≡◌, ℕ, ◌+◌, ◌-◌, ◌/◌, ◌%◌, ◌&&◌, ◌⊎◌, List, [], ◌∷◌, ◌++◌, replicate, slice_index, Option, Some, None, nat_lt, nat_le, if◌then◌else◌}
 use Rattle.std.specs.Int.{w64, from_le_bytes, to_le_bytes}
 use Rattle.byte_position.specs.Position.{is_in_header, position_of, address_of, first_position}
-use Rattle.record_spelling.specs.Spelling.{assembled, filled, size_of}
-use Rattle.wal_page.specs.Order.{Entry, position_behind}
+use Rattle.record_spelling.specs.Spelling.{assembled, filled, room_of, size_of}
+use Rattle.wal_page.specs.Order.{Entry, padding_at, position_behind}
 use Rattle.wal_page.specs.Page.{page_header}
 
--- the records of entries, each spelled and filled up to its room, one behind another; `prev` is the
--- start of the record before the first
+-- an entry's bytes behind a record that starts at `prev`: its record's, and the zeros that follow
+abbrev pub bytes_of_entry : ℕ → ℕ → Entry → List ℕ
+bytes_of_entry size prev e =
+    filled (assembled e.value) prev ++ replicate (padding_at size e.start (assembled e.value)) 0
+
+-- those of entries, one behind another; `prev` is the start of the record before the first
 abbrev pub stream_from : ℕ → ℕ → List Entry → List ℕ
 stream_from size prev [] = []
-stream_from size prev (e ∷ es) = filled (assembled e.value) prev
-    ++ stream_from size (address_of size e.start) es
+stream_from size prev (e ∷ es) =
+    bytes_of_entry size prev e ++ stream_from size (address_of size e.start) es
 
 -- all records of an order
 abbrev pub stream_of : ℕ → List Entry → List ℕ
@@ -32,11 +36,13 @@ remaining_at e position =
     if nat_lt e.start position then e.start + size_of e.value - position else 0
 
 -- a byte of a page header: of the header that the entry of the page's first other byte gives it, 0
--- where no entry has that byte
+-- where no entry has that byte, or where it is one of the zeros behind a switch, which then fill
+-- the page
 abbrev pub header_byte : ℕ → ℕ → ℕ → ℕ → Option Entry → ℕ
 header_byte size sysid address position None = 0
 header_byte size sysid address position (Some e) =
-    slice_index (page_header size sysid (address / 8192) (remaining_at e position)) (address % 8192)
+    let header = page_header size sysid (address / 8192) (remaining_at e position) in
+    if nat_lt position (e.start + room_of e.value) then slice_index header (address % 8192) else 0
 
 -- the byte of the log at an address: a header's, or the stream's at its byte position; 0 where
 -- nothing stands

@@ -1,9 +1,9 @@
 -- The order of the log's records (PostgreSQL's xlog.c, ReserveXLogInsertLocation). Everywhere
 -- `size` is the size of a segment in bytes.
-use Rattle.std.specs.Prelude.{◌≡◌, ℕ, ◌+◌, List, [], ◌∷◌, Option, sum_by, nat_lt, if◌then◌else◌}
-use Rattle.byte_position.specs.Position.{address_of, end_address_of, first_position}
+use Rattle.std.specs.Prelude.{◌≡◌, ℕ, ◌+◌, ◌-◌, ◌*◌, ◌/◌, List, [], ◌∷◌, Option, sum_by, nat_lt, if◌then◌else◌}
+use Rattle.byte_position.specs.Position.{position_of, address_of, end_address_of, first_position}
 use Rattle.wal_types.specs.declared.record.Record.{Record}
-use Rattle.record_spelling.specs.Spelling.{Assembled, assembled, assembled_room, IsWritable}
+use Rattle.record_spelling.specs.Spelling.{Assembled, assembled, assembled_room, assembled_size, is_assembled_switch, IsLogRecord}
 
 -- an entry of the log: the pass that reserved it (none where a restart found it), its record, and
 -- the byte position at which it starts
@@ -12,11 +12,21 @@ pub record Entry : Type 0 where
   pub value : Record
   pub start : ℕ
 
--- how many bytes of the log a record takes up that starts at a byte position: its room, wherever it
--- starts; positions, orders and owners ask here, so that a record that takes the rest of its
--- segment changes no other definition
+-- the first byte position of the segment behind the one in which a byte position's byte stands
+abbrev pub next_segment : ℕ → ℕ → ℕ
+next_segment size position = position_of size (size * (address_of size position / size + 1))
+
+-- how many bytes of zeros follow a record that starts at a byte position: behind a switch those
+-- that are left of the segment in which its last byte stands, behind another record none
+abbrev pub padding_at : ℕ → ℕ → Assembled → ℕ
+padding_at size start a =
+    if is_assembled_switch a
+    then next_segment size (start + assembled_size a - 1) - (start + assembled_room a) else 0
+
+-- how many bytes of the log a record takes up that starts at a byte position: its room there, from
+-- its start to where the next record starts
 abbrev pub assembled_room_at : ℕ → ℕ → Assembled → ℕ
-assembled_room_at size start a = assembled_room a
+assembled_room_at size start a = assembled_room a + padding_at size start a
 
 abbrev pub room_at : ℕ → ℕ → Record → ℕ
 room_at size start value = assembled_room_at size start (assembled value)
@@ -28,7 +38,7 @@ position_behind size e = e.start + room_at size e.start e.value
 -- entries follow each other without a gap from a byte position on
 abbrev pub FollowsFrom : ℕ → ℕ → List Entry → Type 0
 FollowsFrom size position [] = Unit {0}
-FollowsFrom size position (e ∷ es) = (e.start ≡ position) × IsWritable e.value
+FollowsFrom size position (e ∷ es) = (e.start ≡ position) × IsLogRecord e.value
     × FollowsFrom size (position_behind size e) es
 
 -- entries follow each other from the log's first byte position on

@@ -1,6 +1,6 @@
 -- Page headers, and the checks of a page in their order (PostgreSQL's xlog_internal.h and
 -- XLogReaderValidatePageHeader of xlogreader.c).
-use Rattle.std.specs.Prelude.{ℕ, ◌+◌, ◌*◌, ◌/◌, ◌%◌, Bool, ◌&&◌, not, List, [], ◌∷◌, ◌++◌, Option, Some, None, ◌==◌, nat_lt, if◌then◌else◌}
+use Rattle.std.specs.Prelude.{ℕ, ◌+◌, ◌*◌, ◌/◌, ◌%◌, Bool, ◌&&◌, not, List, [], ◌∷◌, ◌++◌, Option, ◌==◌, nat_lt, if◌then◌else◌}
 use Rattle.std.specs.Int.{w16, w32, w64, to_le_bytes}
 pub use Rattle.byte_position.specs.Position.{is_first_page, header_size}
 pub use Rattle.record_spelling.specs.Checks.{first_fault}

@@ -4,7 +4,7 @@
 use Rattle.std.specs.Prelude.{◌≡◌, ℕ, ◌+◌, ◌-◌, ◌*◌, ◌/◌, ◌%◌, ◌^◌, ◌<◌, ◌≤◌, false, List, slice_index, nat_lt, if◌then◌else◌, ◌∷◌, ◌++◌, Some}
 use Rattle.byte_position.specs.Geometry.{IsSegmentSize}
 use Rattle.byte_position.specs.Position.{is_in_header, position_of, end_address_of}
-use Rattle.record_spelling.specs.Spelling.{Assembled, assembled, assembled_size, filled, word_at}
+use Rattle.record_spelling.specs.Spelling.{Assembled, assembled, assembled_room, assembled_size, filled, word_at}
 use Rattle.wal_page.specs.Order.{Entry, IsChained, prev_in, assembled_room_at}
 use Rattle.wal_page.specs.Page.{page_header}
 use Rattle.wal_page.specs.Log.{log_word, owner_at}
@@ -21,19 +21,24 @@ abbrev pub still_to_come : Assembled → ℕ → ℕ → ℕ
 still_to_come a start position =
     if nat_lt start position then start + assembled_size a - position else 0
 
--- the n-th word of the header that the record gives a page whose first other byte is the record's
+-- the n-th word of the header that the record gives a page whose first other byte is in its room: 0
+-- where the page holds nothing but the zeros behind a switch
 abbrev pub header_word : ℕ → ℕ → ℕ → Assembled → ℕ → ℕ → ℕ
 header_word size sysid page a start n =
-    let remaining = still_to_come a start (position_of size (page * 8192)) in
-    word_at (page_header size sysid page remaining) n
+    let position = position_of size (page * 8192) in
+    let header = page_header size sysid page (still_to_come a start position) in
+    if nat_lt position (start + assembled_room a) then word_at header n else 0
 
--- the word that the record, behind one that starts at `prev`, gives at an address that it owns
+-- the word that the record, behind one that starts at `prev`, gives at an address that it owns: a
+-- header's, its own, or 0 behind its bytes
 abbrev pub entry_word : ℕ → ℕ → Assembled → ℕ → ℕ → ℕ → ℕ
 entry_word size sysid a start prev address =
     let position = position_of size address in
     let header = page_header size sysid (address / 8192) (still_to_come a start position) in
+    let own =
     if is_in_header size address then word_at header (address % 8192 / 8)
-    else word_at (filled a prev) ((position - start) / 8)
+    else word_at (filled a prev) ((position - start) / 8) in
+    if nat_lt position (start + assembled_room a) then own else 0
 
 -- a record at its place as its words are given: its log's segment size and system id, the record,
 -- the byte position of its start, the start of the record before (0 for none), and the address of
@@ -68,18 +73,21 @@ IsWordOfLog p address word =
     × (word ≡ log_word p.size p.sysid (front ++ e ∷ back) address)
 
 -- its next `count` words lie together on a page, behind the page's header, and the record's own
--- header lies before them
+-- header lies before them; they are the record's, and not zeros behind it
 pub record LieTogether (p : PlacedState) (count : ℕ) : Type 0 where
   pub outside : is_in_header p.size p.next ≡ false
   pub behind_header : p.start + 24 ≤ position_of p.size p.next
   pub on_page : p.next % 8192 + 8 * count ≤ 8192
+  pub own : position_of p.size p.next + 8 * count ≤ p.start + assembled_room p.body
 
--- the next word is at `next`, and `passed` bytes of the record's room lie before it
-pub record StandsAt (size : ℕ) (a : Assembled) (start next passed : ℕ) : Type 0 where
+-- the record takes up `room` bytes, the next word is at `next`, and `passed` of the bytes lie before
+-- it
+pub record StandsAt (size : ℕ) (a : Assembled) (start room next passed : ℕ) : Type 0 where
   pub valid : IsSegmentSize size
+  pub takes_up : room ≡ assembled_room_at size start a
   pub whole_start : start % 8 ≡ 0
-  pub within : start + assembled_room_at size start a < 2 ^ 60
+  pub within : start + room < 2 ^ 60
   pub whole_next : next % 8 ≡ 0
   pub position : position_of size next ≡ start + passed
-  pub passed_within : passed ≤ assembled_room_at size start a
-  pub next_within : next ≤ end_address_of size (start + assembled_room_at size start a)
+  pub passed_within : passed ≤ room
+  pub next_within : next ≤ end_address_of size (start + room)

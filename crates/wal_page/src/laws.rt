@@ -2,15 +2,17 @@
 //! record knows by them that its words are nobody else's, and stay what they are while the order
 //! grows behind it.
 
-ghost use Rattle.std.specs.Prelude.{◌≡◌, ℕ, ◌+◌, ◌*◌, ◌%◌, ◌<◌, ◌≤◌, ◌↔◌, List, [], ◌∷◌, ◌++◌, length, take, drop, slice_index, slice_index_or, All, Some, None, IsSome};
+ghost use Rattle.std.specs.Prelude.{◌≡◌, ℕ, ◌+◌, ◌*◌, ◌/◌, ◌%◌, ◌<◌, ◌≤◌, ◌↔◌, List, [], ◌∷◌, ◌++◌, length, take, drop, slice_index, slice_index_or, All, Some, None, IsSome};
 ghost use Rattle.std.specs.Int.{w64, to_le_bytes};
+ghost use Rattle.wal_types.specs.declared.record.Record.{Record};
 ghost use Rattle.byte_position.specs.Geometry.{IsSegmentSize};
-ghost use Rattle.byte_position.specs.Position.{address_of, end_address_of};
-ghost use Rattle.record_spelling.specs.Spelling.{Assembled, assembled, filled, word_at, IsWritable};
-ghost use Rattle.wal_page.specs.Order.{Entry, FollowsFrom, end_position, IsChained, position_behind, prev_in, prev_of, rooms_of, room_at, assembled_room_at};
+ghost use Rattle.byte_position.specs.Position.{address_of, end_address_of, position_of};
+ghost use Rattle.record_spelling.specs.Record.{switch_record};
+ghost use Rattle.record_spelling.specs.Spelling.{Assembled, assembled, room_of, word_at, IsLogRecord, IsWritable};
+ghost use Rattle.wal_page.specs.Order.{Entry, finish_of, next_segment, FollowsFrom, end_position, IsChained, position_behind, prev_in, prev_of, rooms_of, room_at, assembled_room_at};
 ghost use Rattle.wal_page.specs.EntryWords.{address_of_word, words_owned};
 ghost use Rattle.wal_page.specs.Page.{header_size};
-ghost use Rattle.wal_page.specs.Log.{log_byte, log_word, owner_at, stream_of};
+ghost use Rattle.wal_page.specs.Log.{bytes_of_entry, log_byte, log_word, owner_at, stream_of};
 ghost use Rattle.wal_page.specs.LogPage.{IsLogPage};
 ghost use Rattle.wal_page.specs.Placed.{Owns, entry_word, header_word};
 
@@ -26,9 +28,9 @@ pub fn orders_grow_entry_by_entry()
         → prev_in size (front ++ e ∷ back) e ≡ prev_of size 0 front }
     ensures stream { (size : ℕ) (es : List Entry) (e : Entry)
         → stream_of size (es ++ e ∷ []) ≡ stream_of size es
-        ++ filled (assembled e.value) (prev_of size 0 es) }
+        ++ bytes_of_entry size (prev_of size 0 es) e }
     ensures chained { (size : ℕ) (es : List Entry) (e : Entry) → IsChained size es
-        → e.start ≡ end_position size es → IsWritable e.value
+        → e.start ≡ end_position size es → IsLogRecord e.value
         → IsChained size (es ++ e ∷ []) }
 {}
 
@@ -77,6 +79,25 @@ pub fn owned_words_are_numbered()
         → (k : ℕ) × (k < words_owned size e) × (address ≡ address_of_word size e k) }
 {}
 
+/// Which records take up more than their spelling's room: a segment switch alone, of 24 bytes. The
+/// next entry starts with the segment behind the one in which the switch's last byte stands, and
+/// all words between are 0, those of page headers too.
+pub fn switches_fill_their_segments()
+    ensures inserted { (size start : ℕ) (value : Record) → IsWritable value
+        → room_at size start value ≡ room_of value }
+    ensures next { (size : ℕ) (front back : List Entry) (e next : Entry) → IsSegmentSize size
+        → IsChained size (front ++ e ∷ next ∷ back) → e.value ≡ switch_record
+        → next.start ≡ next_segment size (e.start + 23) }
+    ensures finish { (size : ℕ) (e : Entry) → IsSegmentSize size → e.start % 8 ≡ 0
+        → e.value ≡ switch_record
+        → finish_of size e ≡ size * (address_of size (e.start + 23) / size + 1) }
+    ensures zeros { (size sysid : ℕ) (front back : List Entry) (e : Entry) → IsSegmentSize size
+        → IsChained size (front ++ e ∷ back) → e.value ≡ switch_record → (address : ℕ)
+        → address % 8 ≡ 0 → e.start + 24 ≤ position_of size address
+        → position_of size address < position_behind size e
+        → log_word size sysid (front ++ e ∷ back) address ≡ 0 }
+{}
+
 /// The log's words: each is the one that its owner gives, and 0 where nobody owns it, as behind the
 /// order's end.
 pub fn words_are_their_owners()
@@ -104,8 +125,8 @@ pub fn further_entries_change_only_their_own()
         → ¬ Owns size (assembled e.value) e.start address
         → log_byte size sysid (es ++ e ∷ []) address ≡ log_byte size sysid es address }
     ensures words { (size sysid : ℕ) (es : List Entry) (e : Entry) (address : ℕ)
-        → IsSegmentSize size → e.start ≡ end_position size es → address % 8 ≡ 0
-        → ¬ Owns size (assembled e.value) e.start address
+        → IsSegmentSize size → IsChained size es → e.start ≡ end_position size es
+        → address % 8 ≡ 0 → ¬ Owns size (assembled e.value) e.start address
         → log_word size sysid (es ++ e ∷ []) address ≡ log_word size sysid es address }
 {}
 

@@ -6,23 +6,26 @@
 //! come, which the header tells. So a record's words are one stretch of addresses, no two records
 //! give the same word, and a page is whole once each record that touches it has given its words.
 //! Once its place is reserved, a record's words are the log's at their addresses, whatever records
-//! come behind it: so copies of different records need no order between them.
+//! come behind it: so copies of different records need no order between them. A segment switch owns
+//! the rest of its segment too, which it gives as zeros, the headers of pages that hold nothing
+//! else among them.
 
 ghost use Rattle.std.specs.Prelude.{◌≡◌, ◌+◌, ◌-◌, ◌*◌, ◌%◌, ◌^◌, ◌<◌, ◌≤◌, ◌==◌, IfSome, IfNone, length, if◌then◌else◌};
-ghost use Rattle.byte_position.specs.Position.{end_address_of};
+ghost use Rattle.byte_position.specs.Position.{end_address_of, is_in_header, position_of};
 ghost use Rattle.record_spelling.specs.Spelling.{assembled_room, assembled_size};
 ghost use Rattle.wal_page.specs.Order.{assembled_room_at};
 ghost use Rattle.wal_page.specs.Page.{header_size};
 ghost use Rattle.wal_page.specs.Placed.{HasWordsFrom, IsWordOfLog, LieTogether, Owns, header_word, placed_end, placed_word};
 
 use crate::header::page_header_word;
+use crate::room::room_at;
 use byte_position::{Geometry, PAGE_SIZE, WORD};
 use record_spelling::Body;
 use std::marker::Model;
 use wal_types::Lsn;
 
 /// SizeOfXLogRecord: the length of a record's own header.
-const RECORD_HEADER_LEN: u32 = 24;
+const RECORD_HEADER_LEN: u64 = 24;
 
 /// A record at its place: gives its words with their addresses, those of the page headers that it
 /// owns among them.
@@ -31,14 +34,15 @@ pub struct Placed<'a> {
     geometry: Geometry,
     sysid: u64,
     body: &'a Body,
-    // The byte position at which the record starts.
+    // The byte position at which the record starts, and how many bytes of the log it takes up.
     start: u64,
+    room: u64,
     // Where the record before starts.
     prev: Lsn,
     // Where the next word lies.
     next: u64,
     // How many bytes of the record's room lie before the next word.
-    passed: u32,
+    passed: u64,
 }
 
 impl<'a> Model for Placed<'a> {
@@ -55,7 +59,7 @@ impl<'a> Model for Placed<'a> {
       next = p.next;
     } };
 
-    ghost invariant = { λ p. StandsAt p.geometry p.body.now p.start p.next p.passed };
+    ghost invariant = { λ p. StandsAt p.geometry p.body.now p.start p.room p.next p.passed };
 }
 
 impl<'a> Placed<'a> {
@@ -78,6 +82,7 @@ impl<'a> Placed<'a> {
             sysid,
             body,
             start,
+            room: room_at(geometry, start, body),
             prev,
             next: geometry.to_end_lsn(start).0,
             passed: 0,
@@ -111,16 +116,15 @@ impl<'a> Placed<'a> {
           next = next.0;
         } }
     {
-        let passed = geometry.position_of(next) - start;
-        prove!(passed <= u64::from(body.room()));
         Placed {
             geometry,
             sysid,
             body,
             start,
+            room: room_at(geometry, start, body),
             prev,
             next: next.0,
-            passed: passed as u32,
+            passed: geometry.position_of(next) - start,
         }
     }
 
@@ -140,26 +144,58 @@ impl<'a> Placed<'a> {
         ensures whole { IfNone result (self.old.next ≡ placed_end self.old) }
         ensures same { IfNone result (self.new ≡ self.old) }
     {
-        if self.passed == self.body.room() {
+        if self.passed == self.room {
             return None;
         }
         let at = self.next;
-        let word = if self.geometry.is_in_header(Lsn(at)) {
-            let page = at / PAGE_SIZE;
-            let n = (at % PAGE_SIZE / WORD) as u32;
-            let remaining = still_to_come(self.body, u64::from(self.passed));
-            page_header_word(self.geometry, self.sysid, page, remaining, n)
-        } else {
-            let n = self.passed / WORD as u32;
-            self.passed += WORD as u32;
-            self.body.word(self.prev, n)
-        };
+        let in_header = self.geometry.is_in_header(Lsn(at));
+        let word = self.word_here(in_header);
+        if !in_header {
+            self.passed += WORD;
+        }
         self.next = at + WORD;
         Some((Lsn(at), word))
     }
 
+    // The word at the next place, which is in a page's header or not.
+    fn word_here(&self, in_header: bool) -> u64
+        requires { in_header ≡ is_in_header self.now.size self.now.next }
+        ensures { result ≡ placed_word self.now self.now.next }
+    {
+        if self.own_left() == 0 {
+            0
+        } else if in_header {
+            let page = self.next / PAGE_SIZE;
+            let n = (self.next % PAGE_SIZE / WORD) as u32;
+            let remaining = still_to_come(self.body, self.passed);
+            page_header_word(self.geometry, self.sysid, page, remaining, n)
+        } else {
+            let n = self.word_number();
+            self.body.word(self.prev, n)
+        }
+    }
+
+    // Which of the record's own words is the next one.
+    fn word_number(&self) -> u32
+        requires { position_of self.now.size self.now.next
+            < self.now.start + assembled_room self.now.body }
+        ensures { 8 * result ≡ position_of self.now.size self.now.next - self.now.start }
+    {
+        prove!(self.passed < u64::from(self.body.room()));
+        (self.passed / WORD) as u32
+    }
+
+    // How many of the record's own bytes are left from the next word on; those behind are zeros.
+    fn own_left(&self) -> u64
+        ensures { result ≡ self.now.start + assembled_room self.now.body
+            - position_of self.now.size self.now.next }
+    {
+        u64::from(self.body.room()).saturating_sub(self.passed)
+    }
+
     /// Puts the record's next words, as many as there are places: those that `next_word` would give
-    /// one by one. Words of the record that lie together on a page are copied at once.
+    /// one by one. Words of the record that lie together on a page are copied at once, and so are
+    /// all zeros behind it.
     pub fn put_words(&mut self, words: &mut [u64])
         requires { self.old.next + 8 * length words.old ≤ placed_end self.old }
         ensures placed { self.new
@@ -173,7 +209,7 @@ impl<'a> Placed<'a> {
     }
 
     // Puts at least one word: all that lie together on a page, or one of a page's header or of the
-    // record's own.
+    // record's own, or all zeros behind the record.
     fn put_some(&mut self, words: &mut [u64]) -> usize
         requires some { 0 < length words.old }
         requires owned { self.old.next + 8 * length words.old ≤ placed_end self.old }
@@ -182,6 +218,11 @@ impl<'a> Placed<'a> {
         ensures placed { self.new ≡ record self.old { next = self.old.next + 8 * result } }
         ensures words { HasWordsFrom self.old result words.new }
     {
+        if self.own_left() == 0 {
+            let count = words.len();
+            self.put_zeros(words);
+            return count;
+        }
         let count = self.words_together(words.len());
         if count > 0 {
             self.put_together(&mut words[..count]);
@@ -194,7 +235,7 @@ impl<'a> Placed<'a> {
     }
 
     // How many of the next words, at most so many, lie together on a page behind its header and the
-    // record's own.
+    // record's own, and before any zeros behind the record.
     fn words_together(&self, most: usize) -> usize
         ensures most { result ≤ most }
         ensures together { 0 < result → LieTogether self.now result }
@@ -205,8 +246,22 @@ impl<'a> Placed<'a> {
         if self.geometry.is_in_header(Lsn(self.next)) {
             return 0;
         }
-        let left = (PAGE_SIZE - self.next % PAGE_SIZE) / WORD;
+        let left = (PAGE_SIZE - self.next % PAGE_SIZE).min(self.own_left()) / WORD;
         most.min(left as usize)
+    }
+
+    // Puts zeros, which all words behind the record's own are, in headers and out of them.
+    fn put_zeros(&mut self, words: &mut [u64])
+        requires behind { self.old.start + assembled_room self.old.body
+            ≤ position_of self.old.size self.old.next }
+        requires owned { self.old.next + 8 * length words.old ≤ placed_end self.old }
+        ensures placed { self.new
+            ≡ record self.old { next = self.old.next + 8 * length words.old } }
+        ensures words { HasWordsFrom self.old (length words.old) words.new }
+    {
+        words.fill(0);
+        self.next += WORD * words.len() as u64;
+        self.passed = self.geometry.position_of(Lsn(self.next)) - self.start;
     }
 
     // Puts words that lie together.
@@ -218,10 +273,10 @@ impl<'a> Placed<'a> {
             ≡ record self.old { next = self.old.next + 8 * length words.old } }
         ensures words { HasWordsFrom self.old (length words.old) words.new }
     {
-        let bytes = WORD as usize * words.len();
-        self.body.put_words(self.passed / WORD as u32, words);
-        self.passed += bytes as u32;
-        self.next += bytes as u64;
+        let bytes = WORD * words.len() as u64;
+        self.body.put_words(self.word_number(), words);
+        self.passed += bytes;
+        self.next += bytes;
     }
 
     /// Where the next word lies: where the record ends, once all words were given.
@@ -232,8 +287,8 @@ impl<'a> Placed<'a> {
     }
 }
 
-/// The n-th word of a page's header, given by the record that has the page's first other byte.
-/// `page` counts from the log's byte 0.
+/// The n-th word of a page's header, given by the record that has the page's first other byte: 0
+/// where the page holds nothing but zeros behind a switch. `page` counts from the log's byte 0.
 pub fn header_word(geometry: Geometry, sysid: u64, page: u64, owner: &Placed, n: u32) -> u64
     requires owner { Owns geometry owner.now.body owner.now.start (page * 8192) }
     requires within { 8 * n < header_size geometry page }
@@ -244,6 +299,9 @@ pub fn header_word(geometry: Geometry, sysid: u64, page: u64, owner: &Placed, n:
         Some(position) => position - start,
         None => 0,
     };
+    if passed >= u64::from(owner.body.room()) {
+        return 0;
+    }
     page_header_word(geometry, sysid, page, still_to_come(owner.body, passed), n)
 }
 

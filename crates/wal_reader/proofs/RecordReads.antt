@@ -1,5 +1,6 @@
 -- Laws of what reading a record answers, by the groups of its checks.
 use Rattle.std.proofs.Common.{◌≡◌, ℕ, ◌+◌, ◌-◌, ◌*◌, ◌/◌, ◌%◌, ◌^◌, ◌<◌, ◌≤◌, Bool, List, [], ◌++◌, take, drop, Option, Some, None, Result, Ok, Err, refl, sym, ap, subst, ◌∙◌, arith}
+use Rattle.std.specs.Prelude.{IfOk}
 use Rattle.std.specs.Int.{w64}
 use Rattle.std.specs.List.{slice_index}
 use Rattle.std.proofs.lemmas.List.{get_or-take, take-take}
@@ -27,7 +28,7 @@ use Rattle.wal_reader.specs.Pages.{IsPage, Pages, bytes_from}
 use Rattle.wal_reader.specs.PageCursor.{Crosses, HasGathered, HoldsPassed, StandsIn}
 use Rattle.wal_reader.specs.Decodes.{next_position, page_of_byte, place_behind, rows_of_pages, crc_rows, header_rows, rest_rows}
 use Rattle.wal_reader.specs.ReadAt.{found_or}
-use Rattle.wal_reader.specs.RecordRead.{GoesOn, IsRead, said_of}
+use Rattle.wal_reader.specs.RecordRead.{GoesOn, IsRead, behind_read, said_of}
 use Rattle.wal_reader.specs.RecordPlace.{IsReachable}
 use Rattle.wal_reader.specs.ReadFailures.{IsTold}
 use Rattle.wal_reader.proofs.GatherLaws.{bytes_in_page, crosses_none, gathers_further, page_from}
@@ -152,11 +153,6 @@ total_found_is size place total prev (Err Memory) found e = absurd (cc)
 total_found_is size place total prev (Err (Malformed at kind)) found e = absurd (cc)
 total_found_is size place total prev (Err (Compressed block)) found e = absurd (cc)
 
--- the place behind a record that was read
-abbrev pub behind_read : ℕ → RecordPlace → FoundRecord → ℕ → ℕ → RecordPlace
-behind_read size at found total timeline =
-    record { position = next_position size at.position total found.value; prev = Some found.start; timeline = timeline }
-
 pub found_behind : (size : ℕ) (pages : Pages) (at : RecordPlace) (total prev : ℕ) (reading : Result Record RecErr) (found : FoundRecord) (cursor : PageCursor) (bytes : List ℕ) → found_or size at total prev reading ≡ Ok found
     → cursor.page ≡ page_of_byte size at.position total → pages cursor.page ≡ Some bytes → timeline_of bytes ≡ cursor.timeline
     → behind_read size at found total cursor.timeline ≡ place_behind size pages at found
@@ -168,6 +164,10 @@ pub found_as : (size : ℕ) (place : RecordPlace) (total : ℕ) (bytes own_bytes
 found_as size place total bytes own_bytes found answer same e f =
     let by_bytes : List ℕ → Type 0 = λ bs. found_or size place total (number_at w64 bs 8) (reading_of bs) ≡ answer in
     subst by_bytes same (sym e ∙ f)
+
+-- what holds of each thing that may be found holds of what was found
+pub of_found : (result : Result (FoundRecord × RecordPlace) Answer) (P : FoundRecord × RecordPlace → Type 0) (read : FoundRecord × RecordPlace) → result ≡ Ok read → IfOk result P → P read
+of_found result P read e each = subst (λ (r : Result (FoundRecord × RecordPlace) Answer). IfOk r P) e each
 
 -- the next record starts in reach, whatever this one is
 pub end_in_reach : (size position total : ℕ) (cursor : PageCursor) → HasGathered size position total cursor → position % 8 ≡ 0 → 0 < total → (value : Record) → next_position size position total value < 2 ^ 60

@@ -14,6 +14,7 @@ use Rattle.record_decode.specs.Fails.{FailsAt}
 use Rattle.record_decode.specs.Spells.{Spells}
 use Rattle.record_decode.specs.declared.fault.RecErr.TheVariants.{Malformed, Compressed}
 use Rattle.record_decode.specs.declared.fault.RecKind.{RecKind}
+use Rattle.wal_page.specs.Order.{next_segment}
 use Rattle.wal_page.specs.Page.{header_size, timeline_of, remaining_of, is_continued, is_overwritten, first_fault, page_rows}
 use Rattle.wal_reader.specs.declared.found.FoundRecord.{FoundRecord}
 use Rattle.wal_reader.specs.declared.found.Answer.{Answer}
@@ -150,10 +151,6 @@ record_rows size pages end place bytes =
     let no_record = is_zero_word (bytes_from size pages 24 place.position) in
     opening_rows size place bytes
     ++ (size_rows size end place.position no_record total ++ rest_rows size pages place total)
-
--- the first byte position of the segment behind the one in which a byte position's byte stands
-abbrev pub next_segment : ℕ → ℕ → ℕ
-next_segment size position = position_of size (size * (address_of size position / size + 1))
 
 -- where the next record starts behind one of so many bytes: behind its rounding, or after a segment
 -- switch with the segment behind the one in which the switch's last byte stands

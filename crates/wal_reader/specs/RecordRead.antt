@@ -12,7 +12,7 @@ use Rattle.wal_reader.specs.declared.read_failure.ReadFailure.TheVariants as fai
 use Rattle.wal_reader.specs.Pages.{Pages, bytes_from}
 use Rattle.wal_reader.specs.PageCursor.{HoldsPassed}
 use Rattle.wal_reader.specs.RecordPlace.{IsReachable}
-use Rattle.wal_reader.specs.Decodes.{opening_fault, place_behind}
+use Rattle.wal_reader.specs.Decodes.{next_position, opening_fault, place_behind}
 use Rattle.wal_reader.specs.ReadAt.{found_or}
 
 -- the first check that fails, or else what a record's bytes say
@@ -21,6 +21,19 @@ said_of size pages place total (Some answer) = Err answer
 said_of size pages place total None =
     let whole = bytes_from size pages total place.position in
     found_or size place total (number_at w64 whole 8) (reading_of whole)
+
+-- the place behind a record of so many bytes, which ends on a page of this timeline
+abbrev pub behind_read : ℕ → RecordPlace → FoundRecord → ℕ → ℕ → RecordPlace
+behind_read size at found total timeline = record {
+  position = next_position size at.position total found.value;
+  prev = Some found.start;
+  timeline = timeline;
+}
+
+-- what was found, without the place behind it
+abbrev pub without_place : Result (FoundRecord × RecordPlace) Answer → Result FoundRecord Answer
+without_place (Ok read) = Ok read.0
+without_place (Err answer) = Err answer
 
 -- the record that was found, and the place behind it; or what stands in its place; a trouble says
 -- nothing

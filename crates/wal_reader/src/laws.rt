@@ -1,12 +1,14 @@
 // Laws of what pages decode to, each proved by a function that does nothing: who lists or compares
 // a log rests on these, and not on the reader's own steps.
-ghost use Rattle.std.specs.Prelude.{◌≡◌, ◌↔◌, ℕ, ◌+◌, ◌*◌, ◌/◌, ◌%◌, Option, Result};
+ghost use Rattle.std.specs.Prelude.{◌≡◌, ◌↔◌, ℕ, ◌+◌, ◌-◌, ◌*◌, ◌/◌, ◌%◌, ◌<◌, true, Option, Result};
 ghost use Rattle.byte_position.specs.Geometry.{IsSegmentSize};
 ghost use Rattle.byte_position.specs.Position.{address_of, end_address_of};
+ghost use Rattle.wal_types.specs.declared.record.Record.{Record};
+ghost use Rattle.record_spelling.specs.Record.{is_switch};
 ghost use Rattle.wal_reader.specs.declared.found.Answer.{Answer};
 ghost use Rattle.wal_reader.specs.declared.found.FoundRecord.{FoundRecord};
 ghost use Rattle.wal_reader.specs.declared.record_place.RecordPlace.{RecordPlace};
-ghost use Rattle.wal_reader.specs.Decodes.{ReadsAt, next_segment};
+ghost use Rattle.wal_reader.specs.Decodes.{ReadsAt, next_position};
 ghost use Rattle.wal_reader.specs.Finds.{FindingIsDecoding};
 ghost use Rattle.wal_reader.specs.Pages.{Pages};
 ghost use Rattle.wal_reader.specs.ReadAt.{read_at};
@@ -33,14 +35,18 @@ pub fn reading_is_computed()
         → ReadsAt size pages end place result ↔ (read_at size pages end place ≡ result) }
 {}
 
-/// A law: a segment switch ends at the start of the segment that follows the one with its last
-/// byte. Where that byte is its segment's last, the next record starts just behind it.
+/// A law: behind a segment switch, whatever its size, the next record starts with the segment that
+/// follows the one with the switch's last byte. Where that byte is its segment's last, that is just
+/// behind it.
 pub fn switches_end_their_segment()
-    ensures end { (size last : ℕ) → IsSegmentSize size
-        → end_address_of size (next_segment size last)
-        ≡ size * (address_of size last / size + 1) }
-    ensures whole { (size last : ℕ) → IsSegmentSize size → (address_of size last + 1) % size ≡ 0
-        → next_segment size last ≡ last + 1 }
+    ensures end { (size position total : ℕ) (value : Record) → IsSegmentSize size
+        → is_switch value ≡ true
+        → end_address_of size (next_position size position total value)
+        ≡ size * (address_of size (position + total - 1) / size + 1) }
+    ensures whole { (size position total : ℕ) (value : Record) → IsSegmentSize size
+        → is_switch value ≡ true → 0 < total
+        → (address_of size (position + total - 1) + 1) % size ≡ 0
+        → next_position size position total value ≡ position + total }
 {}
 
 /// A law: what a reader finds in an image's pages is what they decode to, whatever is told where

@@ -12,6 +12,7 @@ ghost use Rattle.record_spelling.specs.Numbers.{number_at};
 ghost use Rattle.record_decode.specs.Reading.{reading_of};
 ghost use Rattle.wal_reader.specs.Decodes.{crc_rows, header_rows, next_position};
 ghost use Rattle.wal_reader.specs.ReadAt.{found_or};
+ghost use Rattle.wal_reader.specs.RecordRead.{behind_read, without_place};
 ghost use Rattle.wal_reader.specs.Spelled.{IsSpelled};
 ghost use Rattle.wal_reader.specs.ReadFailures.{Passes};
 
@@ -20,6 +21,7 @@ use crate::found::{Answer, DamageKind, FoundRecord, Stopped};
 use crate::layout::{CRC_AT, PREV_AT};
 use crate::numbers::{u32_at, u64_at};
 use crate::record_extent::RecordExtent;
+use crate::record_place::RecordPlace;
 use byte_position::Geometry;
 use record_decode::{RecErr, decode};
 use record_spelling::is_free_manager;
@@ -59,15 +61,17 @@ pub(crate) fn check_crc(start: Lsn, bytes: &[u8]) -> Result<(), Answer>
     Ok(())
 }
 
-/// What the bytes of a record say.
+/// What the bytes of a record say, and the place behind it: `timeline` is that of the page in which
+/// it ends.
 #[tactic(auto, unfolding(crate::specs::Spelled::IsSpelled))]
 pub(crate) fn found(
     alloc: Global,
     geometry: Geometry,
     start: Lsn,
     extent: RecordExtent,
+    timeline: u32,
     bytes: &[u8],
-) -> Result<Result<FoundRecord, Answer>, AllocError>
+) -> Result<Result<(FoundRecord, RecordPlace), Answer>, AllocError>
     // The bytes are as many as the record claims, and whatever they say, the next record starts low
     // enough to have an address.
     requires at { extent.at.position < 2 ^ 60 }
@@ -76,21 +80,32 @@ pub(crate) fn found(
     requires end { (value : Record)
         → next_position geometry extent.at.position extent.total value < 2 ^ 60 }
     // What the bytes spell, or why they spell nothing; with the record's place.
-    ensures read { IfOk result (λ found. found ≡ found_or geometry extent.at extent.total
-        (number_at w64 bytes.now 8) (reading_of bytes.now)) }
-    ensures spelled { IfOk result (λ found. IfOk found IsSpelled) }
-    ensures start { IfOk result (λ found. IfOk found (λ f. f.start ≡ start)) }
-    ensures end { IfOk result (λ found. IfOk found (λ f. f.end.0 ≡ end_address_of geometry
-        (next_position geometry extent.at.position extent.total f.value))) }
+    ensures read { IfOk result (λ said. without_place said ≡ found_or geometry extent.at
+        extent.total (number_at w64 bytes.now 8) (reading_of bytes.now)) }
+    ensures spelled { IfOk result (λ said. IfOk said (λ read. IsSpelled read.0)) }
+    ensures start { IfOk result (λ said. IfOk said (λ read. read.0.start ≡ start)) }
+    ensures end { IfOk result (λ said. IfOk said (λ read. read.0.end.0
+        ≡ end_address_of geometry read.1.position)) }
+    ensures behind { IfOk result (λ said. IfOk said (λ read. read.1
+        ≡ behind_read geometry extent.at read.0 extent.total timeline)) }
 {
     match decode(alloc, bytes) {
-        Ok(value) => Ok(Ok(FoundRecord {
-            start,
-            end: geometry.to_end_lsn(extent.end(geometry, &value)),
-            prev: Lsn(u64_at(bytes, PREV_AT)),
-            total: extent.total,
-            value,
-        })),
+        Ok(value) => {
+            let next = extent.next_position(geometry, &value);
+            let found = FoundRecord {
+                start,
+                end: geometry.to_end_lsn(next),
+                prev: Lsn(u64_at(bytes, PREV_AT)),
+                total: extent.total,
+                value,
+            };
+            let behind = RecordPlace {
+                position: next,
+                prev: Some(start),
+                timeline,
+            };
+            Ok(Ok((found, behind)))
+        }
         Err(RecErr::Memory) => Err(AllocError),
         Err(RecErr::Malformed { .. }) => Ok(Err(damaged(start, DamageKind::Malformed))),
         Err(RecErr::Compressed { .. }) => {

@@ -103,9 +103,8 @@ fn read_in_page(
     let start = extent.start(cache.geometry);
     check_header(start, extent.at.prev, bytes)?;
     check_crc(start, bytes)?;
-    let found = found(alloc, cache.geometry, start, extent, bytes)??;
-    let behind = extent.behind(cache.geometry, &found, cursor.timeline);
-    Ok((found, behind))
+    let read = found(alloc, cache.geometry, start, extent, cursor.timeline, bytes)??;
+    Ok(read)
 }
 
 fn part_of_page(page: &[u8; 8192], offset: u32, count: u32) -> &[u8]
@@ -151,7 +150,7 @@ fn read_over_pages<D: Disk>(
     check_header(start, extent.at.prev, &buffers.room)?;
     let cursor = gather(buffers, disk, Gathering { extent, cursor }, extent.total)?;
     check_crc(start, &buffers.room)?;
-    let found = found(alloc, geometry, start, extent, &buffers.room)??;
-    let behind = extent.behind(geometry, &found, cursor.timeline);
-    Ok((found, behind))
+    let timeline = cursor.timeline;
+    let read = found(alloc, geometry, start, extent, timeline, &buffers.room)??;
+    Ok(read)
 }

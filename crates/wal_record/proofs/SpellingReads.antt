@@ -8,8 +8,8 @@ use Rattle.wal_types.specs.declared.record.Block.{Block}
 use Rattle.wal_types.specs.declared.record.Record.{Record}
 use Rattle.wal_types.specs.declared.record.Rel.{Rel}
 use Rattle.record_decode.specs.declared.fault.RecErr.{RecErr}
-use Rattle.record_spelling.specs.Record.{Fits, IsWellFormed}
-use Rattle.record_spelling.specs.Spelling.{Assembled, IsWritable, spelled, assembled, block_headers, block_payload, crc_of, is_same_relation, main_header, origin_item, size_of, spelling, top_xid_item}
+use Rattle.record_spelling.specs.Spelling.{Assembled, IsLogRecord, IsReadable, spelled, assembled, block_headers, block_payload, crc_of, is_same_relation, main_header, origin_item, size_of, spelling, top_xid_item}
+use Rattle.record_spelling.proofs.SwitchLaws.{logged_readable}
 use Rattle.record_decode.specs.Reading.{reading_of}
 use Rattle.record_decode.proofs.Readings.{only}
 use Rattle.record_decode.specs.Spells.{Spells, SpellsBlockHeaders}
@@ -53,12 +53,12 @@ spelled_so r prev =
     grouped : (a b c d e f g h i j k : List ℕ) → a ++ b ++ c ++ d ++ e ++ (f ++ g ++ h ++ i ++ j ++ k) ≡ a ++ b ++ c ++ d ++ e ++ f ++ g ++ h ++ i ++ j ++ k
     grouped a b c d e f g h i j k = simp append_assoc
 
-pub spelling_spells : (r : Record) (prev : ℕ) → IsWellFormed r → Fits r → size_of r < 2 ^ 32 → Spells (spelling r prev) r
-spelling_spells r prev right fits size = record {
-  fits = fits;
-  size = omega (arith, length-spelling r prev);
-  manager = right.manager;
-  blocks = right.blocks;
+pub spelling_spells : (r : Record) (prev : ℕ) → IsReadable r → Spells (spelling r prev) r
+spelling_spells r prev readable = record {
+  fits = readable.fits;
+  size = omega (arith, length-spelling r prev, readable.size);
+  manager = readable.manager;
+  blocks = readable.blocks;
   prev = to_le_bytes w64 prev;
   prev_length = refl;
   spare = 0 ∷ 0 ∷ [];
@@ -74,21 +74,24 @@ spelling_spells r prev right fits size = record {
 
 -- ---- the round trip
 
-pub well_formed_reads : (r : Record) (prev : ℕ) → IsWellFormed r → Fits r → size_of r < 2 ^ 32 → reading_of (spelling r prev) ≡ Ok r
-well_formed_reads r prev right fits size = only (spelling r prev) r (spelling_spells r prev right fits size)
+pub readable_reads : (r : Record) (prev : ℕ) → IsReadable r → reading_of (spelling r prev) ≡ Ok r
+readable_reads r prev readable = only (spelling r prev) r (spelling_spells r prev readable)
 
-pub spelling_reads : (r : Record) (prev : ℕ) → IsWritable r → prev < 2 ^ 64 → reading_of (spelling r prev) ≡ Ok r
-spelling_reads r prev w lt = well_formed_reads r prev w.well_formed w.fits (omega (arith, w.size))
+pub logged_reads : (r : Record) (prev : ℕ) → IsLogRecord r → reading_of (spelling r prev) ≡ Ok r
+logged_reads r prev logged = readable_reads r prev (logged_readable r logged)
+
+pub spelling_reads : (r : Record) (prev : ℕ) → IsLogRecord r → prev < 2 ^ 64 → reading_of (spelling r prev) ≡ Ok r
+spelling_reads r prev logged lt = logged_reads r prev logged
 
 -- ---- a body's record
 
-pub one_record : (r other : Record) → IsWritable r → IsWritable other → assembled r ≡ assembled other → r ≡ other
-one_record r other w v same =
+pub one_record : (r other : Record) → IsLogRecord r → IsLogRecord other → assembled r ≡ assembled other → r ≡ other
+one_record r other logged other_logged same =
     let start : ℕ = 0 in
     same_value r other
-    (sym (spelling_reads r start w (omega arith))
+    (sym (spelling_reads r start logged (omega arith))
     ∙ ap (λ (a : Assembled). reading_of (spelled a start)) same
-    ∙ spelling_reads other start v (omega arith))
+    ∙ spelling_reads other start other_logged (omega arith))
   where
     same_value : (r other : Record) → (let x : Result Record RecErr = Ok r in x ≡ Ok other) → r ≡ other
     same_value r other k = cc

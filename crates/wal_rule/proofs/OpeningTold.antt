@@ -28,12 +28,27 @@ none_assures opening none_made state none_there = λ n. subst
     (λ segment. (1 ≤ segment) × (segment ≤ opening.made)) (IsLogAt opening.setup opening.found) n)
     (sym (none_there n)) (λ made. omega (arith, none_made, made.0, made.1))
 
+-- what a disk held at the opening that a log may go on on
+pub found_suited : (opening : Opening) (began now : Rattle.std.specs.Prelude.Option Tape)
+    → IfSome began (λ (t : Tape). IsSuited opening (state_now t))
+    → IfSome began (λ (t : Tape). opening.moment ≡ length t.calls)
+    → IfSome now (λ (t : Tape). t.at_first ≡ first_on began) → IfSome now (GoesOnFrom began)
+    → IfSome now (BeganSuited opening)
+found_suited opening began None suited counted same goes = tt
+found_suited opening None (Some t) suited counted same goes = absurd goes
+found_suited opening (Some b) (Some t) suited counted same goes =
+    subst (IsSuited opening) (sym (state_then b t opening.moment counted same goes)) suited
+
+none_suited : (opening : Opening) (began : Rattle.std.specs.Prelude.Option Tape)
+    → opening.made ≡ 0 → HoldsNothing began
+    → IfSome began (λ (t : Tape). IsSuited opening (state_now t))
+none_suited opening None none_made none_there = tt
+none_suited opening (Some b) none_made none_there =
+    none_assures opening none_made (state_now b) none_there
+
 pub began_suited : (opening : Opening) (began now : Rattle.std.specs.Prelude.Option Tape)
     → opening.made ≡ 0 → HoldsNothing began → IfSome began (λ (t : Tape). opening.moment ≡ length t.calls)
     → IfSome now (λ (t : Tape). t.at_first ≡ first_on began) → IfSome now (GoesOnFrom began)
     → IfSome now (BeganSuited opening)
-began_suited opening began None none_made none_there counted same goes = tt
-began_suited opening None (Some t) none_made none_there counted same goes = absurd goes
-began_suited opening (Some b) (Some t) none_made none_there counted same goes =
-    subst (IsSuited opening) (sym (state_then b t opening.moment counted same goes))
-    (none_assures opening none_made (state_now b) none_there)
+began_suited opening began now none_made none_there counted same goes =
+    found_suited opening began now (none_suited opening began none_made none_there) counted same goes

@@ -1,4 +1,4 @@
--- The rule holds of a log that holds nothing.
+-- The rule holds of a log that is opened.
 use Rattle.std.specs.Prelude.{IfSome}
 use Rattle.std.specs.Prelude.{IsSome}
 use Rattle.std.proofs.Common.{◌≡◌, ℕ, List, [], ◌∷◌, map, append-nil, arith, refl, sym, ◌∙◌, subst, Some, None}

@@ -1,7 +1,7 @@
--- A table that is not begun: its memory is taken, with its words and its writer, but page 0 of
--- segment 1 is still to be read before it is a log's. Its one seat is no pass's yet: it is not live
--- and has the turn to write or the writer, as no view has under the machine's invariant. So the
--- seat's view tells whether its table is begun.
+-- A table that is not begun: its memory is taken, with its words and its writer, but it is not a
+-- log's yet: where that is to hold nothing, page 0 of segment 1 is read first. Its one seat is no
+-- pass's yet: it is not live and has the turn to write or the writer, as no view has under the
+-- machine's invariant. So the seat's view tells whether its table is begun.
 use Rattle.std.specs.Prelude.{◌≡◌, ◌⊎◌, ℕ, false, List, [], ◌∷◌, None}
 use mathlib.Core.Option.{Option, none, some}
 use Rattle.segment_disk.specs.Tape.{Tape}
@@ -46,8 +46,7 @@ reading_view opening = view_before opening (Out none_told) 0
       stored = 0;
     }
 
--- the writer of a table that is not begun: it has written nothing, and its disk is as at the
--- opening, but for reads
+-- the writer of a table that is not begun: it has called nothing since the opening but reads
 pub record IsUncalledWriter {D : Type 0} (tape : D → Rattle.std.specs.Prelude.Option Tape)
     (moment : D → ℕ) (opening : Opening) (began : Rattle.std.specs.Prelude.Option Tape)
     (w : LogWriter D) : Type 0 where
@@ -63,8 +62,8 @@ module _ {D : Type 0} (tape : D → Rattle.std.specs.Prelude.Option Tape) (momen
     view_by_home none = reading_view opening
     view_by_home (some w) = waiting_view opening (faults (slot_disk w))
 
-    -- the table is not begun: its words are those of a new log, a writer at home has called
-    -- nothing, and there is no other seat
+    -- the table is not begun: its words are those with which its log is opened, a writer at home
+    -- has called nothing, and there is no other seat
     pub record IsBeginning (words : List ℕ) (homes : List (Option (LogWriter D)))
         (views : List View) : Type 0 where
       pub words_are : AreFirstWords opening words

@@ -10,8 +10,8 @@ use Rattle.wal_rule.specs.declared.writer.LogWriter.{LogWriter}
 use Rattle.wal_rule.specs.Founded.{disk_of_founding, founded_opening}
 use Rattle.wal_rule.specs.Slotted.{slot_disk, slot_plain, slot_segment_size}
 
--- a writer of a new log, on the disk of which was told what is fixed of a table: its content, its
--- moment and its count of faults
+-- a writer with which a log is opened, on the disk of which was told what is fixed of a table: its
+-- content, its moment and its count of faults
 pub record IsFoundedWriter {D : Type 0} (tape : D → Option Tape) (moment faults : D → ℕ)
     (founding : Founding D) (w : LogWriter D) : Type 0 where
   pub first : IsFirstWriter (founded_opening founding) (slot_plain tape moment w)

@@ -13,6 +13,7 @@ pub mod beginnings;
 mod closing;
 mod device;
 pub mod downs;
+mod found;
 mod giving_up;
 mod joining;
 mod locks;
@@ -31,6 +32,7 @@ mod table;
 mod turns;
 mod writer;
 
+pub use found::{FoundEntries, PicksEntries};
 pub use opening::OpenErr;
 pub use pass::Pass;
 pub use plays::OfKind;

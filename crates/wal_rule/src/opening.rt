@@ -1,10 +1,11 @@
-// A table is made, of a log that holds nothing. All its memory is taken before its disk is read: so
-// nothing is read of a disk for which there was no memory. Until the first page was read the table
-// is not begun: its only seat is not live and has the turn to write (`waiting_view`) or the writer
-// (`reading_view`), so no step of the machine can be made with it. Where page 0 of segment 1 is not
-// there the writer goes home and the seat becomes the first pass's, with all numbers: from then on
-// the table's rule is the machine's invariant. Where it is there, or the read failed, the table is
-// ended and the disk comes back, of which no call was counted.
+// A table is made, of a log that holds nothing or of one that was found. All its memory is taken
+// before its disk is read: so nothing is read of a disk for which there was no memory. Until the
+// first page was read the table is not begun: its only seat is not live and has the turn to write
+// (`waiting_view`) or the writer (`reading_view`), so no step of the machine can be made with it.
+// If page 0 of segment 1 is not there the writer goes home and the seat becomes the first pass's,
+// with all numbers: from then on the table's rule is the machine's invariant. If it is there, or
+// the read failed, the table is ended and the disk comes back, of which no call was counted. A log
+// that was found was read before, so its table is begun at once.
 ghost use Rattle.std.specs.Prelude.{◌≡◌, [], ◌∷◌, IfErr, IfOk, IfSome, None};
 ghost use Rattle.segment_disk.specs.Tape.{page_of_segment, state_now};
 ghost use Rattle.wal_core.specs.Opened.{AreFirstWords, IsOpenable, first_view};
@@ -61,15 +62,65 @@ impl<D: Disk> LogTable<D> {
         ensures refused { IfErr result
             (λ e. TellsOpenErr D.tape D.moment D.faults (slot_disk writer) e) }
     {
+        match LogTable::waiting(alloc, words, writer, shape, founding) {
+            Ok((table, seat)) => table.begin::<Brand>(seat),
+            Err(disk) => Err(OpenErr::Memory(disk)),
+        }
+    }
+
+    /// The table of a log that was found, which goes on behind it, and the seat of its first pass.
+    /// It makes no device call. If there is no memory the disk comes back.
+    pub fn resume(
+        alloc: Global,
+        words: &[u64],
+        writer: LogWriter<D>,
+        shape: LogShape,
+        founding: &Founding<D>,
+    ) -> Result<(LogTable<D>, LogSeat<D>), D>
+        // The words and the writer are those of a log that goes on behind what was found, and what
+        // is fixed of the table is what the writer's disk tells now.
+        requires openable { IsOpenable (founded_opening founding.now) }
+        requires shape { shape ≡ founding.now.setup }
+        requires words { AreFirstWords (founded_opening founding.now) words.now }
+        requires writer { IsFoundedWriter D.tape D.moment D.faults founding.now writer }
+        // At Ok the seat is the first pass's; at Err the disk is the very one.
+        ensures key { IfOk result (λ t. t.0.table.shared.key ≡ founding.now) }
+        ensures seat { IfOk result (λ t. (t.1.me
+            ≡ (first_view (founded_opening founding.now), [])) × IsSeatOn t.0 t.1) }
+        ensures refused { IfErr result (λ disk. disk ≡ slot_disk writer) }
+    {
+        let (table, mut seat) = LogTable::waiting(alloc, words, writer, shape, founding)?;
+        table.lend_to_read::<Brand>(&mut seat);
+        table.start(&mut seat);
+        Ok((table, seat))
+    }
+
+    // A table with all its memory, and its only seat, which waits: it is not begun.
+    fn waiting(
+        alloc: Global,
+        words: &[u64],
+        writer: LogWriter<D>,
+        shape: LogShape,
+        founding: &Founding<D>,
+    ) -> Result<(LogTable<D>, LogSeat<D>), D>
+        requires shape { shape ≡ founding.now.setup }
+        requires words { AreFirstWords (founded_opening founding.now) words.now }
+        requires writer { IsFoundedWriter D.tape D.moment D.faults founding.now writer }
+        ensures key { IfOk result (λ t. t.0.table.shared.key ≡ founding.now) }
+        ensures table { IfOk result (λ t. t.1.table_id ≡ table_number t.0) }
+        ensures waits { IfOk result (λ t. t.1.me
+            ≡ (waiting_view (opening_of_table t.0) (opening_of_table t.0).faults, [])) }
+        ensures refused { IfErr result (λ disk. disk ≡ slot_disk writer) }
+    {
         let mut slots = Vec::new(alloc);
         if let Err(failed) = slots.push(writer) {
             let AllocFailed { value } = failed;
             slots.destroy_empty();
-            return Err(OpenErr::Memory(value.into_disk()));
+            return Err(value.into_disk());
         }
         match Table::new(alloc, words, slots, founding) {
-            Ok((table, seat)) => LogTable { table, shape }.begin::<Brand>(seat),
-            Err(Refused { slots }) => Err(OpenErr::Memory(only_one(slots).into_disk())),
+            Ok((table, seat)) => Ok((LogTable { table, shape }, seat)),
+            Err(Refused { slots }) => Err(only_one(slots).into_disk()),
         }
     }
 
@@ -111,7 +162,7 @@ impl<D: Disk> LogTable<D> {
         }
     }
 
-    // Takes the writer, so that its disk is read: the seat that waits is one that reads.
+    // Takes the writer, so that its disk may be read: the seat that waits is one that reads.
     fn lend_to_read<B: BeganOn>(&self, seat: &mut LogSeat<D>)
         requires table { seat.old.table_id ≡ table_number self.now }
         requires waits { seat.old.me ≡ (
@@ -129,8 +180,8 @@ impl<D: Disk> LogTable<D> {
         self.table.shared.load::<GoesToRead<D, B>>(seat, WRITE_TURN);
     }
 
-    // Gives the writer back, and makes the seat the first pass's. Nothing but a read was called
-    // with the writer, and the disk's count of faults is the opening's: so the log begins sound.
+    // Gives the writer back, and makes the seat the first pass's. At most a read was called with
+    // the writer, and the disk's count of faults is the opening's: so the log begins sound.
     fn start(&self, seat: &mut LogSeat<D>)
         requires openable { IsOpenable (opening_of_table self.now) }
         requires table { seat.old.table_id ≡ table_number self.now }

@@ -73,8 +73,8 @@ impl<'a, D: Disk> SeatedPass<'a, D> {
     pub fn store_position<K: OfKind>(&mut self, position: u64)
         requires kind { (locks : List ℕ) × (value : Record)
             × (K.kind ≡ store_position locks value) }
-        // The next start is stored, the record can be written and fits, and nothing is in flight;
-        // the locks are some that the pass holds.
+        // The next start is stored, the record may stand under the locks and fits, and nothing is
+        // in flight; the locks are some that the pass holds.
         requires may { MayStep (view_of self.old) K.kind }
         requires value { position ≡ value_behind (view_of self.old) K.kind 0 }
         ensures steps { Steps K.kind 0 self.old self.new }

@@ -4,9 +4,10 @@
 // now follows from it by the table's rule alone. What is told once (`Founding`) is the table's key:
 // it never changes, so each seat's steps speak of the same log and of the same opening.
 ghost use Rattle.std.specs.Prelude.{◌≡◌};
-ghost use Rattle.wal_rule.specs.Founded.{disk_of_founding, empty_log_opening, founded_opening};
+ghost use Rattle.wal_rule.specs.Founded.{disk_of_founding, empty_log_opening, found_log_opening, founded_opening};
 ghost use Rattle.wal_core.specs.Views.{View};
 
+use crate::found::FoundEntries;
 use segment_disk::Disk;
 use std::marker::{Model, PhantomData};
 use std::snapshot::Snapshot;
@@ -30,25 +31,41 @@ impl Model for PassView {
     ghost also_owns = { λ _. ftrue };
 }
 
-/// What is fixed of a table: how its log was set up, and its disk's moment, count of faults and
-/// content when it was opened. The log held nothing then.
+/// What is fixed of a table: how its log was set up, the entries that were found in it and the last
+/// segment that was made of it, and its disk's moment, count of faults and content when it was
+/// opened.
 #[derive(Drop)]
 pub struct Founding<D> {
     pub setup: Setup,
+    pub found: FoundEntries,
+    /// 0 where there was no segment.
+    pub made: u64,
     pub moment: u64,
     pub faults: u64,
     pub disk: Snapshot<D>,
 }
 
 impl<D: Disk> Founding<D> {
-    /// What is to be fixed of a table for a log on this disk. It makes no device call.
+    /// What is to be fixed of a table for a log that begins on this disk. It makes no device call.
     pub fn of(setup: Setup, disk: &D) -> Founding<D>
         ensures opening { founded_opening result
             ≡ empty_log_opening setup (D.moment disk.now) (D.faults disk.now) }
         ensures disk { disk_of_founding result ≡ disk.now }
     {
+        Founding::of_found(setup, disk, FoundEntries::none(), 0)
+    }
+
+    /// What is to be fixed of a table for a log that was found on this disk, in segments from 1 up
+    /// to `made`. It makes no device call.
+    pub fn of_found(setup: Setup, disk: &D, found: FoundEntries, made: u64) -> Founding<D>
+        ensures opening { founded_opening result ≡ found_log_opening setup found.entries made
+            (D.moment disk.now) (D.faults disk.now) }
+        ensures disk { disk_of_founding result ≡ disk.now }
+    {
         Founding {
             setup,
+            found,
+            made,
             moment: disk.moment(),
             faults: disk.faults(),
             disk: Snapshot::of(disk),

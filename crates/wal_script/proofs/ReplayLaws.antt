@@ -1,89 +1,120 @@
 -- What holds of each replay's script that is read.
-use Rattle.std.proofs.Common.{◌≡◌, ℕ, ◌+◌, ◌<◌, ◌≤◌, List, [], ◌∷◌, ◌++◌, length, Bool, true, false, ◌&&◌, Option, Some, None, Result, Ok, Err, All, codes, eqb, ltb, ltb-true, length-append, refl, arith}
+use Rattle.std.proofs.Common.{◌≡◌, ℕ, ◌+◌, ◌<◌, ◌≤◌, List, [], ◌∷◌, ◌++◌, length, Bool, true, false, ◌&&◌, Option, Some, None, Result, Ok, Err, All, codes, eqb, ltb, ltb-true, length-append, refl, sym, ◌∙◌, true≢false, arith}
 use Rattle.std.specs.Prelude.{IfOk, if◌then◌else◌}
-use Rattle.std.proofs.lemmas.Bool.{cond_both}
+use Rattle.std.proofs.lemmas.Bool.{cond_both, or_parts}
 use Rattle.std.proofs.lemmas.List.Elements.{All-nil, All-cons, All-append}
 use Rattle.replay_schedule.specs.declared.item.Item.{Item}
 use Rattle.replay_schedule.specs.Meaning.{after_lines}
 use Rattle.replay_schedule.specs.Turns.{backends_in_turn, most_turns}
 use Rattle.replay_schedule.proofs.Turns.{lines_are_of_backends, lines_are_within}
 use Rattle.wal_script.specs.declared.line.Refusal.{Refusal}
-use Rattle.wal_script.specs.Asked.{AskedLine}
-use Rattle.wal_script.specs.Meaning.{line_with, passes, asks, refuses, script_limit}
-use Rattle.wal_script.specs.Replay.{ScriptLine, of_backend, begins, ends, ScheduleLines, BackendsMeaning, ReplayMeaning, alone, begin_fault, most_backends, backends_from, backends_with, items_or_fault, script_line_of, script_line_with, replay_meaning, replay_with, schedule_with, unless_fault, with_schedule}
+use Rattle.wal_script.specs.declared.line.ScriptFault.TheVariants as faults
+use Rattle.wal_script.specs.Asked.{Asked, AskedLine, Insert, Commit}
+use Rattle.wal_script.specs.Meaning.{commit_of, insert_of, line_with, passes, asks, refuses, script_limit}
+use Rattle.wal_script.specs.Replay.{IsOfReplay, ScriptLine, of_backend, begins, ends, ScheduleLines, BackendsMeaning, ReplayMeaning, alone, begin_fault, is_of_runs, most_backends, backends_from, backends_with, items_or_fault, script_line_of, script_line_with, replay_meaning, replay_with, schedule_with, unless_fault, with_schedule}
 use Rattle.wal_script.specs.Text.{is_text, fields_of, lines_of}
 use Rattle.wal_script.specs.Writable.{AsksWritable}
-use Rattle.wal_script.proofs.Writing.{MeansWritable, line_with_writable}
+use Rattle.wal_script.proofs.Writing.{MeansOnly, asks_as_only, line_with_only, line_with_writable}
 
 -- ---- lines
 
-abbrev IsWritableLine : ScriptLine → Type 0
-IsWritableLine (of_backend meaning) = MeansWritable meaning
-IsWritableLine (begins is_alone) = Unit {0}
-IsWritableLine ends = Unit {0}
+-- what one of a backend's lines asks for is only this
+abbrev LineOnly : (Asked → Type 0) → ScriptLine → Type 0
+LineOnly P (of_backend meaning) = MeansOnly P meaning
+LineOnly P (begins is_alone) = Unit {0}
+LineOnly P ends = Unit {0}
 
-alone_writable : (line : ScriptLine) (fields : List (List ℕ)) → IsWritableLine line → IsWritableLine (alone line fields)
-alone_writable line [] writable = writable
-alone_writable line (field ∷ fields) writable = tt
+alone_only : (P : Asked → Type 0) (line : ScriptLine) (fields : List (List ℕ)) → LineOnly P line → LineOnly P (alone line fields)
+alone_only P line [] only = only
+alone_only P line (field ∷ fields) only = tt
 
-script_line_with_writable : (takes_schedule : Bool) (fields : List (List ℕ)) → IsWritableLine (script_line_with takes_schedule fields)
-script_line_with_writable takes_schedule [] = tt
-script_line_with_writable takes_schedule (word ∷ fields) =
+-- where each line of a backend that the script knows asks for only this, so does each line
+script_line_with_only : (P : Asked → Type 0) (takes_schedule : Bool) (word : List ℕ) (fields : List (List ℕ)) → ((takes_schedule && is_of_runs word) ≡ false → MeansOnly P (line_with (word ∷ fields))) → LineOnly P (script_line_with takes_schedule (word ∷ fields))
+script_line_with_only P takes_schedule word fields only =
     let other = of_backend (line_with (word ∷ fields)) in
-    let end = if takes_schedule && is_text word (codes "S") then alone ends fields else other in
-    cond_both (is_text word (codes "B")) (begins (eqb (length fields) 0)) end IsWritableLine (λ _. tt)
-    (λ _. cond_both (takes_schedule && is_text word (codes "S")) (alone ends fields) other IsWritableLine (λ _. alone_writable ends fields tt) (λ _. line_with_writable (word ∷ fields)))
+    let known = if takes_schedule && is_of_runs word then of_backend (refuses faults.Word) else other in
+    let end = if takes_schedule && is_text word (codes "S") then alone ends fields else known in
+    cond_both (is_text word (codes "B")) (begins (eqb (length fields) 0)) end (LineOnly P) (λ _. tt)
+    (λ _. cond_both (takes_schedule && is_text word (codes "S")) (alone ends fields) known (LineOnly P) (λ _. alone_only P ends fields tt)
+    (λ _. cond_both (takes_schedule && is_of_runs word) (of_backend (refuses faults.Word)) other (LineOnly P) (λ _. tt) only))
 
-script_line_of_writable : (takes_schedule : Bool) (text : List ℕ) → IsWritableLine (script_line_of takes_schedule text)
-script_line_of_writable takes_schedule [] = tt
-script_line_of_writable takes_schedule (c ∷ cs) =
-    cond_both (eqb c 35) (of_backend passes) (script_line_with takes_schedule (fields_of (c ∷ cs))) IsWritableLine (λ _. tt) (λ _. script_line_with_writable takes_schedule (fields_of (c ∷ cs)))
+script_line_of_only : (P : Asked → Type 0) (takes_schedule : Bool) → ((fields : List (List ℕ)) → LineOnly P (script_line_with takes_schedule fields)) → (text : List ℕ) → LineOnly P (script_line_of takes_schedule text)
+script_line_of_only P takes_schedule only [] = tt
+script_line_of_only P takes_schedule only (c ∷ cs) =
+    cond_both (eqb c 35) (of_backend passes) (script_line_with takes_schedule (fields_of (c ∷ cs))) (LineOnly P) (λ _. tt) (λ _. only (fields_of (c ∷ cs)))
+
+writable_fields : (takes_schedule : Bool) (fields : List (List ℕ)) → LineOnly AsksWritable (script_line_with takes_schedule fields)
+writable_fields takes_schedule [] = tt
+writable_fields takes_schedule (word ∷ fields) = script_line_with_only AsksWritable takes_schedule word fields (λ _. line_with_writable (word ∷ fields))
+
+-- a letter that a replay knows asks for what it may ask for
+replay_letters : (word : List ℕ) (fields : List (List ℕ)) → is_of_runs word ≡ false → MeansOnly IsOfReplay (line_with (word ∷ fields))
+replay_letters word fields known =
+    let none = or_parts (is_text word (codes "A")) (is_text word (codes "L")) known in
+    line_with_only IsOfReplay word fields
+    (λ _. asks_as_only IsOfReplay Insert (insert_of fields) (λ x is. tt))
+    (λ _. asks_as_only IsOfReplay Commit (commit_of fields) (λ x is. tt))
+    (λ _. tt)
+    (λ is. absurd (true≢false (sym is ∙ none.0)))
+    (λ is. absurd (true≢false (sym is ∙ none.1)))
+
+replay_fields : (fields : List (List ℕ)) → LineOnly IsOfReplay (script_line_with true fields)
+replay_fields [] = tt
+replay_fields (word ∷ fields) = script_line_with_only IsOfReplay true word fields (λ known. replay_letters word fields known)
 
 -- ---- the backends
 
-abbrev pub AreWritable : List AskedLine → Type 0
-AreWritable lines = All (λ line. AsksWritable line.asked) lines
+module _ (P : Asked → Type 0) where
+  abbrev pub AskOnly : List AskedLine → Type 0
+  AskOnly lines = All (λ line. P line.asked) lines
 
--- what holds of backends that were read
-pub record AreFit (m : BackendsMeaning) : Type 0 where
-  pub some : 0 < length m.backends
-  pub most : length m.backends ≤ most_backends
-  pub writable : All AreWritable m.backends
+  -- what holds of backends that were read
+  pub record AreFit (m : BackendsMeaning) : Type 0 where
+    pub some : 0 < length m.backends
+    pub most : length m.backends ≤ most_backends
+    pub only : All AskOnly m.backends
 
-AreFit-pushed : (before : List (List AskedLine)) (lines : List AskedLine) (schedule : Option ScheduleLines) → length before < most_backends → All AreWritable before → AreWritable lines → AreFit (record { backends = before ++ lines ∷ []; schedule = schedule })
-AreFit-pushed before lines schedule room before_writable lines_writable = record {
-  some = omega (arith, length-append before (lines ∷ []));
-  most = omega (arith, room, length-append before (lines ∷ []));
-  writable = All-append AreWritable before (lines ∷ []) before_writable (All-cons AreWritable lines [] lines_writable (All-nil AreWritable));
-}
+  AreFit-pushed : (before : List (List AskedLine)) (lines : List AskedLine) (schedule : Option ScheduleLines) → length before < most_backends → All AskOnly before → AskOnly lines → AreFit (record { backends = before ++ lines ∷ []; schedule = schedule })
+  AreFit-pushed before lines schedule room before_only lines_only = record {
+    some = omega (arith, length-append before (lines ∷ []));
+    most = omega (arith, room, length-append before (lines ∷ []));
+    only = All-append AskOnly before (lines ∷ []) before_only (All-cons AskOnly lines [] lines_only (All-nil AskOnly));
+  }
 
-begins_fit : (number : ℕ) (has_room is_alone : Bool) (next : Result BackendsMeaning Refusal) → (has_room ≡ true → IfOk next AreFit) → IfOk (unless_fault number (begin_fault has_room is_alone) next) AreFit
-begins_fit number false is_alone next fit = tt
-begins_fit number true false next fit = tt
-begins_fit number true true next fit = fit refl
+  begins_fit : (number : ℕ) (has_room is_alone : Bool) (next : Result BackendsMeaning Refusal) → (has_room ≡ true → IfOk next AreFit) → IfOk (unless_fault number (begin_fault has_room is_alone) next) AreFit
+  begins_fit number false is_alone next fit = tt
+  begins_fit number true false next fit = tt
+  begins_fit number true true next fit = fit refl
 
-backends_with_fit : (number : ℕ) (before : List (List AskedLine)) (lines : List AskedLine) (line : ScriptLine) (texts : List (List ℕ)) (others : List (List AskedLine) → List AskedLine → Result BackendsMeaning Refusal) → length before < most_backends → All AreWritable before → AreWritable lines → IsWritableLine line → ((so_far : List (List AskedLine)) (latest : List AskedLine) → length so_far < most_backends → All AreWritable so_far → AreWritable latest → IfOk (others so_far latest) AreFit) → IfOk (backends_with number before lines line texts others) AreFit
-backends_with_fit number before lines (of_backend passes) texts others room before_writable lines_writable writable fit = fit before lines room before_writable lines_writable
-backends_with_fit number before lines (of_backend (asks asked)) texts others room before_writable lines_writable writable fit =
-    let line : AskedLine = record { number = number; asked = asked } in
-    let Is = λ (l : AskedLine). AsksWritable l.asked in
-    fit before (lines ++ line ∷ []) room before_writable (All-append Is lines (line ∷ []) lines_writable (All-cons Is line [] writable (All-nil Is)))
-backends_with_fit number before lines (of_backend (refuses fault)) texts others room before_writable lines_writable writable fit = tt
-backends_with_fit number before lines (begins is_alone) texts others room before_writable lines_writable writable fit =
-    begins_fit number (ltb (length before + 1) most_backends) is_alone (others (before ++ lines ∷ []) [])
-    (λ holds. fit (before ++ lines ∷ []) [] (omega (arith, ltb-true (length before + 1) most_backends holds, length-append before (lines ∷ []))) (AreFit-pushed before lines None room before_writable lines_writable).writable (All-nil (λ l. AsksWritable l.asked)))
-backends_with_fit number before lines ends texts others room before_writable lines_writable writable fit =
-    AreFit-pushed before lines (Some (record { number = number; texts = texts })) room before_writable lines_writable
+  backends_with_fit : (number : ℕ) (before : List (List AskedLine)) (lines : List AskedLine) (line : ScriptLine) (texts : List (List ℕ)) (others : List (List AskedLine) → List AskedLine → Result BackendsMeaning Refusal) → length before < most_backends → All AskOnly before → AskOnly lines → LineOnly P line → ((so_far : List (List AskedLine)) (latest : List AskedLine) → length so_far < most_backends → All AskOnly so_far → AskOnly latest → IfOk (others so_far latest) AreFit) → IfOk (backends_with number before lines line texts others) AreFit
+  backends_with_fit number before lines (of_backend passes) texts others room before_only lines_only only fit = fit before lines room before_only lines_only
+  backends_with_fit number before lines (of_backend (asks asked)) texts others room before_only lines_only only fit =
+      let line : AskedLine = record { number = number; asked = asked } in
+      let Is = λ (l : AskedLine). P l.asked in
+      fit before (lines ++ line ∷ []) room before_only (All-append Is lines (line ∷ []) lines_only (All-cons Is line [] only (All-nil Is)))
+  backends_with_fit number before lines (of_backend (refuses fault)) texts others room before_only lines_only only fit = tt
+  backends_with_fit number before lines (begins is_alone) texts others room before_only lines_only only fit =
+      begins_fit number (ltb (length before + 1) most_backends) is_alone (others (before ++ lines ∷ []) [])
+      (λ holds. fit (before ++ lines ∷ []) [] (omega (arith, ltb-true (length before + 1) most_backends holds, length-append before (lines ∷ []))) (AreFit-pushed before lines None room before_only lines_only).only (All-nil (λ l. P l.asked)))
+  backends_with_fit number before lines ends texts others room before_only lines_only only fit =
+      AreFit-pushed before lines (Some (record { number = number; texts = texts })) room before_only lines_only
 
-backends_from_fit : (takes_schedule : Bool) (number : ℕ) (before : List (List AskedLine)) (lines : List AskedLine) (texts : List (List ℕ)) → length before < most_backends → All AreWritable before → AreWritable lines → IfOk (backends_from takes_schedule number before lines texts) AreFit
-backends_from_fit takes_schedule number before lines [] room before_writable lines_writable = AreFit-pushed before lines None room before_writable lines_writable
-backends_from_fit takes_schedule number before lines (text ∷ texts) room before_writable lines_writable =
-    backends_with_fit number before lines (script_line_of takes_schedule text) texts (λ so_far latest. backends_from takes_schedule (number + 1) so_far latest texts) room before_writable lines_writable (script_line_of_writable takes_schedule text)
-    (λ so_far latest. backends_from_fit takes_schedule (number + 1) so_far latest texts)
+  module _ (takes_schedule : Bool) (only : (text : List ℕ) → LineOnly P (script_line_of takes_schedule text)) where
+    backends_from_fit : (number : ℕ) (before : List (List AskedLine)) (lines : List AskedLine) (texts : List (List ℕ)) → length before < most_backends → All AskOnly before → AskOnly lines → IfOk (backends_from takes_schedule number before lines texts) AreFit
+    backends_from_fit number before lines [] room before_only lines_only = AreFit-pushed before lines None room before_only lines_only
+    backends_from_fit number before lines (text ∷ texts) room before_only lines_only =
+        backends_with_fit number before lines (script_line_of takes_schedule text) texts (λ so_far latest. backends_from takes_schedule (number + 1) so_far latest texts) room before_only lines_only (only text)
+        (λ so_far latest. backends_from_fit (number + 1) so_far latest texts)
 
--- the backends of each script are fit
-pub backends_fit : (takes_schedule : Bool) (script : List ℕ) → IfOk (backends_from takes_schedule 1 [] [] (lines_of script)) AreFit
-backends_fit takes_schedule script = backends_from_fit takes_schedule 1 [] [] (lines_of script) (omega arith) (All-nil AreWritable) (All-nil (λ l. AsksWritable l.asked))
+    -- the backends of each script are fit
+    only_fit : (script : List ℕ) → IfOk (backends_from takes_schedule 1 [] [] (lines_of script)) AreFit
+    only_fit script = backends_from_fit 1 [] [] (lines_of script) (omega arith) (All-nil AskOnly) (All-nil (λ l. P l.asked))
+
+pub backends_fit : (takes_schedule : Bool) (script : List ℕ) → IfOk (backends_from takes_schedule 1 [] [] (lines_of script)) (AreFit AsksWritable)
+backends_fit takes_schedule script = only_fit AsksWritable takes_schedule (script_line_of_only AsksWritable takes_schedule (writable_fields takes_schedule)) script
+
+replay_fit : (script : List ℕ) → IfOk (backends_from true 1 [] [] (lines_of script)) (AreFit IsOfReplay)
+replay_fit script = only_fit IsOfReplay true (script_line_of_only IsOfReplay true replay_fields) script
 
 -- ---- the schedule
 
@@ -111,12 +142,12 @@ with_schedule_keeps backends (Ok items) P holds = holds
 with_schedule_keeps backends (Err refusal) P holds = tt
 
 -- what holds of each replay whose backends are fit and whose turns can be taken
-module _ (P : ReplayMeaning → Type 0) (holds : (m : BackendsMeaning) (items : List Item) → AreFit m → AreTaken (length m.backends) items → P (record { backends = m.backends; schedule = items })) where
-  by_items : (m : BackendsMeaning) → AreFit m → (items : Result (List Item) Refusal) → IfOk items (AreTaken (length m.backends)) → IfOk items (λ read. P (record { backends = m.backends; schedule = read }))
+module _ (Q : Asked → Type 0) (fit_all : (script : List ℕ) → IfOk (backends_from true 1 [] [] (lines_of script)) (AreFit Q)) (P : ReplayMeaning → Type 0) (holds : (m : BackendsMeaning) (items : List Item) → AreFit Q m → AreTaken (length m.backends) items → P (record { backends = m.backends; schedule = items })) where
+  by_items : (m : BackendsMeaning) → AreFit Q m → (items : Result (List Item) Refusal) → IfOk items (AreTaken (length m.backends)) → IfOk items (λ read. P (record { backends = m.backends; schedule = read }))
   by_items m fit (Ok items) taken = holds m items fit taken
   by_items m fit (Err refusal) taken = tt
 
-  by_backends : (read : Result BackendsMeaning Refusal) → IfOk read AreFit → IfOk (replay_with read) P
+  by_backends : (read : Result BackendsMeaning Refusal) → IfOk read (AreFit Q) → IfOk (replay_with read) P
   by_backends (Ok m) fit =
       let items = schedule_with (length m.backends) m.schedule in
       with_schedule_keeps m.backends items P (by_items m fit items (schedule_with_taken (length m.backends) m.schedule))
@@ -126,16 +157,22 @@ module _ (P : ReplayMeaning → Type 0) (holds : (m : BackendsMeaning) (items : 
   limited limit refusal script =
       let meaning = replay_with (backends_from true 1 [] [] (lines_of script)) in
       cond_both (ltb limit (length script)) (Err refusal) meaning (λ read. IfOk read P) (λ _. tt)
-      (λ _. by_backends (backends_from true 1 [] [] (lines_of script)) (backends_fit true script))
+      (λ _. by_backends (backends_from true 1 [] [] (lines_of script)) (fit_all script))
 
-  of_replay : (script : List ℕ) → IfOk (replay_meaning script) P
-  of_replay script = limited script_limit _ script
+  of_any : (script : List ℕ) → IfOk (replay_meaning script) P
+  of_any script = limited script_limit _ script
+
+abbrev of_replay : (P : ReplayMeaning → Type 0) → ((m : BackendsMeaning) (items : List Item) → AreFit AsksWritable m → AreTaken (length m.backends) items → P (record { backends = m.backends; schedule = items })) → (script : List ℕ) → IfOk (replay_meaning script) P
+of_replay = of_any AsksWritable (backends_fit true)
 
 pub some_backends_are_there : (script : List ℕ) → IfOk (replay_meaning script) (λ m. (0 < length m.backends) × (length m.backends ≤ most_backends))
 some_backends_are_there = of_replay (λ m. (0 < length m.backends) × (length m.backends ≤ most_backends)) (λ m items fit taken. (fit.some, fit.most))
 
 pub backends_are_writable : (script : List ℕ) → IfOk (replay_meaning script) (λ m. All (All (λ line. AsksWritable line.asked)) m.backends)
-backends_are_writable = of_replay (λ m. All AreWritable m.backends) (λ m items fit taken. fit.writable)
+backends_are_writable = of_replay (λ m. All (AskOnly AsksWritable) m.backends) (λ m items fit taken. fit.only)
+
+pub replays_ask_for_nothing_behind : (script : List ℕ) → IfOk (replay_meaning script) (λ m. All (All (λ line. IsOfReplay line.asked)) m.backends)
+replays_ask_for_nothing_behind = of_any IsOfReplay replay_fit (λ m. All (AskOnly IsOfReplay) m.backends) (λ m items fit taken. fit.only)
 
 pub turns_are_of_backends : (script : List ℕ) → IfOk (replay_meaning script) (λ m. All (λ backend. backend < length m.backends) (backends_in_turn m.schedule))
 turns_are_of_backends = of_replay (λ m. All (λ backend. backend < length m.backends) (backends_in_turn m.schedule)) (λ m items fit taken. taken.there)

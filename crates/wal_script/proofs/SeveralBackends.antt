@@ -20,7 +20,7 @@ AreBackendsOf-length (asked ∷ askeds) [] are = absurd are
 AreBackendsOf-length (asked ∷ askeds) (lines ∷ backends) are = omega (arith, AreBackendsOf-length askeds backends are.1)
 
 -- one backend more at the end
-AreBackendsOf_push : (askeds : List (List AskedLine)) (backends : List (Vec Line)) (asked : List AskedLine) (lines : Vec Line) → AreBackendsOf askeds backends → AreLinesOf asked lines.items → AreBackendsOf (askeds ++ asked ∷ []) (backends ++ lines ∷ [])
+pub AreBackendsOf_push : (askeds : List (List AskedLine)) (backends : List (Vec Line)) (asked : List AskedLine) (lines : Vec Line) → AreBackendsOf askeds backends → AreLinesOf asked lines.items → AreBackendsOf (askeds ++ asked ∷ []) (backends ++ lines ∷ [])
 AreBackendsOf_push [] [] asked lines are does = (does, tt)
 AreBackendsOf_push [] (other ∷ backends) asked lines are does = absurd are
 AreBackendsOf_push (first ∷ askeds) [] asked lines are does = absurd are

@@ -12,7 +12,7 @@ use Rattle.record_spelling.specs.Record.{Fits, BlockFits, is_free_manager, is_sw
 use Rattle.record_spelling.specs.Refusal.{first_bad_block, refusal_of, too_long}
 use Rattle.record_spelling.specs.Spelling.{Assembled, IsWritable, size_of}
 use Rattle.record_spelling.proofs.Acceptance.{refused_or_writable}
-use Rattle.wal_script.specs.Asked.{Asked, AskedLine, Insert, Commit}
+use Rattle.wal_script.specs.Asked.{Asked, AskedLine, Insert, Commit, Flush, CommitAsync, WriteBehind}
 use Rattle.wal_script.specs.declared.line.Refusal.{Refusal}
 use Rattle.wal_script.specs.declared.line.ScriptFault.{ScriptFault}
 use Rattle.wal_script.specs.declared.line.ScriptFault.TheVariants as faults
@@ -20,7 +20,7 @@ use Rattle.wal_script.specs.Text.{is_text, lines_of, fields_of}
 use Rattle.decimal_numbers.specs.Numbers.{number_of, time_of}
 use Rattle.wal_script.specs.Hexadecimal.{byte_spelled, data_of}
 use Rattle.wal_script.specs.Blocks.{references_from}
-use Rattle.wal_script.specs.Meaning.{LineMeaning, passes, asks, refuses, assembly_fault, unless, accepted, record_spelled, insert_of, commit_record, commit_of, flush_of, asks_as, line_with, line_of, then_line, lines_meaning, script_limit, backend_meaning}
+use Rattle.wal_script.specs.Meaning.{LineMeaning, passes, asks, refuses, assembly_fault, unless, accepted, record_spelled, insert_of, commit_record, commit_of, alone_asks, asks_as, line_with, line_of, then_line, lines_meaning, script_limit, backend_meaning}
 use Rattle.wal_script.specs.Reading.{JudgesBody}
 use Rattle.wal_script.specs.Writable.{AsksWritable}
 use Rattle.wal_script.specs.declared.line_error.LineError.{LineError}
@@ -110,29 +110,67 @@ JudgesBody-commit fields value result is judges =
 
 -- ---- lines
 
+-- what a line asks for is only this
+abbrev pub MeansOnly : (Asked → Type 0) → LineMeaning → Type 0
+MeansOnly P passes = Unit {0}
+MeansOnly P (asks asked) = P asked
+MeansOnly P (refuses fault) = Unit {0}
+
 abbrev pub MeansWritable : LineMeaning → Type 0
-MeansWritable passes = Unit {0}
-MeansWritable (asks asked) = AsksWritable asked
-MeansWritable (refuses fault) = Unit {0}
+MeansWritable = MeansOnly AsksWritable
+
+pub asks_as_only : (P : Asked → Type 0) (form : Record → Asked) (r : Result Record ScriptFault) → ((x : Record) → r ≡ Ok x → P (form x)) → MeansOnly P (asks_as form r)
+asks_as_only P form (Ok x) holds = holds x refl
+asks_as_only P form (Err fault) holds = tt
+
+pub alone_asks_only : (P : Asked → Type 0) (asked : Asked) (fields : List (List ℕ)) → P asked → MeansOnly P (asks_as (λ a. a) (alone_asks asked fields))
+alone_asks_only P asked [] holds = holds
+alone_asks_only P asked (field ∷ rest) holds = tt
+
+-- what holds of what each letter asks for holds of what a line does
+module _ (P : Asked → Type 0) (word : List ℕ) (fields : List (List ℕ)) where
+  abbrev backends : LineMeaning
+  backends = if is_text word (codes "B") then refuses faults.Backends else refuses faults.Word
+
+  abbrev behind : LineMeaning
+  behind = if is_text word (codes "L") then asks_as (λ asked. asked) (alone_asks WriteBehind fields) else backends
+
+  abbrev ahead : LineMeaning
+  ahead = if is_text word (codes "A") then asks_as CommitAsync (commit_of fields) else behind
+
+  abbrev flush : LineMeaning
+  flush = if is_text word (codes "F") then asks_as (λ asked. asked) (alone_asks Flush fields) else ahead
+
+  abbrev commit : LineMeaning
+  commit = if is_text word (codes "C") then asks_as Commit (commit_of fields) else flush
+
+  pub line_with_only : (is_text word (codes "I") ≡ true → MeansOnly P (asks_as Insert (insert_of fields)))
+      → (is_text word (codes "C") ≡ true → MeansOnly P (asks_as Commit (commit_of fields)))
+      → (is_text word (codes "F") ≡ true → P Flush)
+      → (is_text word (codes "A") ≡ true → MeansOnly P (asks_as CommitAsync (commit_of fields)))
+      → (is_text word (codes "L") ≡ true → P WriteBehind)
+      → MeansOnly P (line_with (word ∷ fields))
+  line_with_only insert_holds commit_holds flush_holds ahead_holds behind_holds =
+      cond_both (is_text word (codes "I")) (asks_as Insert (insert_of fields)) commit (MeansOnly P) insert_holds
+      (λ _. cond_both (is_text word (codes "C")) (asks_as Commit (commit_of fields)) flush (MeansOnly P) commit_holds
+      (λ _. cond_both (is_text word (codes "F")) (asks_as (λ asked. asked) (alone_asks Flush fields)) ahead (MeansOnly P) (λ is. alone_asks_only P Flush fields (flush_holds is))
+      (λ _. cond_both (is_text word (codes "A")) (asks_as CommitAsync (commit_of fields)) behind (MeansOnly P) ahead_holds
+      (λ _. cond_both (is_text word (codes "L")) (asks_as (λ asked. asked) (alone_asks WriteBehind fields)) backends (MeansOnly P) (λ is. alone_asks_only P WriteBehind fields (behind_holds is))
+      (λ _. cond_both (is_text word (codes "B")) (refuses faults.Backends) (refuses faults.Word) (MeansOnly P) (λ _. tt) (λ _. tt))))))
 
 asks_as_writable : (form : Record → Asked) (r : Result Record ScriptFault) → ((x : Record) → IsWritable x → AsksWritable (form x)) → IfOk r IsWritable → MeansWritable (asks_as form r)
 asks_as_writable form (Ok x) keeps writable = keeps x writable
 asks_as_writable form (Err fault) keeps writable = tt
 
-flush_writable : (fields : List (List ℕ)) → MeansWritable (asks_as (λ asked. asked) (flush_of fields))
-flush_writable [] = tt
-flush_writable (field ∷ rest) = tt
-
 pub line_with_writable : (fields : List (List ℕ)) → MeansWritable (line_with fields)
 line_with_writable [] = tt
 line_with_writable (word ∷ fields) =
-    let backends = if is_text word (codes "B") then refuses faults.Backends else refuses faults.Word in
-    let flush = if is_text word (codes "F") then asks_as (λ asked. asked) (flush_of fields) else backends in
-    let commit = if is_text word (codes "C") then asks_as Commit (commit_of fields) else flush in
-    cond_both (is_text word (codes "I")) (asks_as Insert (insert_of fields)) commit MeansWritable (λ _. asks_as_writable Insert (insert_of fields) (λ x writable. writable) (insert_writable fields))
-    (λ _. cond_both (is_text word (codes "C")) (asks_as Commit (commit_of fields)) flush MeansWritable (λ _. asks_as_writable Commit (commit_of fields) (λ x writable. writable) (commit_writable fields))
-    (λ _. cond_both (is_text word (codes "F")) (asks_as (λ asked. asked) (flush_of fields)) backends MeansWritable (λ _. flush_writable fields)
-    (λ _. cond_both (is_text word (codes "B")) (refuses faults.Backends) (refuses faults.Word) MeansWritable (λ _. tt) (λ _. tt))))
+    line_with_only AsksWritable word fields
+    (λ _. asks_as_writable Insert (insert_of fields) (λ x writable. writable) (insert_writable fields))
+    (λ _. asks_as_writable Commit (commit_of fields) (λ x writable. writable) (commit_writable fields))
+    (λ _. tt)
+    (λ _. asks_as_writable CommitAsync (commit_of fields) (λ x writable. writable) (commit_writable fields))
+    (λ _. tt)
 
 line_of_writable : (line : List ℕ) → MeansWritable (line_of line)
 line_of_writable [] = tt

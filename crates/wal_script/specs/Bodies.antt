@@ -5,7 +5,7 @@ use Rattle.record_spelling.specs.Spelling.{Assembled, IsWritable, assembled}
 use Rattle.wal_script.specs.declared.line.Action.{Action}
 use Rattle.wal_script.specs.declared.line.Action.TheVariants as actions
 use Rattle.wal_script.specs.declared.line.Line.{Line}
-use Rattle.wal_script.specs.Asked.{Asked, AskedLine, Insert, Commit, Flush}
+use Rattle.wal_script.specs.Asked.{Asked, AskedLine, Insert, Commit, Flush, CommitAsync, WriteBehind}
 
 -- a record that can be written, assembled
 abbrev pub IsBodyOf : Record → Assembled → Type 0
@@ -16,6 +16,8 @@ abbrev pub IsActionOf : Asked → Action → Type 0
 IsActionOf (Insert value) (actions.Insert body) = IsBodyOf value body
 IsActionOf (Commit value) (actions.Commit body) = IsBodyOf value body
 IsActionOf Flush actions.Flush = Unit {0}
+IsActionOf (CommitAsync value) (actions.CommitAsync body) = IsBodyOf value body
+IsActionOf WriteBehind actions.WriteBehind = Unit {0}
 IsActionOf asked others = ⊥
 
 -- each line has the number and does what is asked for, in order

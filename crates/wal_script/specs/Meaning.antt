@@ -8,7 +8,7 @@ use Rattle.record_spelling.specs.Refusal.{refusal_of}
 use Rattle.wal_script.specs.declared.line.Refusal.{Refusal}
 use Rattle.wal_script.specs.declared.line.ScriptFault.{ScriptFault}
 use Rattle.wal_script.specs.declared.line.ScriptFault.TheVariants as faults
-use Rattle.wal_script.specs.Asked.{Asked, AskedLine, Insert, Commit, Flush}
+use Rattle.wal_script.specs.Asked.{Asked, AskedLine, Insert, Commit, Flush, CommitAsync, WriteBehind}
 use Rattle.wal_script.specs.Text.{is_text, lines_of, fields_of}
 use Rattle.decimal_numbers.specs.Numbers.{number_of, time_of}
 use Rattle.wal_script.specs.Hexadecimal.{byte_spelled, data_of}
@@ -74,7 +74,7 @@ commit_record xid time =
       main = to_le_bytes w64 time;
     }
 
--- the fields behind `C`: a transaction's number and a time
+-- the fields behind `C` or `A`: a transaction's number and a time
 abbrev pub commit_of : List (List ℕ) → Result Record ScriptFault
 commit_of fields = do
   xid ← next_as (number_of (2 ^ 32 - 1)) faults.Number fields
@@ -82,11 +82,11 @@ commit_of fields = do
   nothing ← no_more time.rest
   Ok (commit_record xid.value time.value)
 
--- the fields behind `F`: none
-abbrev pub flush_of : List (List ℕ) → Result Asked ScriptFault
-flush_of fields = do
+-- the fields behind `F` or `L`: none
+abbrev pub alone_asks : Asked → List (List ℕ) → Result Asked ScriptFault
+alone_asks asked fields = do
   nothing ← no_more fields
-  Ok Flush
+  Ok asked
 
 abbrev pub asks_as : {X : Type 0} → (X → Asked) → Result X ScriptFault → LineMeaning
 asks_as form (Ok x) = asks (form x)
@@ -98,8 +98,10 @@ line_with [] = refuses faults.Word
 line_with (word ∷ fields) =
     if is_text word (codes "I") then asks_as Insert (insert_of fields)
     else (if is_text word (codes "C") then asks_as Commit (commit_of fields)
-    else (if is_text word (codes "F") then asks_as (λ asked. asked) (flush_of fields)
-    else (if is_text word (codes "B") then refuses faults.Backends else refuses faults.Word)))
+    else (if is_text word (codes "F") then asks_as (λ asked. asked) (alone_asks Flush fields)
+    else (if is_text word (codes "A") then asks_as CommitAsync (commit_of fields)
+    else (if is_text word (codes "L") then asks_as (λ asked. asked) (alone_asks WriteBehind fields)
+    else (if is_text word (codes "B") then refuses faults.Backends else refuses faults.Word)))))
 
 -- an empty line and one that begins with `#` are passed over
 abbrev pub line_of : List ℕ → LineMeaning

@@ -1,11 +1,11 @@
 -- What the script of a replay means: lines for each of several backends, and a schedule.
-use Rattle.std.specs.Prelude.{ℕ, ◌+◌, Bool, true, false, ◌&&◌, List, [], ◌∷◌, ◌++◌, length, Option, Some, None, Result, Ok, Err, codes, ◌==◌, nat_lt, if◌then◌else◌}
+use Rattle.std.specs.Prelude.{ℕ, ◌+◌, Bool, true, false, ◌&&◌, ◌||◌, List, [], ◌∷◌, ◌++◌, length, Option, Some, None, Result, Ok, Err, codes, ◌==◌, nat_lt, if◌then◌else◌}
 use Rattle.replay_schedule.specs.declared.item.Item.{Item}
 use Rattle.replay_schedule.specs.Meaning.{after_lines}
 use Rattle.wal_script.specs.declared.line.Refusal.{Refusal}
 use Rattle.wal_script.specs.declared.line.ScriptFault.{ScriptFault}
 use Rattle.wal_script.specs.declared.line.ScriptFault.TheVariants as faults
-use Rattle.wal_script.specs.Asked.{AskedLine}
+use Rattle.wal_script.specs.Asked.{Asked, AskedLine, Insert, Commit, Flush, CommitAsync, WriteBehind}
 use Rattle.wal_script.specs.Text.{is_text, lines_of, fields_of}
 use Rattle.wal_script.specs.Meaning.{LineMeaning, passes, asks, refuses, line_with, within_limit}
 
@@ -21,13 +21,20 @@ abbrev pub alone : ScriptLine → List (List ℕ) → ScriptLine
 alone line [] = line
 alone line (field ∷ fields) = of_backend (refuses faults.Count)
 
--- a line by its first field; `S` is a letter only where the script takes a schedule
+-- whether a line's first field is a letter of runs alone: a replay knows no commit that is answered
+-- ahead, and no flush behind
+abbrev pub is_of_runs : List ℕ → Bool
+is_of_runs word = is_text word (codes "A") || is_text word (codes "L")
+
+-- a line by its first field; where the script takes a schedule, `S` is a letter, and those of runs
+-- alone are none
 abbrev pub script_line_with : (takes_schedule : Bool) → List (List ℕ) → ScriptLine
 script_line_with takes_schedule [] = of_backend (refuses faults.Word)
 script_line_with takes_schedule (word ∷ fields) =
     if is_text word (codes "B") then begins (length fields == 0)
     else (if takes_schedule && is_text word (codes "S") then alone ends fields
-    else of_backend (line_with (word ∷ fields)))
+    else (if takes_schedule && is_of_runs word then of_backend (refuses faults.Word)
+    else of_backend (line_with (word ∷ fields))))
 
 -- an empty line and one that begins with `#` are passed over
 abbrev pub script_line_of : (takes_schedule : Bool) → List ℕ → ScriptLine
@@ -114,6 +121,14 @@ with_schedule backends (Err refusal) = Err refusal
 abbrev pub replay_with : Result BackendsMeaning Refusal → Result ReplayMeaning Refusal
 replay_with (Ok m) = with_schedule m.backends (schedule_with (length m.backends) m.schedule)
 replay_with (Err refusal) = Err refusal
+
+-- what a line of a replay may ask for: nothing of what runs alone know
+abbrev pub IsOfReplay : Asked → Type 0
+IsOfReplay (Insert value) = Unit {0}
+IsOfReplay (Commit value) = Unit {0}
+IsOfReplay Flush = Unit {0}
+IsOfReplay (CommitAsync value) = ⊥
+IsOfReplay WriteBehind = ⊥
 
 -- the meaning of a replay's script, or its first refusal
 abbrev pub replay_meaning : List ℕ → Result ReplayMeaning Refusal

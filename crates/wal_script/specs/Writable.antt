@@ -1,9 +1,11 @@
 -- That what a script asks for can be done.
 use Rattle.record_spelling.specs.Spelling.{IsWritable}
-use Rattle.wal_script.specs.Asked.{Asked, Insert, Commit, Flush}
+use Rattle.wal_script.specs.Asked.{Asked, Insert, Commit, Flush, CommitAsync, WriteBehind}
 
 -- a record that is asked for can be written
 abbrev pub AsksWritable : Asked → Type 0
 AsksWritable (Insert r) = IsWritable r
 AsksWritable (Commit r) = IsWritable r
 AsksWritable Flush = Unit {0}
+AsksWritable (CommitAsync r) = IsWritable r
+AsksWritable WriteBehind = Unit {0}

@@ -13,8 +13,8 @@ use crate::parser::{ParseError, SCRIPT_LIMIT, action_by};
 use std::alloc::Global;
 use text_parts::{Parts, cut};
 
-// How many backends a script may have.
-const MOST_BACKENDS: usize = 64;
+/// How many backends a script may have.
+pub(crate) const MOST_BACKENDS: usize = 64;
 
 /// What stands behind a line `S`.
 #[derive(Clone, Copy)]
@@ -133,6 +133,7 @@ fn read_fields(
             no_more(fields)?;
             Ok(LineRead::End)
         }
+        Some(b"A" | b"L") if takes_schedule => Err(LineError::Fault(ScriptFault::Word)),
         Some(word) => Ok(LineRead::Ask(action_by(alloc, word, fields)?)),
         None => Err(LineError::Fault(ScriptFault::Word)),
     }

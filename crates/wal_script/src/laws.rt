@@ -1,10 +1,10 @@
 //! What holds of each script that is read. The functions do nothing: their contracts are the laws.
 
-ghost use Rattle.std.specs.Prelude.{◌≡◌, ℕ, ◌<◌, ◌≤◌, All, IfOk, List, length};
+ghost use Rattle.std.specs.Prelude.{◌≡◌, ℕ, ◌<◌, ◌≤◌, All, IfOk, List, Option, length};
 ghost use Rattle.replay_schedule.specs.Turns.{backends_in_turn, most_turns};
 ghost use Rattle.wal_script.specs.Meaning.{backend_meaning, meaning_of};
-ghost use Rattle.wal_script.specs.Replay.{most_backends, replay_meaning};
-ghost use Rattle.wal_script.specs.Run.{StaysInBackend, backends_meaning};
+ghost use Rattle.wal_script.specs.Replay.{IsOfReplay, most_backends, replay_meaning};
+ghost use Rattle.wal_script.specs.Run.{StaysInBackend, backends_meaning, run_meaning};
 ghost use Rattle.wal_script.specs.Text.{lines_of};
 ghost use Rattle.wal_script.specs.Writable.{AsksWritable};
 
@@ -42,20 +42,28 @@ pub fn turns_are_within()
         length (backends_in_turn m.schedule) ≤ most_turns) }
 {}
 
-/// A run has from 1 to 64 backends.
-pub fn runs_have_some_backends()
+/// No line of a replay asks for what runs alone know.
+pub fn replays_ask_for_nothing_behind()
     ensures { (script : List ℕ)
-        → IfOk (backends_meaning script) (λ backends.
+        → IfOk (replay_meaning script) (λ m.
+        All (All (λ line. IsOfReplay line.asked)) m.backends) }
+{}
+
+/// A run has from 1 to 64 backends, its writer among them.
+pub fn runs_have_some_backends()
+    ensures { (writer : Option ℕ) (script : List ℕ)
+        → IfOk (run_meaning writer script) (λ backends.
         (0 < length backends) × (length backends ≤ most_backends)) }
 {}
 
 /// Each record of each backend's lines of a run can be written.
 pub fn lines_of_runs_are_writable()
-    ensures { (script : List ℕ)
-        → IfOk (backends_meaning script) (All (All (λ line. AsksWritable line.asked))) }
+    ensures { (writer : Option ℕ) (script : List ℕ)
+        → IfOk (run_meaning writer script) (All (All (λ line. AsksWritable line.asked))) }
 {}
 
-/// Where no line's first field is `B`, a run's script means what it means for one backend.
+/// Where no line's first field is `B`, the script of a run without a writer means what it means for
+/// one backend.
 pub fn scripts_of_one_backend_mean_the_same()
     ensures { (script : List ℕ) → All StaysInBackend (lines_of script)
         → backends_meaning script ≡ meaning_of script }

@@ -18,4 +18,4 @@ mod text;
 pub use line::{Action, Line, Refusal, ScriptFault};
 pub use parser::{ParseError, SCRIPT_LIMIT, parse};
 pub use replay::{Replay, parse_replay};
-pub use run::parse_backends;
+pub use run::parse_run;

@@ -11,6 +11,10 @@ pub enum Action {
     Commit(Body),
     /// Flush to the end of the backend's last record.
     Flush,
+    /// Insert this commit's record, and answer before it is durable.
+    CommitAsync(Body),
+    /// Flush behind, as a log writer does: whole pages first, else what was answered.
+    WriteBehind,
 }
 
 /// A line of a script. Lines are numbered from 1, all of them.

@@ -72,8 +72,8 @@ pub(crate) fn within_limit(script: &[u8]) -> Result<(), ParseError>
     Ok(())
 }
 
-// How many lines end within a text.
-fn line_feeds(text: &[u8]) -> u32
+/// How many lines end within a text.
+pub(crate) fn line_feeds(text: &[u8]) -> u32
     requires { length text.now ≤ SCRIPT_LIMIT }
     ensures count { result ≡ count_by (λ c. c == 10) text.now }
     ensures within { result ≤ length text.now }
@@ -127,6 +127,11 @@ pub(crate) fn action_by(alloc: Global, word: &[u8], fields: Parts) -> Result<Act
         b"F" => {
             no_more(fields)?;
             Ok(Action::Flush)
+        }
+        b"A" => Ok(Action::CommitAsync(commit(alloc, fields)?)),
+        b"L" => {
+            no_more(fields)?;
+            Ok(Action::WriteBehind)
         }
         b"B" => Err(LineError::Fault(ScriptFault::Backends)),
         _ => Err(LineError::Fault(ScriptFault::Word)),

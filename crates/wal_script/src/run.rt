@@ -1,25 +1,81 @@
-//! The script of a run: several backends.
+//! The script of a run: several backends, and its log writer behind them.
 
-ghost use Rattle.std.specs.Prelude.{◌+◌, ◌≤◌, length};
-ghost use Rattle.wal_script.specs.Run.{backends_meaning};
+ghost use Rattle.std.specs.Prelude.{◌≡◌, ◌+◌, ◌≤◌, IfOk, List, length};
+ghost use Rattle.wal_script.specs.Asked.{AskedLine};
+ghost use Rattle.wal_script.specs.Bodies.{AreLinesOf};
+ghost use Rattle.wal_script.specs.ReplayReading.{AreBackendsOf};
+ghost use Rattle.wal_script.specs.Run.{last_line, run_meaning, with_log_writer, writer_lines};
 ghost use Rattle.wal_script.specs.RunReading.{GivesRun};
 
-use crate::backends::read_backends;
-use crate::line::Line;
-use crate::parser::{ParseError, SCRIPT_LIMIT, within_limit};
-use std::alloc::Global;
+use crate::backends::{MOST_BACKENDS, read_backends};
+use crate::line::{Action, Line, Refusal, ScriptFault};
+use crate::parser::{ParseError, SCRIPT_LIMIT, line_feeds, within_limit};
+use std::alloc::{AllocError, Global};
 
 /// Reads the script of a run: the lines of each backend, parted by lines `B`; or its first refusal,
 /// by line and then by field from the left. There are from 1 to 64 backends. A line `S` is no line
 /// of a run.
 ///
+/// Where the run has a log writer, its lines stand last, as many as are asked for: each flushes
+/// behind. It is a backend more, and refused at the script's last line where the script has 64.
+///
 /// `script` is what was read, at most one byte beyond the limit: a longer script is refused at the
 /// line of that byte.
-pub fn parse_backends(alloc: Global, script: &[u8]) -> Result<Vec<Vec<Line>>, ParseError>
+pub fn parse_run(
+    alloc: Global,
+    script: &[u8],
+    writer: Option<u32>,
+) -> Result<Vec<Vec<Line>>, ParseError>
     requires { length script.now ≤ SCRIPT_LIMIT + 1 }
-    ensures { GivesRun result (backends_meaning script.now) }
+    ensures { GivesRun result (run_meaning writer script.now) }
 {
     within_limit(script)?;
-    let read = read_backends(alloc, script, false)?;
-    Ok(read.lines)
+    let backends = read_backends(alloc, script, false)?.lines;
+    match writer {
+        Some(count) => add_writer(alloc, backends, count, last_line(script)),
+        None => Ok(backends),
+    }
+}
+
+// The number of a script's last line.
+fn last_line(script: &[u8]) -> u32
+    requires { length script.now ≤ SCRIPT_LIMIT }
+    ensures { result ≡ last_line script.now }
+{
+    line_feeds(script) + 1
+}
+
+// A writer's lines behind those of all backends; or, where there are as many as may be, its
+// refusal at this line.
+fn add_writer(
+    alloc: Global,
+    mut backends: Vec<Vec<Line>>,
+    count: u32,
+    line: u32,
+) -> Result<Vec<Vec<Line>>, ParseError>
+    ensures { (asked : List (List AskedLine)) → AreBackendsOf asked backends.items
+        → GivesRun result (with_log_writer count line asked) }
+{
+    if backends.len() >= MOST_BACKENDS {
+        return Err(ParseError::Refused(Refusal {
+            line,
+            fault: ScriptFault::Backends,
+        }));
+    }
+    backends.push(writer_lines(alloc, count)?)?;
+    Ok(backends)
+}
+
+// The lines of a writer, numbered from 1.
+fn writer_lines(alloc: Global, count: u32) -> Result<Vec<Line>, AllocError>
+    ensures { IfOk result (λ lines. AreLinesOf (writer_lines count) lines.items) }
+{
+    let mut lines = Vec::new(alloc);
+    for index in 0..count {
+        lines.push(Line {
+            number: index + 1,
+            action: Action::WriteBehind,
+        })?;
+    }
+    Ok(lines)
 }

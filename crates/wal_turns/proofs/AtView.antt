@@ -6,8 +6,7 @@ use Rattle.std.proofs.lemmas.Bool.{cases_eq}
 use mathlib.Core.Option.{Option, none, some, some-injective, some-ne-none}
 use Rattle.byte_position.specs.Geometry.{IsSegmentSize}
 use Rattle.wal_page.specs.Order.{end_position}
-use Rattle.wal_page.proofs.OwnerLaws.{rooms_of-whole}
-use Rattle.wal_page.proofs.WordPositions.{first_position-whole}
+use Rattle.wal_page.proofs.OwnerLaws.{end_position-whole}
 use Rattle.wal_core.specs.Words.{Opening, down_word, lock_word, write_turn}
 use Rattle.wal_core.specs.Views.{Place, Free, Locked, Loaded, Stored, Stage, Away, Taken, Looked, Ready, Zeroing, Published, Plain, Lent, Hold, Turned as HasTurned, Out, View, reserving_of, writer_of, receipts_of}
 use Rattle.wal_core.specs.Ordered.{AtPlace}
@@ -18,7 +17,8 @@ use Rattle.wal_core.specs.Sound.{IsSound}
 use Rattle.wal_core.proofs.Lists.{part_at}
 use Rattle.wal_turns.specs.Doing.{Ask, Inserts, Commits, Flushes, Purpose, ForLine, Doing, Begins, Tries, Reserves, Looks, Copies, Maps, GivesTurn, Tells, Releases, FlushBegins, LoadsPosition, LoadsFlushed, LoadsMoment, Visits, TakesTurn, LoadsDown, TakesOut, LoadsPage, Creates, Writes, SyncsFull, SyncsLast, StoresWritten, StoresMoment, StoresFlushed, SetsDown, PutsBack, GivesWriteTurn, Machine}
 use Rattle.wal_turns.specs.Turned.{can_step, looks_down, event_named, reserve_event, map_event, fits, lock_tried}
-use Rattle.wal_turns.specs.Standing.{IsRunning, KnowsDown, IsWriterUp, AwaitsOne, UpFor, segment_next, StandsToDo}
+use Rattle.wal_core.specs.Failed.{KnowsOfFault}
+use Rattle.wal_turns.specs.Standing.{IsRunning, IsWriterUp, AwaitsOne, UpFor, segment_next, StandsToDo}
 use Rattle.wal_turns.proofs.NextUp.{Calls}
 use Rattle.wal_turns.proofs.Poses.{Goes}
 use Rattle.wal_turns.proofs.SegmentSteps.{next-near}
@@ -96,12 +96,8 @@ module _ (m : Machine) (run : IsRunning m) (number : ℕ) (v : View)
   -- ---- the position
 
   whole_end : (at : ℕ) → at ≡ end_position size sound.order → at % 8 ≡ 0
-  whole_end at is = omega (
-    arith,
-    is,
-    rooms_of-whole size sound.order,
-    first_position-whole size valid,
-  )
+  whole_end at is =
+      ap (λ n. n % 8) is ∙ end_position-whole size valid sound.order (sound.reserved).chained
 
   whole_at : (p : Place) (last prev locked holder : ℕ)
       → AtPlace size (end_position size sound.order) last prev locked holder id p
@@ -140,7 +136,7 @@ module _ (m : Machine) (run : IsRunning m) (number : ℕ) (v : View)
         (run.at_home w is up);
   }
 
-  knows_no_down : down_word words ≡ 0 → KnowsDown v → ⊥
+  knows_no_down : down_word words ≡ 0 → KnowsOfFault v → ⊥
   knows_no_down up knows =
       let told_here = (sound.durable).views id (receipts_of v) (part_at receipts_of views id v live.0) in
       ⊎_elim (λ (met : (v.writing).down_met ≢ 0). met (told_here.down_met met ∙ up))

@@ -13,7 +13,8 @@ use Rattle.wal_core.specs.Moves.{with_hold, after_set_down, hardened, lent, is_d
 use Rattle.wal_core.specs.Steps.{IsResting, word_of_step, view_behind, load_flushed, load_lock, load_ring_word, slot_out}
 use Rattle.wal_turns.specs.Doing.{Ask, Purpose, ForLine, ForPage, FlushBegins, LoadsPosition, LoadsFlushed, LoadsMoment, Visits, TakesTurn, LoadsDown, TakesOut, LoadsPage, Creates, Writes, SyncsLast, StoresWritten, StoresMoment, StoresFlushed, SetsDown, PutsBack, GivesWriteTurn, Machine}
 use Rattle.wal_turns.specs.Turned.{can_step, goes_on, page_or_end, is_some_segment, asked_end, is_segment_new, outcome}
-use Rattle.wal_turns.specs.Standing.{IsPosed, IsLeft, KnowsDown, IsWriterUp, LoadsOn, IsSyncedFor, IsFailed, AreLoaded, WritesFor, StandsToDo}
+use Rattle.wal_core.specs.Failed.{KnowsOfFault}
+use Rattle.wal_turns.specs.Standing.{IsPosed, IsLeft, IsWriterUp, LoadsOn, IsSyncedFor, IsFailed, AreLoaded, WritesFor, StandsToDo}
 use Rattle.wal_turns.proofs.Poses.{Goes, StandsNext, bool_cases}
 use Rattle.wal_turns.proofs.InsertPlaces.{resting_posed}
 use Rattle.wal_turns.proofs.MapPlaces.{ltb-false}
@@ -66,7 +67,7 @@ module _ (m : Machine) (ask : Ask) where
   abbrev words : List ℕ
   words = (m.state).words
 
-  pub flush_begins_goes : (v : View) → (KnowsDown v → ⊥) → StandsToDo v FlushBegins ask
+  pub flush_begins_goes : (v : View) → (KnowsOfFault v → ⊥) → StandsToDo v FlushBegins ask
       → Goes m ask FlushBegins v
   flush_begins_goes v up stands = (
     tt,
@@ -78,7 +79,7 @@ module _ (m : Machine) (ask : Ask) where
           stage_is = r.stage;
           hold_is = r.hold;
         })
-        (λ (d : KnowsDown v). absurd (up d)) stands,
+        (λ (d : KnowsOfFault v). absurd (up d)) stands,
   )
 
   at_rest_on : (v w : View) → IsPosed Free [] Landed Away Idle v → IsLike v w
@@ -302,7 +303,7 @@ module _ (m : Machine) (ask : Ask) where
       (loads_page_at purpose l v (writes_on purpose ask (Out l) (Out l) v (in_hand l v) base
       (refl, refl, refl, refl) refl) k stands.0.2 stands.1)
 
-  pub sets_down_goes : (purpose : Purpose) (v : View) → (KnowsDown v → ⊥)
+  pub sets_down_goes : (purpose : Purpose) (v : View) → (KnowsOfFault v → ⊥)
       → StandsToDo v (SetsDown purpose) ask → Goes m ask (SetsDown purpose) v
   sets_down_goes purpose v up stands =
       let l = stands.0 in

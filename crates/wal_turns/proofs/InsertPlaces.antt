@@ -14,9 +14,12 @@ use Rattle.byte_position.proofs.Words.{end_address_of-mod_word}
 use Rattle.wal_types.specs.declared.record.Record.{Record}
 use Rattle.record_spelling.specs.Spelling.{IsWritable}
 use Rattle.wal_core.specs.Moves.{entry_reserved, is_done}
+use Rattle.wal_core.proofs.LocksEnough.{MayStandUnder-inserted}
+use Rattle.wal_page.proofs.PaddingLaws.{room_at-whole}
 use Rattle.wal_turns.specs.Doing.{Ask, Inserts, Commits, Flushes, Begins, Tries, Reserves, Looks, Copies, Maps, Releases, Machine}
 use Rattle.wal_turns.specs.Turned.{can_step, fits, lock_tried, next_of, goes_on, outcome}
-use Rattle.wal_turns.specs.Standing.{IsPosed, IsRecord, IsUnder, IsLeft, IsMet, IsReserving, KnowsDown, StandsToDo}
+use Rattle.wal_core.specs.Failed.{KnowsOfFault}
+use Rattle.wal_turns.specs.Standing.{IsPosed, IsRecord, IsUnder, IsLeft, IsMet, IsReserving, StandsToDo}
 use Rattle.wal_turns.proofs.Poses.{Goes, StandsNext, bool_cases, of_posed, posed}
 
 pub posed_at_rest : (v : View) → IsResting v → IsPosed Free [] Landed Away Idle v
@@ -51,7 +54,7 @@ module _ (m : Machine) (ask : Ask) where
   abbrev words : List ℕ
   words = (m.state).words
 
-  pub begins_goes : (v : View) → (KnowsDown v → ⊥) → StandsToDo v Begins ask → Goes m ask Begins v
+  pub begins_goes : (v : View) → (KnowsOfFault v → ⊥) → StandsToDo v Begins ask → Goes m ask Begins v
   begins_goes v up stands = (
     tt,
     ⊎_elim
@@ -65,7 +68,7 @@ module _ (m : Machine) (ask : Ask) where
           },
           stands.1,
         ))
-        (λ (d : KnowsDown v). absurd (up d)) stands.0,
+        (λ (d : KnowsOfFault v). absurd (up d)) stands.0,
   )
 
   tries_at : (n : ℕ) (v : View) → IsRecord ask
@@ -221,9 +224,11 @@ module _ (m : Machine) (ask : Ask) where
         let c : Copy = record { entry = e; prev = prev; locks = lock ∷ []; copied = 0 } in
         let rises = end_address_of-mono_lt size valid at (position_behind size e) (omega arith) in
         let first = end_address_of-mod_word size valid at whole in
-        let last = end_address_of-mod_word size valid (position_behind size e) (omega arith) in
+        let last = end_address_of-mod_word size valid (position_behind size e)
+        (omega (arith, whole, room_at-whole size valid at value whole)) in
+        let stands = MayStandUnder-inserted (lock ∷ []) value writable in
         let left : 0 < words_owned size e = omega arith in (
-          (at, prev, refl, writable, within, ((omega arith, λ i held. held)), refl),
+          (at, prev, refl, stands, within, ((omega arith, λ i held. held)), refl),
           (
             c,
             record {

@@ -10,6 +10,7 @@ use Rattle.wal_page.specs.EntryWords.{address_of_word, words_owned}
 use Rattle.wal_core.specs.declared.setup.Setup.{Setup}
 use Rattle.wal_core.specs.Words.{down_word}
 use Rattle.wal_core.specs.Views.{Place, Free, Locked, Loaded, Stored, Copy, Flight, Landed, Copying, Stage, Away, Taken, Looked, Ready, Zeroing, Published, Plain, Lent, Hold, Idle, Turned as HasTurned, Out, View}
+use Rattle.wal_core.specs.Failed.{KnowsOfFault}
 use Rattle.wal_core.specs.Paged.{IsOpen}
 use Rattle.wal_core.specs.Steps.{IsLive, IsResting, Makes, load_down}
 use Rattle.wal_core.specs.Sound.{IsSound}
@@ -106,13 +107,9 @@ module _ (v : View) where
   abbrev size : ℕ
   size = setup.segment_size
 
-  -- it met the word of a failed disk, or set it
-  abbrev pub KnowsDown : Type 0
-  KnowsDown = ((v.writing).down_met ≢ 0) ⊎ ((v.writing).down_set ≢ 0)
-
   -- at a line's begin: about nothing, or at a failed disk
   abbrev pub MayBegin : Type 0
-  MayBegin = IsResting v ⊎ KnowsDown
+  MayBegin = IsResting v ⊎ KnowsOfFault v
 
   -- behind a position that it locked the record fits
   abbrev pub IsReserving : Ask → Place → Type 0

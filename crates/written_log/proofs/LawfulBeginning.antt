@@ -10,6 +10,7 @@ use Rattle.std.specs.Int.{w64}
 use Rattle.wal_page.specs.Order.{Entry, IsChained}
 use Rattle.wal_page.specs.Page.{first_fault, is_continued, page_header}
 use Rattle.wal_page.specs.Log.{log_byte, remaining_at}
+use Rattle.wal_page.proofs.LogByteLaws.{header_byte-own}
 use Rattle.wal_page.proofs.OrderLaws.{room_at-pos}
 use Rattle.wal_page.proofs.OwnerLaws.{owner_of-entry}
 use Rattle.wal_reader.specs.declared.record_place.RecordPlace.{RecordPlace}
@@ -37,7 +38,7 @@ first_word size sysid (e ∷ es) valid chained =
     let p = position_of size (n * 8192) in
     let owns = owner_of-entry size (first_position size) [] es e chained p (omega (arith, first, chained.0)) (omega (arith, first, chained.0, room_at-pos size e)) in
     let nothing : remaining_at e p ≡ 0 = cond-false _ _ _ (le-ltb e.start p (omega (arith, first, chained.0))) in
-    inr (λ i lt. log_byte-page_header size sysid (e ∷ es) n i (Some e) valid (omega arith) owns ∙ rw (page_of_offset n i (omega arith), offset_in_page n i (omega arith), nothing) refl)
+    inr (λ i lt. log_byte-page_header size sysid (e ∷ es) n i (Some e) valid (omega arith) owns ∙ header_byte-own size sysid (n * 8192 + i) p e (omega (arith, first, chained.0)) ∙ rw (page_of_offset n i (omega arith), offset_in_page n i (omega arith), nothing) refl)
 
 module _ (size sysid : ℕ) (pages : Pages) (es : List Entry) (upto : ℕ) (valid : IsSegmentSize size) (known : 0 < sysid) (narrow : sysid < 2 ^ 64) (chained : IsChained size es) (are : ArePagesOf size sysid pages es upto) where
   module _ (bytes : List ℕ) (there : pages (pages_of size) ≡ Some bytes) (some : is_zero_word bytes ≡ false) where

@@ -6,6 +6,7 @@ use Rattle.std.proofs.lemmas.List.{length-append}
 use Rattle.std.proofs.lemmas.Option.{slice_get-get_or}
 use Rattle.byte_position.specs.Geometry.{IsSegmentSize}
 use Rattle.byte_position.specs.Position.{address_of, end_address_of}
+use Rattle.record_spelling.specs.Spelling.{size_of}
 use Rattle.wal_page.specs.Order.{Entry, IsChained, rooms_of, end_position, prev_of, room_at}
 use Rattle.wal_page.proofs.OrderLaws.{prev_of_push, room_at-pos, rooms_of-append, rooms_of_cons, rooms_of_push}
 use Rattle.wal_reader.specs.declared.record_place.RecordPlace.{RecordPlace}
@@ -17,7 +18,7 @@ use Rattle.wal_reader.specs.ReadAt.{ReadsComputed, read_at}
 use Rattle.written_log.specs.Torn.{IsSeenTorn, IsTorn, NoTornPass}
 use Rattle.written_log.specs.Written.{found_entry, found_from}
 use Rattle.written_log.proofs.LawfulPages.{ArePagesOf}
-use Rattle.written_log.proofs.LawfulRecords.{entry_or_nothing, entry_start, entry_writable, no_record_behind}
+use Rattle.written_log.proofs.LawfulRecords.{entry_or_nothing, entry_start, entry_whole, no_record_behind}
 use Rattle.written_log.proofs.LogPositions.{address_of-below_end}
 use Rattle.written_log.proofs.NextEntries.{next_of_entry}
 
@@ -49,13 +50,13 @@ module _ (size sysid : ℕ) (pages : Pages) (es : List Entry) (upto : ℕ) (vali
       let start = entry_start size sysid pages es upto valid chained are front others e parts in
       let here = subst (λ (p : ℕ). read_at size pages None (record { position = p; prev = place.prev; timeline = place.timeline }) ≡ Ok f) (at ∙ sym start) reads.0 in
       let entry : f ≡ found_entry size prev e = entry_or_nothing size sysid pages es upto valid chained are front others e parts place.prev place.timeline f fits known (entry_does_not_pass front others e parts) here in
-      let writable = entry_writable size sysid pages es upto valid chained are front others e parts in
-      let behind_it : next_position size place.position f.total f.value ≡ place.position + room_at size place.position e.value = ap (λ (g : FoundRecord). next_position size place.position g.total g.value) entry ∙ next_of_entry size place.position e.value writable in
+      let whole = entry_whole size sysid pages es upto valid chained are front others e parts in
+      let behind_it : next_position size place.position f.total f.value ≡ e.start + room_at size e.start e.value = ap (λ (g : FoundRecord). next_position size place.position g.total g.value) entry ∙ ap (λ (p : ℕ). next_position size p (size_of e.value) e.value) (at ∙ sym start) ∙ next_of_entry size valid e.start whole e.value in
       let pushed = prev_of_push size 0 front e in
       let within : e.start < end_position size es = omega (arith, start, ap (rooms_of size) parts, rooms_of-append size front (e ∷ others), rooms_of_cons size e others, room_at-pos size e) in
       let below = address_of-below_end size valid e.start (end_position size es) within in
       let now : es ≡ (front ++ e ∷ []) ++ others = parts ∙ sym (append_assoc front (e ∷ []) others) in
-      let next : (place_behind size pages place f).position ≡ end_position size (front ++ e ∷ []) = omega (arith, behind_it, at, rooms_of_push size front e) in
+      let next : (place_behind size pages place f).position ≡ end_position size (front ++ e ∷ []) = omega (arith, behind_it, start, rooms_of_push size front e) in
       let known_next : Some f.start ≡ Some (record { 0 = prev_of size 0 (front ++ e ∷ []) }) = ap (λ (g : FoundRecord). Some g.start) entry ∙ ap (λ (a : ℕ). Some (record { 0 = a })) (sym pushed) in
       let behind = records_are_front others (front ++ e ∷ []) now (place_behind size pages place f) next (omega (arith, pushed, below)) (inl known_next) found answer reads.1 in
       with_first size e others prev (prev_of size 0 (front ++ e ∷ [])) f found behind.0 behind.1 entry behind.2 pushed

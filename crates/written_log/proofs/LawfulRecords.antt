@@ -10,19 +10,19 @@ use Rattle.byte_position.specs.Position.{address_of, first_position}
 use Rattle.byte_position.proofs.PositionLaws.{position_of-address_of, is_in_header-address_of}
 use Rattle.byte_position.proofs.Words.{address_of-mod_word, address_of-in_word}
 use Rattle.wal_crc32c.specs.Crc32c.{crc32c}
-use Rattle.record_spelling.specs.Spelling.{IsWritable, assembled, filled, size_of, word_at}
+use Rattle.record_spelling.specs.Spelling.{IsLogRecord, assembled, filled, room_of, size_of, word_at}
 use Rattle.record_spelling.specs.Numbers.{number_at}
 use Rattle.record_spelling.proofs.SpellingLaws.{length-filled, room_is}
+use Rattle.record_spelling.proofs.SwitchLaws.{logged_size}
 use Rattle.record_decode.specs.Reading.{reading_of}
 use Rattle.wal_record.proofs.SpellingReads.{spelling_reads}
 use Rattle.wal_types.specs.declared.lsn.Lsn.{Lsn}
-use Rattle.wal_page.specs.Order.{Entry, FollowsFrom, IsChained, rooms_of, end_position, prev_of, room_at, finish_of, position_behind}
+use Rattle.wal_page.specs.Order.{Entry, FollowsFrom, IsChained, rooms_of, end_position, prev_of, finish_of, position_behind}
 use Rattle.wal_page.specs.Log.{stream_of, log_byte}
 use Rattle.wal_page.proofs.LogByteLaws.{log_byte-fits, log_byte-stream, stream_of-entry}
 use Rattle.wal_page.proofs.OrderLaws.{FollowsFrom-parts}
-use Rattle.wal_page.proofs.OwnerLaws.{rooms_of-whole}
+use Rattle.wal_page.proofs.OwnerLaws.{end_position-whole}
 use Rattle.wal_page.proofs.StreamLaws.{length-stream_of}
-use Rattle.wal_page.proofs.WordPositions.{first_position-whole}
 use Rattle.wal_reader.specs.declared.record_place.RecordPlace.{RecordPlace}
 use Rattle.wal_reader.specs.declared.found.FoundRecord.{FoundRecord}
 use Rattle.wal_reader.specs.Pages.{Pages, as_byte, byte_at, bytes_from}
@@ -81,7 +81,7 @@ module _ (size sysid : ℕ) (pages : Pages) (es : List Entry) (upto : ℕ) (vali
   pub no_record_behind : (place : RecordPlace) (found : FoundRecord) → place.position ≡ end_position size es → read_at size pages None place ≡ Ok found → ⊥
   no_record_behind place found at reads =
       let p = place.position in
-      let whole : p % 8 ≡ 0 = omega (arith, at, rooms_of-whole size es, first_position-whole size valid) in
+      let whole : p % 8 ≡ 0 = omega (arith, at, end_position-whole size valid es chained) in
       let zeros : (i : ℕ) → i < 8 → byte_at pages (address_of size (p + i)) ≡ 0 = elim (word_at_position p whole) [
         | inl nothing ↦ nothing
         | inr own ↦ (λ i lt. own i lt ∙ log_byte-position (p + i) (omega arith) ∙ get_or_past (stream_of size es) (p + i - first_position size) 0 (omega (arith, length-stream_of size es)))
@@ -100,7 +100,7 @@ module _ (size sysid : ℕ) (pages : Pages) (es : List Entry) (upto : ℕ) (vali
     prev = prev_of size 0 front
 
     abbrev room : ℕ
-    room = room_at size e.start e.value
+    room = room_of e.value
 
     abbrev own : List ℕ
     own = filled (assembled e.value) prev
@@ -114,17 +114,17 @@ module _ (size sysid : ℕ) (pages : Pages) (es : List Entry) (upto : ℕ) (vali
     pub entry_start : e.start ≡ end_position size front
     entry_start = own_parts.1.0
 
-    pub entry_writable : IsWritable e.value
-    entry_writable = own_parts.1.1
+    pub entry_logged : IsLogRecord e.value
+    entry_logged = own_parts.1.1
 
-    whole_start : e.start % 8 ≡ 0
-    whole_start = omega (arith, entry_start, rooms_of-whole size front, first_position-whole size valid)
+    pub entry_whole : e.start % 8 ≡ 0
+    entry_whole = omega (arith, entry_start, end_position-whole size valid front own_parts.0)
 
     own_byte : (j : ℕ) → j < room → log_byte size sysid es (address_of size (e.start + j)) ≡ get_or own j 0
     own_byte j lt =
         let at : e.start + j - first_position size ≡ rooms_of size front + j = omega (arith, entry_start) in
         log_byte-position (e.start + j) (omega (arith, entry_start)) ∙ ap (λ (q : ℕ). get_or (stream_of size es) q 0) at
-        ∙ ap (λ (l : List Entry). get_or (stream_of size l) (rooms_of size front + j) 0) parts ∙ stream_of-entry size front others e j lt
+        ∙ ap (λ (l : List Entry). get_or (stream_of size l) (rooms_of size front + j) 0) parts ∙ stream_of-entry size front others e j (omega (arith, lt))
 
     here_byte : (j : ℕ) → j < room → get_or here j 0 ≡ byte_at pages (address_of size (e.start + j))
     here_byte j lt = byte_from room e.start j lt
@@ -135,7 +135,7 @@ module _ (size sysid : ℕ) (pages : Pages) (es : List Entry) (upto : ℕ) (vali
         let is = room_is (assembled e.value) in
         let within : (i : ℕ) → i < 8 → 8 * k + i < room = λ i less. omega (arith, is) in
         let further : (i : ℕ) → e.start + 8 * k + i ≡ e.start + (8 * k + i) = λ i. omega arith in
-        elim (word_at_position (e.start + 8 * k) (omega (arith, whole_start))) [
+        elim (word_at_position (e.start + 8 * k) (omega (arith, entry_whole))) [
           | inl zeros ↦ inl (λ i less. here_byte (8 * k + i) (within i less) ∙ ap (λ (p : ℕ). byte_at pages (address_of size p)) (sym (further i)) ∙ zeros i less)
           | inr owned ↦ inr (λ i less. here_byte (8 * k + i) (within i less) ∙ ap (λ (p : ℕ). byte_at pages (address_of size p)) (sym (further i)) ∙ owned i less ∙ ap (λ (p : ℕ). log_byte size sysid es (address_of size p)) (further i) ∙ own_byte (8 * k + i) (within i less))
         ]
@@ -168,7 +168,7 @@ module _ (size sysid : ℕ) (pages : Pages) (es : List Entry) (upto : ℕ) (vali
     -- its first word says its size, where it is its own
     size_in_own : SameWord here own 0 → number_at w32 here 0 ≡ size_of e.value
     size_in_own same =
-        let small = entry_writable.size in
+        let small = logged_size e.value entry_logged in
         same_four here own 0 (λ i lt. same i (omega arith)) ∙ from_le_bytes-to_le_bytes_4 (size_of e.value) (omega arith)
 
     module _ (before : Option Lsn) (timeline : ℕ) (found : FoundRecord) (prev_fits : prev < 2 ^ 64) (known : (before ≡ Some (record { 0 = prev })) ⊎ (front ≡ [])) where
@@ -225,7 +225,7 @@ module _ (size sysid : ℕ) (pages : Pages) (es : List Entry) (upto : ℕ) (vali
         unseen : IsSeenTorn size pages e prev → ⊥
         unseen seen =
             let is = room_is (assembled e.value) in
-            let small = entry_writable.size in
+            let small = logged_size e.value entry_logged in
             let long : 24 ≤ size_of e.value = omega arith in
             let crc_right : List ℕ → Bool = λ whole. eqb (crc32c (drop 24 whole ++ take 20 whole)) (number_at w32 whole 20) in
             elim seen [
@@ -253,11 +253,11 @@ module _ (size sysid : ℕ) (pages : Pages) (es : List Entry) (upto : ℕ) (vali
             let claimed = number_at w32 (bytes_from size pages 24 e.start) 0 in
             let claimed_is : claimed ≡ n = size_in_header size pages None place ∙ total_is in
             let bytes : bytes_from size pages claimed e.start ≡ take n (own ++ []) = ap (λ (m : ℕ). bytes_from size pages m e.start) claimed_is ∙ record_is ∙ ap (take n) (whole ∙ sym (append-nil own)) in
-            let reads = ap reading_of (bytes ∙ take-filled (assembled e.value) prev []) ∙ spelling_reads e.value prev entry_writable prev_fits in
+            let reads = ap reading_of (bytes ∙ take-filled (assembled e.value) prev []) ∙ spelling_reads e.value prev entry_logged prev_fits in
             let told = sym read.spelled ∙ ap (found_or size place claimed (number_at w64 (bytes_from size pages 24 e.start) 8)) reads
             ∙ ap (λ (m : ℕ). found_or size place m (number_at w64 (bytes_from size pages 24 e.start) 8) (Ok e.value)) claimed_is
             ∙ ap (λ (m : ℕ). found_or size place n m (Ok e.value)) prev_is
-            ∙ ap (λ (f : FoundRecord). Ok f) (found_as_entry size place prev e entry_writable refl) in
+            ∙ ap (λ (f : FoundRecord). Ok f) (found_as_entry size valid place prev e entry_whole refl) in
             same_read found (found_entry size prev e) told
 
       -- an entry that is read where it stands is read as it is

@@ -5,6 +5,7 @@ pub mod LogPages
 pub mod LogPositions
 pub mod LogReads
 pub mod NextEntries
+pub mod PaddedPages
 pub mod RecordBytes
 pub mod RecordRows
 pub mod Tables
@@ -18,3 +19,4 @@ pub mod LawfulRecords
 pub mod LawfulFronts
 pub mod LawfulBeginning
 pub mod TornLaws
+pub mod SettledLogs

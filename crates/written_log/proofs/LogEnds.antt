@@ -4,6 +4,7 @@ use Rattle.std.specs.Prelude.{replicate, IfSome}
 use Rattle.std.specs.Int.{w64, from_le_bytes}
 use Rattle.std.proofs.lemmas.Bool.{cases_lt, and_left, eq-eqb}
 use Rattle.std.proofs.lemmas.List.{get_or-take, get_or_past}
+use Rattle.std.proofs.lemmas.Option.{none-some}
 use Rattle.byte_position.specs.Geometry.{IsSegmentSize, pages_of}
 use Rattle.byte_position.specs.Position.{position_of, address_of, end_address_of, first_position}
 use Rattle.byte_position.proofs.PositionLaws.{position_of-address_of, is_in_header-address_of}
@@ -90,8 +91,9 @@ module _ (size sysid : ℕ) (pages : Pages) (es : List Entry) (holds : HavePages
         let begins = page_begins size w.valid p in
         elim (cases_lt (position_of size (page * 8192)) p) [
           | inl below ↦
-              (let owner = owner_here size sysid pages es w page from below in
-              let sound = page_is_sound size sysid pages es w page owner.0 from below owner.1 in
+              (let none = owner_of-none_behind size (first_position size) es w.chained p (omega arith) in
+              let owner = owner_here size sysid pages es w p (λ e owner. absurd (none-some e (sym none ∙ owner))) from below in
+              let sound = page_is_sound size sysid pages es w page owner.0 from below owner.1 owner.2 in
               let word = take-bytes_from size pages 8 24 p (omega arith) ∙ bytes_from-behind 8 p (omega arith) in
               let in_page : IsIn size pages place sound.0 = record {
                 here = sound.1;

@@ -1,8 +1,10 @@
 -- Byte positions and the pages of a log.
-use Rattle.std.proofs.Common.{◌≡◌, ℕ, ◌+◌, ◌*◌, ◌/◌, ◌%◌, ◌<◌, ◌≤◌, sym, ap, ◌∙◌, inl, inr, arith}
+use Rattle.std.proofs.Common.{◌≡◌, ℕ, ◌+◌, ◌-◌, ◌*◌, ◌/◌, ◌%◌, ◌<◌, ◌≤◌, sym, ap, ◌∙◌, inl, inr, arith}
 use Rattle.std.proofs.lemmas.Bool.{cases_lt}
 use Rattle.byte_position.specs.Geometry.{IsSegmentSize, pages_of}
 use Rattle.byte_position.specs.Position.{position_of, address_of, end_address_of, first_position, header_size}
+use Rattle.byte_position.proofs.HeaderSizes.{header_size_bounds}
+use Rattle.byte_position.proofs.Pages.{position_of-next_page}
 use Rattle.byte_position.proofs.SegmentSizes.{segment_size_in_pages}
 use Rattle.byte_position.proofs.PositionLaws.{position_of-address_of, end_address_of-next}
 use Rattle.byte_position.proofs.Rising.{position_of-mono, lt-position_of}
@@ -45,3 +47,22 @@ module _ (size : ℕ) (valid : IsSegmentSize size) where
       let page = address_of size p / 8192 in
       let at : page * 8192 + header_size size page ≡ address_of size p = omega arith in
       sym (position_of-page_header_times size valid page (header_size size page) (omega arith)) ∙ ap (position_of size) at ∙ position_of-address_of size valid p
+
+  -- the position before a page's first is one of the page before
+  pub page_before : (page : ℕ) → address_of size (position_of size ((page + 1) * 8192) - 1) / 8192 ≡ page
+  page_before page =
+      let q = position_of size ((page + 1) * 8192) in
+      let turned : (page + 1) * 8192 ≡ 8192 * (page + 1) = omega arith in
+      let own : page * 8192 ≡ 8192 * page = omega arith in
+      let next = ap (position_of size) turned ∙ position_of-next_page size valid page in
+      let first = ap (position_of size) own in
+      let header = header_size_bounds size valid page in
+      let low : page * 8192 ≤ address_of size (q - 1) = elim (cases_lt (address_of size (q - 1)) (page * 8192)) [
+        | inl below ↦ absurd (omega (arith, next, first, header, lt-position_of size valid (q - 1) (page * 8192) below))
+        | inr from ↦ from
+      ] in
+      let high : address_of size (q - 1) < (page + 1) * 8192 = elim (cases_lt (address_of size (q - 1)) ((page + 1) * 8192)) [
+        | inl below ↦ below
+        | inr from ↦ absurd (omega (arith, next, header, position_of-le (q - 1) ((page + 1) * 8192) from))
+      ] in
+      omega (arith, low, high)

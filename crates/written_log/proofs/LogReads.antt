@@ -1,38 +1,41 @@
 -- The records of a log are read one behind another over all its pages, and then what stands behind them.
-use Rattle.std.proofs.Common.{◌≡◌, ℕ, zero, suc, ◌+◌, ◌-◌, ◌*◌, ◌/◌, ◌^◌, ◌<◌, ◌≤◌, Bool, true, ltb, List, [], ◌∷◌, ◌++◌, take, drop, Option, Some, None, Ok, refl, sym, ap, subst, ◌∙◌, append_assoc, add_assoc, inl, inr, arith}
+use Rattle.std.proofs.Common.{◌≡◌, ℕ, zero, suc, ◌+◌, ◌-◌, ◌*◌, ◌/◌, ◌%◌, ◌^◌, ◌<◌, ◌≤◌, Bool, true, ltb, List, [], ◌∷◌, ◌++◌, take, drop, Option, Some, None, Ok, refl, sym, ap, ap₂, subst, ◌∙◌, append_assoc, add_assoc, inl, inr, arith}
+use Rattle.std.specs.Prelude.{replicate}
 use Rattle.std.specs.List.{flat_map, range_with_len}
 use Rattle.std.proofs.lemmas.Bool.{cases_Bool, cond-true, cond-false, and_left, and_right, lt-ltb, le-ltb, eq-eqb, eqb-true, not-true, not_from_true}
-use Rattle.std.proofs.lemmas.List.{drop-drop}
+use Rattle.std.proofs.lemmas.List.{drop-drop, drop_at}
+use Rattle.std.proofs.lemmas.Option.{same_Some}
 use Rattle.byte_position.specs.Geometry.{pages_of}
 use Rattle.byte_position.specs.Position.{position_of, address_of, first_position}
-use Rattle.byte_position.proofs.Rising.{position_of-mono, lt-position_of}
+use Rattle.byte_position.proofs.Rising.{lt-position_of}
 use Rattle.record_spelling.specs.Record.{is_free_manager}
-use Rattle.record_spelling.specs.Spelling.{IsWritable, assembled, size_of}
+use Rattle.record_spelling.specs.Spelling.{IsLogRecord, assembled, filled, room_of, size_of}
 use Rattle.wal_record.proofs.SpellingReads.{spelling_reads}
 use Rattle.record_spelling.proofs.SpellingLaws.{ready, crc_below}
-use Rattle.wal_page.specs.Order.{Entry, FollowsFrom, IsChained, position_behind, rooms_of, end_position, room_at}
+use Rattle.record_spelling.proofs.SwitchLaws.{logged_readable, logged_size}
+use Rattle.wal_page.specs.Order.{Entry, FollowsFrom, IsChained, padding_at, position_behind, rooms_of, end_position, room_at}
 use Rattle.wal_page.specs.Page.{is_continued}
-use Rattle.wal_page.specs.Log.{stream_of, stream_from, owner_of, remaining_at}
+use Rattle.wal_page.specs.Log.{bytes_of_entry, stream_of, stream_from, owner_of, remaining_at}
 use Rattle.wal_page.proofs.OrderLaws.{rooms_of_cons}
-use Rattle.wal_page.proofs.OwnerLaws.{owner_of-entry}
+use Rattle.wal_page.proofs.OwnerLaws.{owner_of-entry, start-whole}
+use Rattle.wal_page.proofs.StreamLaws.{length-bytes_of_entry}
 use Rattle.wal_types.specs.declared.lsn.Lsn.{Lsn}
 use Rattle.wal_reader.specs.declared.record_place.RecordPlace.{RecordPlace}
 use Rattle.wal_reader.specs.declared.found.Answer.{Answer}
 use Rattle.wal_reader.specs.declared.found.FoundRecord.{FoundRecord}
 use Rattle.wal_reader.specs.Pages.{Pages}
-use Rattle.wal_reader.specs.Decodes.{ReadsRecords, place_behind, is_right_prev, opens_page, continuation_rows, continuation_rows_of, rows_of_pages, timeline_or}
+use Rattle.wal_reader.specs.Decodes.{ReadsRecords, next_position, place_behind, is_right_prev, opens_page, continuation_rows, continuation_rows_of, rows_of_pages, timeline_or}
 use Rattle.wal_reader.proofs.ReadAtLaws.{reads_at}
 use Rattle.wal_reader.proofs.SettledLaws.{same_read}
 use Rattle.wal_reader.specs.ReadAt.{ReadsComputed, read_at, found_or}
 use Rattle.written_log.specs.Written.{found_entry, found_from}
 use Rattle.written_log.proofs.Tables.{NoneHolds, NoneHolds-append}
 use Rattle.written_log.proofs.Tables.NoneHolds.{none, past}
-use Rattle.written_log.proofs.RecordBytes.{drop-filled}
 use Rattle.written_log.proofs.RecordRows.{IsIn, StandsAt, record_is_read}
-use Rattle.written_log.proofs.LogPositions.{address_of-below_end, opening_position, page_begins, page_from_first, position_of-le}
+use Rattle.written_log.proofs.LogPositions.{address_of-below_end, opening_position, page_before, page_begins, page_from_first, position_of-le}
 use Rattle.written_log.proofs.LogHeader.{sound_answers}
 use Rattle.written_log.proofs.NextEntries.{found_as_entry, next_of_entry}
-use Rattle.written_log.proofs.LogPages.{IsWritten, page_is_sound, owner_here, timeline_is, bytes_from-log}
+use Rattle.written_log.proofs.LogPages.{IsNoZero, IsWritten, page_is_sound, owner_here, timeline_is, bytes_from-log}
 
 -- where the checks of each page hold, those of a run of pages do
 NoneHolds-run : {K : Type 0} (rows : ℕ → List (Bool × K)) (a n : ℕ) → ((i : ℕ) → a ≤ i → i < a + n → NoneHolds (rows i)) → NoneHolds (flat_map rows (range_with_len a n))
@@ -64,16 +67,26 @@ module _ (size sysid : ℕ) (pages : Pages) (es : List Entry) (w : IsWritten siz
     start_is : e.start ≡ first_position size + k
     start_is = stand.follows.0
 
-    writable : IsWritable e.value
-    writable = stand.follows.1
+    logged : IsLogRecord e.value
+    logged = stand.follows.1
+
+    chained_parts : IsChained size (stand.front ++ e ∷ others)
+    chained_parts = subst (λ (l : List Entry). IsChained size l) stand.parts w.chained
+
+    whole : e.start % 8 ≡ 0
+    whole = start-whole size w.valid stand.front others e chained_parts
 
     within : k + room_at size e.start e.value + rooms_of size others ≡ rooms_of size es
     within = omega (arith, rooms_of_cons size e others, stand.rooms)
 
     owns : (p : ℕ) → e.start ≤ p → p < position_behind size e → owner_of size es p ≡ Some e
-    owns p from below =
-        let chained = subst (λ (l : List Entry). IsChained size l) stand.parts w.chained in
-        ap (λ (l : List Entry). owner_of size l p) stand.parts ∙ owner_of-entry size (first_position size) stand.front others e chained p from below
+    owns p from below = ap (λ (l : List Entry). owner_of size l p) stand.parts ∙ owner_of-entry size (first_position size) stand.front others e chained_parts p from below
+
+    -- its own bytes are none of the zeros behind a switch
+    no_zero : (p : ℕ) → e.start ≤ p → p < e.start + room_of e.value → IsNoZero size es p
+    no_zero p from below f owner =
+        let same : e ≡ f = same_Some e f (sym (owns p from (omega (arith, below))) ∙ owner) in
+        subst (λ (g : Entry). p < g.start + room_of g.value) same below
 
     -- the page on which it starts
     entry_is_in : (bytes : List ℕ) × IsIn size pages (log_place size k before) bytes
@@ -86,7 +99,7 @@ module _ (size sysid : ℕ) (pages : Pages) (es : List Entry) (w : IsWritten siz
         elim (cases_Bool (opens_page size p)) [
           | inl t ↦
               (let opens_at = opening_position size w.valid p (eqb-true _ _ t) in
-              let sound = page_is_sound size sysid pages es w page e from below (owns (position_of size (page * 8192)) (omega (arith, start_is)) (omega (arith, start_is))) in
+              let sound = page_is_sound size sysid pages es w page e from below (owns (position_of size (page * 8192)) (omega (arith, start_is)) (omega (arith, start_is))) (omega (arith, start_is)) in
               let nothing : remaining_at e (position_of size (page * 8192)) ≡ 0 = cond-false _ _ _ (le-ltb e.start (position_of size (page * 8192)) (omega (arith, start_is))) in (
                 sound.0,
                 record {
@@ -97,8 +110,8 @@ module _ (size sysid : ℕ) (pages : Pages) (es : List Entry) (w : IsWritten siz
                 },
               ))
           | inr f ↦
-              (let owner = owner_here size sysid pages es w page from below in
-              let sound = page_is_sound size sysid pages es w page owner.0 from below owner.1 in (
+              (let owner = owner_here size sysid pages es w p (no_zero p (omega (arith, start_is)) (omega (arith, start_is))) from below in
+              let sound = page_is_sound size sysid pages es w page owner.0 from below owner.1 owner.2 in (
                 sound.0,
                 record {
                   here = sound.1;
@@ -116,12 +129,15 @@ module _ (size sysid : ℕ) (pages : Pages) (es : List Entry) (w : IsWritten siz
         let start = address_of size (first_position size + k) in
         let owed = first_position size + k + size_of e.value - p in
         let below : p < end_position size es = omega (arith, within, start_is) in
-        let sound = page_is_sound size sysid pages es w page e (omega arith) below (owns p (omega arith) (omega arith)) in
+        let sound = page_is_sound size sysid pages es w page e (omega arith) below (owns p (omega arith) (omega (arith, ahead))) (omega (arith, ahead)) in
         let bytes = sound.0 in
-        let rises = position_of-mono size ((page - 1) * 8192) (page * 8192) (omega arith) in
-        let timeline = timeline_is size sysid pages es w (page - 1) (omega arith) (omega arith) in
+        let last = p - 1 in
+        let back : page - 1 + 1 ≡ page = omega arith in
+        let on : address_of size last / 8192 ≡ page - 1 = subst (λ (n : ℕ). address_of size (position_of size (n * 8192) - 1) / 8192 ≡ page - 1) back (page_before size w.valid (page - 1)) in
+        let begins = page_begins size w.valid last in
+        let timeline = subst (λ (n : ℕ). timeline_or (pages n) 1 ≡ 1) on (timeline_is size sysid pages es w last (no_zero last (omega (arith, behind)) (omega (arith, behind, ahead))) (omega (arith, on)) (omega (arith, begins, below))) in
         let remaining_is : remaining_at e p ≡ e.start + size_of e.value - p = cond-true _ _ _ (lt-ltb e.start p behind) in
-        let small = writable.size in
+        let small = logged_size e.value logged in
         let remaining_so = sound.2.owed (omega (arith, remaining_is)) in
         let rows : NoneHolds (continuation_rows_of size page 1 start owed (Some bytes)) =
         NoneHolds-append (sound_answers sound.2)
@@ -142,35 +158,36 @@ module _ (size sysid : ℕ) (pages : Pages) (es : List Entry) (w : IsWritten siz
     entry_stands : is_right_prev before (address_of size (first_position size + k)) prev ≡ true → StandsAt size pages (log_place size k before) (assembled e.value) prev
     entry_stands right =
         let p = first_position size + k in
-        let small = writable.size in
+        let small = logged_size e.value logged in
         record {
-          rest = stream_from size (address_of size e.start) others;
-          bytes = λ n fits. bytes_from-log size sysid pages es w n k (omega (arith, within)) ∙ ap (take n) stand.bytes;
+          rest = replicate (padding_at size e.start (assembled e.value)) 0 ++ stream_from size (address_of size e.start) others;
+          bytes = λ n fits. bytes_from-log size sysid pages es w n k (omega (arith, within)) ∙ ap (take n) (stand.bytes ∙ append_assoc (filled (assembled e.value) prev) (replicate (padding_at size e.start (assembled e.value)) 0) (stream_from size (address_of size e.start) others));
           header_pages = rows_between p (p + 24 - 1) (omega (arith, start_is)) (omega (arith, start_is));
           last_pages = rows_between (p + 24 - 1) (p + size_of e.value - 1) (omega (arith, start_is)) (omega (arith, start_is));
-          manager = not-true (is_free_manager e.value.rmid) writable.well_formed.manager;
+          manager = not-true (is_free_manager e.value.rmid) (logged_readable e.value logged).manager;
           prev_right = right;
           size_fits = omega arith;
           prev_fits = stand.prev_fits;
-          crc_fits = crc_below (assembled e.value) prev (ready e.value writable);
+          crc_fits = crc_below (assembled e.value) prev (ready e.value logged);
         }
 
     entry_is_read : is_right_prev before (address_of size (first_position size + k)) prev ≡ true → read_at size pages None (log_place size k before) ≡ Ok (found_entry size prev e)
     entry_is_read right =
         let here = entry_is_in in
         record_is_read size pages (log_place size k before) here.0 (assembled e.value) prev here.1 (entry_stands right)
-        ∙ ap (found_or size (log_place size k before) (size_of e.value) prev) (spelling_reads e.value prev writable stand.prev_fits)
-        ∙ ap (λ (f : FoundRecord). Ok f) (found_as_entry size (log_place size k before) prev e writable (sym start_is))
+        ∙ ap (found_or size (log_place size k before) (size_of e.value) prev) (spelling_reads e.value prev logged stand.prev_fits)
+        ∙ ap (λ (f : FoundRecord). Ok f) (found_as_entry size w.valid (log_place size k before) prev e whole (sym start_is))
 
     place_behind_entry : place_behind size pages (log_place size k before) (found_entry size prev e) ≡ log_place size (k + room_at size e.start e.value) (Some (record { 0 = address_of size e.start }))
     place_behind_entry =
         let q = first_position size + k + size_of e.value - 1 in
         let page = address_of size q / 8192 in
         let begins = page_begins size w.valid q in
-        let timeline = timeline_is size sysid pages es w page (page_from_first size w.valid q (omega arith)) (omega (arith, within)) in
-        ap (λ (p : ℕ). record { position = p; prev = Some (record { 0 = address_of size e.start }); timeline = timeline_or (pages page) 1 }) (next_of_entry size (first_position size + k) e.value writable)
-        ∙ ap (λ (t : ℕ). record { position = first_position size + k + room_at size e.start e.value; prev = Some (record { 0 = address_of size e.start }); timeline = t }) timeline
-        ∙ ap (λ (p : ℕ). record { position = p; prev = Some (record { 0 = address_of size e.start }); timeline = 1 }) (add_assoc (first_position size) k (room_at size e.start e.value))
+        let small : 24 ≤ size_of e.value = omega arith in
+        let timeline = timeline_is size sysid pages es w q (no_zero q (omega (arith, start_is)) (omega (arith, start_is))) (page_from_first size w.valid q (omega arith)) (omega (arith, within)) in
+        let next = subst (λ (p : ℕ). next_position size p (size_of e.value) e.value ≡ p + room_at size e.start e.value) start_is (next_of_entry size w.valid e.start whole e.value) in
+        let placed : ℕ → ℕ → RecordPlace = λ position timeline. record { position = position; prev = Some (record { 0 = address_of size e.start }); timeline = timeline } in
+        ap₂ placed (next ∙ add_assoc (first_position size) k (room_at size e.start e.value)) timeline
 
     others_stand : StandFrom size es (k + room_at size e.start e.value) (address_of size e.start) others
     others_stand =
@@ -178,7 +195,7 @@ module _ (size sysid : ℕ) (pages : Pages) (es : List Entry) (w : IsWritten siz
         let next : e.start + room_at size e.start e.value ≡ first_position size + (k + room_at size e.start e.value) = omega (arith, start_is) in
         record {
           rooms = within;
-          bytes = sym (drop-drop (room_at size e.start e.value) k (stream_of size es)) ∙ ap (drop (room_at size e.start e.value)) stand.bytes ∙ drop-filled (assembled e.value) prev behind;
+          bytes = sym (drop-drop (room_at size e.start e.value) k (stream_of size es)) ∙ ap (drop (room_at size e.start e.value)) stand.bytes ∙ drop_at (bytes_of_entry size prev e) behind (room_at size e.start e.value) (length-bytes_of_entry size prev e);
           follows = subst (λ (p : ℕ). FollowsFrom size p others) next stand.follows.2;
           front = stand.front ++ e ∷ [];
           parts = stand.parts ∙ sym (append_assoc stand.front (e ∷ []) others);

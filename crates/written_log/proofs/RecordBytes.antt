@@ -3,12 +3,12 @@ use Rattle.std.proofs.Common.{◌≡◌, ℕ, ◌-◌, ◌^◌, ◌<◌, false, 
 use Rattle.std.specs.Prelude.{replicate}
 use Rattle.std.specs.Int.{w32, w64}
 use Rattle.std.proofs.lemmas.Bool.{ne_eqb}
-use Rattle.std.proofs.lemmas.List.{take_at, drop_at}
+use Rattle.std.proofs.lemmas.List.{take_at}
 use Rattle.std.proofs.lemmas.Nat.{from_le_bytes-to_le_bytes_4, from_le_bytes-to_le_bytes_8}
 use Rattle.wal_crc32c.specs.Crc32c.{crc32c}
 use Rattle.record_spelling.specs.Spelling.{Assembled, assembled_size, assembled_room, spelled, filled, crc_of}
 use Rattle.record_spelling.specs.Numbers.{number_at}
-use Rattle.record_spelling.proofs.SpellingLaws.{length-spelled, length-filled}
+use Rattle.record_spelling.proofs.SpellingLaws.{length-spelled}
 use Rattle.wal_reader.specs.Decodes.{is_zero_word}
 
 -- the first bytes of what stands where a record does: its header
@@ -30,10 +30,6 @@ pub take-filled : (a : Assembled) (prev : ℕ) (rest : List ℕ) → take (assem
 take-filled a prev rest =
     ap (take (assembled_size a)) (append_assoc (spelled a prev) (replicate (assembled_room a - assembled_size a) 0) rest)
     ∙ take_at (spelled a prev) (replicate (assembled_room a - assembled_size a) 0 ++ rest) (assembled_size a) (length-spelled a prev)
-
--- what stands behind a record's room
-pub drop-filled : (a : Assembled) (prev : ℕ) (rest : List ℕ) → drop (assembled_room a) (filled a prev ++ rest) ≡ rest
-drop-filled a prev rest = drop_at (filled a prev) rest (assembled_room a) (length-filled a prev)
 
 -- the CRC that stands there is that of the bytes
 pub crc_in_spelled : (a : Assembled) (prev : ℕ) → crc_of a prev < 2 ^ 32 → number_at w32 (spelled a prev) 20 ≡ crc32c (drop 24 (spelled a prev) ++ take 20 (spelled a prev))

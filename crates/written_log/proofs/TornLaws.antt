@@ -4,10 +4,10 @@ use Rattle.std.specs.Prelude.{◌≢◌, IsSome}
 use Rattle.std.specs.Int.{w32, w64}
 use Rattle.std.proofs.lemmas.Bool.{eqb-true, eq-eqb, ne_eqb, false≢true, true≢false}
 use Rattle.wal_crc32c.specs.Crc32c.{crc32c}
-use Rattle.record_spelling.specs.Spelling.{assembled, size_of, word_at}
+use Rattle.record_spelling.specs.Spelling.{assembled, room_of, size_of, word_at}
 use Rattle.record_spelling.specs.Numbers.{number_at}
 use Rattle.record_spelling.proofs.SpellingLaws.{room_is}
-use Rattle.wal_page.specs.Order.{Entry, room_at}
+use Rattle.wal_page.specs.Order.{Entry}
 use Rattle.wal_reader.specs.Pages.{Pages, bytes_from, pages_in}
 use Rattle.wal_reader.proofs.PagesLaws.{take-bytes_from}
 use Rattle.wal_reader.proofs.RowLaws.{number_at-take}
@@ -39,13 +39,13 @@ module _ (size : ℕ) (pages : Pages) (e : Entry) (prev : ℕ) where
   right_crc bytes = eqb (crc32c (drop 24 bytes ++ take 20 bytes)) (number_at w32 bytes 20)
 
   whole_is : bytes_from size pages (size_of e.value) e.start ≡ own
-  whole_is = let is = room_is (assembled e.value) in sym (take-bytes_from size pages (size_of e.value) (room_at size e.start e.value) e.start (omega (arith, is)))
+  whole_is = let is = room_is (assembled e.value) in sym (take-bytes_from size pages (size_of e.value) (room_of e.value) e.start (omega (arith, is)))
 
   number_is : (at : ℕ) → at + 8 ≤ 24 → number_at w64 (bytes_from size pages 24 e.start) at ≡ number_at w64 own at
   number_is at within =
       let is = room_is (assembled e.value) in
       let here = bytes_in size pages e in
-      ap (λ (bytes : List ℕ). number_at w64 bytes at) (sym (take-bytes_from size pages 24 (room_at size e.start e.value) e.start (omega (arith, is))))
+      ap (λ (bytes : List ℕ). number_at w64 bytes at) (sym (take-bytes_from size pages 24 (room_of e.value) e.start (omega (arith, is))))
       ∙ number_at-take w64 here 24 at within ∙ sym (number_at-take w64 here (size_of e.value) at (omega (arith, within)))
 
   seen_fails : IsSeenTorn size pages e prev → FailsOwnChecks size pages e prev

@@ -71,7 +71,7 @@ module _ (size sysid : ℕ) (pages : Pages) (e : Entry) (es : List Entry) (w : I
       let p = position_of size (pages_of size * 8192) in
       let start_is : e.start ≡ first_position size = w.chained.0 in
       let owns = owner_of-entry size (first_position size) [] es e w.chained p (omega (arith, first, start_is)) (omega (arith, first, start_is, room_at-pos size e)) in
-      let sound = page_is_sound size sysid pages (e ∷ es) w (pages_of size) e (omega arith) (omega (arith, first, rooms_of_cons size e es, room_at-pos size e)) owns in
+      let sound = page_is_sound size sysid pages (e ∷ es) w (pages_of size) e (omega arith) (omega (arith, first, rooms_of_cons size e es, room_at-pos size e)) owns (omega (arith, first, start_is)) in
       let nothing : remaining_at e p ≡ 0 = cond-false _ _ _ (le-ltb e.start p (omega (arith, first, start_is))) in
       begins_behind_header size pages w.valid sound.0 sound.1 sound.2.no_zero_word (first_fault-none (sound.2.passes 0 (omega arith))) (sound.2.continued ∙ ap (ltb 0) nothing)
       ∙ ap (λ (t : ℕ). Ok (record { position = first_position size; prev = None; timeline = t })) sound.2.on_timeline

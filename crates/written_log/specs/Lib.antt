@@ -4,3 +4,4 @@ pub mod Torn
 pub mod Agreeing
 pub mod LawfulLog
 pub mod TornLaws
+pub mod SettledLog

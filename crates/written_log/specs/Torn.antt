@@ -2,21 +2,21 @@
 use Rattle.std.specs.Prelude.{◌≡◌, ◌≢◌, ℕ, ◌*◌, ◌<◌, ◌⊎◌, List, ◌++◌, take, drop, Some, slice_get}
 use Rattle.std.specs.Int.{w32, w64}
 use Rattle.wal_crc32c.specs.Crc32c.{crc32c}
-use Rattle.record_spelling.specs.Spelling.{assembled, filled, word_at, size_of}
+use Rattle.record_spelling.specs.Spelling.{assembled, filled, room_of, word_at, size_of}
 use Rattle.record_spelling.specs.Numbers.{number_at}
-use Rattle.wal_page.specs.Order.{Entry, prev_of, room_at}
+use Rattle.wal_page.specs.Order.{Entry, prev_of}
 use Rattle.wal_reader.specs.Pages.{Pages, bytes_from}
 
--- an entry's record in an image, as bytes: of its room
+-- an entry's record in an image, as bytes: as many as its spelling has, up to a multiple of 8
 abbrev pub bytes_in : ℕ → Pages → Entry → List ℕ
-bytes_in size pages e = bytes_from size pages (room_at size e.start e.value) e.start
+bytes_in size pages e = bytes_from size pages (room_of e.value) e.start
 
 -- each word of the entry's record is its own or 0, and one is not its own
 pub record IsTorn (size : ℕ) (pages : Pages) (e : Entry) (prev : ℕ) : Type 0 where
-  pub words : (k : ℕ) → 8 * k < room_at size e.start e.value
+  pub words : (k : ℕ) → 8 * k < room_of e.value
       → (word_at (bytes_in size pages e) k ≡ word_at (filled (assembled e.value) prev) k)
       ⊎ (word_at (bytes_in size pages e) k ≡ 0)
-  pub missing : (k : ℕ) × (8 * k < room_at size e.start e.value)
+  pub missing : (k : ℕ) × (8 * k < room_of e.value)
       × (word_at (bytes_in size pages e) k ≢ word_at (filled (assembled e.value) prev) k)
 
 -- the reader sees that it is torn: its first word is 0, it names another record before it, or the

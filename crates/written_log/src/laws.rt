@@ -1,5 +1,6 @@
 ghost use Rattle.written_log.specs.Agreeing.{AgreeingLogsDecodeAlike};
 ghost use Rattle.written_log.specs.LawfulLog.{LawfulImagesDecodeToFronts, WholeLawfulImagesDecode};
+ghost use Rattle.written_log.specs.SettledLog.{SettlingLogsDecodeToFronts, SyncedLogsDecodeToFronts};
 ghost use Rattle.written_log.specs.TornLaws.{EntriesUptoAreWhole, SeenTornFailsChecks};
 ghost use Rattle.written_log.specs.WrittenLog.{OwnPagesHoldLog, WrittenLogDecodes};
 
@@ -16,6 +17,14 @@ pub fn written_log_decodes()
 pub fn lawful_images_decode()
     ensures fronts { LawfulImagesDecodeToFronts }
     ensures whole { WholeLawfulImagesDecode }
+{}
+
+/// A law: while a log is settled that was found (`settle` of flush_core), each image that a crash
+/// leaves decodes to a front of the order for which the disk was lawful. From the end of the first
+/// syncs on the front has each entry up to where the log was read as the order's.
+pub fn settled_logs_decode()
+    ensures fronts { SettlingLogsDecodeToFronts }
+    ensures synced { SyncedLogsDecodeToFronts }
 {}
 
 /// A law: what the premise on torn records says. An entry up to where an image has all that the

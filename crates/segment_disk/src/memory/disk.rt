@@ -103,10 +103,40 @@ impl MemDisk {
         ensures failing_reads { IfOk result (λ disk. failing_reads disk
             ≡ record { numbers = []; made = 0 }) }
     {
-        let calls = self.calls.front(moment);
-        let first = image_left(alloc, &self.first, calls, &self.segments, &pick)?;
+        self.crash_with_room(alloc, moment, pick, self.calls.limit)
+    }
+
+    /// The same with room for this many counted calls. Who only reads what is left asks for none,
+    /// and takes no memory for any.
+    pub fn crash_with_room(
+        &self,
+        alloc: Global,
+        moment: u64,
+        pick: Pick,
+        calls: usize,
+    ) -> Result<MemDisk, Memory>
+        // What was there at first on the new disk is the one image that the pick names, and one
+        // that a crash may leave then.
+        ensures picked { IfOk result (λ disk. IsPicked (choice_of pick)
+            (state_behind self.now (min moment (moment_of self.now))) (first_image disk)) }
+        ensures left { IfOk result (λ disk. IfSome (tape_of self.now) (λ tape.
+            LeftAt tape (min moment (moment_of self.now)) (first_image disk))) }
+        // No call was counted on it, none is to fail, and it has just the segments that were there.
+        ensures tape { IfOk result (λ disk. tape_of disk
+            ≡ Some (record { at_first = first_state disk.first.items; calls = [] })) }
+        ensures moment { IfOk result (λ disk. moment_of disk ≡ 0) }
+        ensures faults { IfOk result (λ disk. faults_of disk ≡ 0) }
+        ensures limits { IfOk result (λ disk. limits_of disk
+            ≡ record (limits_of self.now) { calls = calls; failing = [] }) }
+        ensures segments { IfOk result (λ disk. HasSegments
+            (state_behind self.now (min moment (moment_of self.now))) (segment_count disk)) }
+        ensures failing_reads { IfOk result (λ disk. failing_reads disk
+            ≡ record { numbers = []; made = 0 }) }
+    {
+        let made = self.calls.front(moment);
+        let first = image_left(alloc, &self.first, made, &self.segments, &pick)?;
         Ok(MemDisk {
-            calls: self.calls.emptied(alloc)?,
+            calls: CallRecord::unfailing(alloc, calls)?,
             segments: self.segments.list_of(alloc, &first)?,
             reads: FailingCalls::new(Vec::new(alloc)),
             first,

@@ -15,7 +15,7 @@ use std::alloc::Global;
 #[derive(Debug, Drop)]
 pub struct CallRecord {
     pub made: Vec<Call>,
-    limit: usize,
+    pub limit: usize,
     fail: Vec<u64>,
     pub faults: u64,
     ghost roomy: { limit ≤ vec_capacity made },
@@ -37,14 +37,14 @@ impl CallRecord {
         })
     }
 
-    /// A record of no calls with the same room, in which none is to fail.
-    pub fn emptied(&self, alloc: Global) -> Result<CallRecord, Memory>
+    /// The same where none is to fail.
+    pub fn unfailing(alloc: Global, limit: usize) -> Result<CallRecord, Memory>
         ensures made { IfOk result (λ r. r.made.items ≡ []) }
-        ensures limit { IfOk result (λ r. r.limit ≡ self.now.limit) }
+        ensures limit { IfOk result (λ r. r.limit ≡ limit) }
         ensures fail { IfOk result (λ r. r.fail.items ≡ []) }
         ensures faults { IfOk result (λ r. r.faults ≡ 0) }
     {
-        CallRecord::new(alloc, self.limit, Vec::new(alloc))
+        CallRecord::new(alloc, limit, Vec::new(alloc))
     }
 
     /// The first calls, this many, or all where there are fewer.

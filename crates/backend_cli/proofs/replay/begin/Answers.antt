@@ -1,11 +1,21 @@
--- A log can have the setup, and has more passes than there are backends.
-use Rattle.std.proofs.Common.{◌≡◌, ◌+◌, ◌<◌, List, length, map, ap, ◌∙◌, arith}
+-- A log can have the setup, and has more passes than there are backends. No line inserts a switch.
+use Rattle.std.proofs.Common.{◌≡◌, ◌+◌, ◌<◌, All, List, length, map, ap, subst, sym, ◌∙◌, arith}
+use Rattle.machine_core.specs.Lines.{InsertsNoSwitch}
+use Rattle.machine_core.proofs.NoSwitches.{scripts_no_switch}
 use Rattle.machine_turns.specs.declared.script.PlainLine.{PlainLine as MachineLine}
 use Rattle.wal_core.specs.declared.setup.Setup.{Setup}
-use Rattle.backend_cli.specs.Replaying.{replay_setup}
+use Rattle.backend_cli.specs.Replaying.{asks_of, replay_setup}
 use Rattle.backend_cli.proofs.ReplayLaws.{begun_as}
-use Rattle.backend_cli.proofs.ReplayScripts.{as_many_scripts}
+use Rattle.backend_cli.proofs.ReplayScripts.{as_many_scripts, scripts_for}
 use Rattle.backend_cli.proofs.replay.begin.Goals as goal
+
+pub new-requires-2 : goal.new-requires-2
+new-requires-2 c =
+    let asked = c.requires.asked in
+    record {
+      no_switch = subst (λ (scripts : List (List MachineLine)). All (All InsertsNoSwitch) scripts) (sym c.in_ok-scripts.ensures)
+          (scripts_no_switch (map asks_of asked.0) _ (scripts_for asked.0 c.args.backends.items asked.1));
+    }
 
 pub unreachable-requires : goal.unreachable-requires
 unreachable-requires c =

@@ -8,6 +8,11 @@ begin-requires-clause-few g c =
     let read = c.in-Ok.ensures in
     few_backends _ _ c.in-Ok.replay read.0 read.1
 
+pub begin-requires-clause-asked : goal.begin-requires-clause-asked
+begin-requires-clause-asked g c =
+    let read = c.in-Ok.ensures in
+    (read.0.backends, read.1.backends)
+
 pub finish-requires : goal.finish-requires
 finish-requires g c =
     let read = c.in-Ok.ensures in

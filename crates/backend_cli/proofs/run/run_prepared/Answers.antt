@@ -24,6 +24,10 @@ setup_asked-setup-requires-clause-few g c =
     let ready = c.requires.prepared in
     omega (arith, c.len.ensures, as_many_prepared ready.0 c.args.room ready.1, (ready.1).few)
 
+pub play_backends-played-requires-clause-asked : goal.play_backends-played-requires-clause-asked
+play_backends-played-requires-clause-asked g c =
+    let ready = c.requires.prepared in λ κs lives. (ready.0, (ready.1).lines)
+
 pub conclude-requires-clause-answered : goal.conclude-requires-clause-answered
 conclude-requires-clause-answered g c =
     let ready = c.requires.prepared in

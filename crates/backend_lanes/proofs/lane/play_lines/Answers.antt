@@ -1,7 +1,7 @@
 -- Each line is played behind those before it.
 use Rattle.std.proofs.Common.{arith, refl}
 use Rattle.backend_lanes.specs.Sessions.{view_of_session}
-use Rattle.backend_lanes.proofs.PlayingLines.{all_played, none_played, one_more_played}
+use Rattle.backend_lanes.proofs.PlayingLines.{all_played, asked_at, none_played, one_more_played}
 use Rattle.backend_lanes.proofs.lane.play_lines.Goals as goal
 
 pub loop-line-init : goal.loop-line-init
@@ -11,6 +11,15 @@ loop-line-init g c = record {
       c.requires.unplayed refl;
   room = c.requires.room;
 }
+
+pub answer-answer-requires-clause-session : goal.answer-answer-requires-clause-session
+answer-answer-requires-clause-session g c = c.loop-line.invariant.played.of_log
+
+pub answer-answer-requires-clause-asked : goal.answer-answer-requires-clause-asked
+answer-answer-requires-clause-asked g c =
+    let asked = c.requires.asked in
+    let found = asked_at asked.0 c.args.lines.now c.loop-line.line-index c.line-item.result asked.1
+    (omega arith) c.line-item.is in (found.0.asked, found.1)
 
 pub loop-line-preserved : goal.loop-line-preserved
 loop-line-preserved g c =

@@ -1,13 +1,21 @@
-use Rattle.std.proofs.Common.{ℕ, drop, length, subst, sym}
+use Rattle.std.proofs.Common.{ℕ, All, drop, length, subst, sym}
 use Rattle.machine_laws.specs.ClosedLogs.{HasAllNumbers}
 use Rattle.wal_rule.specs.Passes.{view_of_pass}
 use Rattle.wal_core.specs.Views.{View}
 use Rattle.wal_log.specs.Logs.{opening_of_log, setup_of_log}
 use Rattle.backend_lanes.specs.Backends.{lists_of}
-use Rattle.backend_lanes.specs.Lanes.{BegunLanes}
+use Rattle.backend_lanes.specs.Lanes.{BegunLanes, IsReadyLane}
 use Rattle.backend_lanes.proofs.Answering.{has_setup, has_valid_size}
-use Rattle.backend_lanes.proofs.PlayingOut.{first_gives_from_one, first_is_idle, flushed_all, may_be_taken_in, played_in_place, played_lanes, played_share, taken_behind_flush}
+use Rattle.backend_lanes.proofs.PlayingOut.{first_gives_from_one, first_is_idle, flushed_all, may_be_taken_in, played_in_place, played_lanes, played_share, ready_lanes, taken_behind_flush}
 use Rattle.backend_lanes.proofs.playing.play_backends.Goals as goal
+
+pub run_lanes-requires-clause-ready : goal.run_lanes-requires-clause-ready
+run_lanes-requires-clause-ready g c κs within =
+    let asked = c.requires.asked in
+    let lanes = c.begin_lanes-lanes.result in
+    subst (All (IsReadyLane c.args.log)) (sym c.deref_mut.ensures.value)
+    (ready_lanes c.args.log c.args.first.spare asked.0 lanes.items
+    (c.begin_lanes-lanes.ensures.lanes asked.0 asked.1))
 
 pub join_lanes-backends-requires-clause-lanes : goal.join_lanes-backends-requires-clause-lanes
 join_lanes-backends-requires-clause-lanes g c =

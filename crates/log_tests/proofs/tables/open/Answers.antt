@@ -26,7 +26,8 @@ open-requires-clause-openable c =
       passes_low = omega arith;
       passes_high = omega arith;
     }))
-    (ap (λ (o : Opening). o.found) c.of-founding.ensures.opening) (omega arith)
+    (ap (λ (o : Opening). o.found) c.of-founding.ensures.opening)
+    (omega (arith, ap (λ (o : Opening). o.made) c.of-founding.ensures.opening))
 
 pub open-requires-clause-words : goal.open-requires-clause-words
 open-requires-clause-words c =

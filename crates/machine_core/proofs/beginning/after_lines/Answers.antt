@@ -1,9 +1,8 @@
 -- Each line takes its room, up to where the log is full.
 use Rattle.std.proofs.Common.{◌≡◌, ◌+◌, drop, slice_index_or, refl, ap, arith}
 use Rattle.std.proofs.lemmas.List.{at_drop_more, drop_all}
-use Rattle.machine_turns.specs.Scripts.{room_of_line, rooms_of_lines}
-use Rattle.machine_core.specs.Lines.{IsAsked}
-use Rattle.machine_core.proofs.FirstData.{all_hold, line_asked, one_more_holds}
+use Rattle.machine_turns.specs.Scripts.{InsertsLogRecord, room_of_line, rooms_of_lines}
+use Rattle.machine_core.proofs.FirstData.{all_hold, one_more_holds}
 use Rattle.machine_core.proofs.beginning.after_lines.Goals as goal
 
 pub loop-line-init : goal.loop-line-init
@@ -33,9 +32,8 @@ loop-line-preserved c =
         ap room_of_line c.line-item.is,
         c.loop-line.invariant.1,
       ),
-      one_more_holds IsAsked c.args.lines.now c.loop-line.line-index c.line-item.result
-          c.loop-line-test.true c.line-item.is c.loop-line.invariant.2
-          (line_asked c.line-item.result c.room.ensures.known),
+      one_more_holds InsertsLogRecord c.args.lines.now c.loop-line.line-index c.line-item.result
+          c.loop-line-test.true c.line-item.is c.loop-line.invariant.2 c.room.ensures.known,
     )
 
 pub returns : goal.returns
@@ -43,6 +41,6 @@ returns c =
     let none_left = ap rooms_of_lines (drop_all c.loop-line.line-index c.args.lines.now
     (omega (arith, c.loop-line-test.false))) in record {
       position = omega (arith, c.loop-line.invariant.0, c.loop-line.invariant.1, none_left);
-      asked = all_hold IsAsked c.args.lines.now c.loop-line.line-index c.loop-line-test.false
+      known = all_hold InsertsLogRecord c.args.lines.now c.loop-line.line-index c.loop-line-test.false
           c.loop-line.invariant.2;
     }

@@ -5,9 +5,8 @@ use Rattle.byte_position.specs.Position.{end_address_of}
 use Rattle.byte_position.proofs.EndAddresses.{end_address_of-mono}
 use Rattle.wal_page.proofs.WordPositions.{end_address_of-first_position}
 use Rattle.wal_core.specs.Words.{log_start}
-use Rattle.machine_turns.specs.Scripts.{rooms_of_lines}
+use Rattle.machine_turns.specs.Scripts.{InsertsLogRecord, rooms_of_lines}
 use Rattle.machine_core.specs.Cores.{rooms_of_scripts}
-use Rattle.machine_core.specs.Lines.{IsAsked}
 use Rattle.machine_core.proofs.FirstData.{all_hold, one_more_holds}
 use Rattle.machine_core.proofs.Ready.{end_form-near}
 use Rattle.machine_core.proofs.beginning.log_end.Goals as goal
@@ -60,11 +59,11 @@ loop-script-preserved c =
       omega (arith, behind, limit, c.loop-script.invariant.0, c.loop-script.invariant.1),
       omega (arith, behind, limit),
       omega (arith, behind, limit, here, more, c.loop-script.invariant.2),
-      one_more_holds (All IsAsked) scripts c.loop-script.script-index c.script-item.result
+      one_more_holds (All InsertsLogRecord) scripts c.loop-script.script-index c.script-item.result
           c.loop-script-test.true c.script-item.is c.loop-script.invariant.3
-          (subst (All IsAsked) c.lines.ensures c.after_lines-position.ensures.asked),
+          (subst (All InsertsLogRecord) c.lines.ensures c.after_lines-position.ensures.known),
     )
 
-pub returns-clause-asked : goal.returns-clause-asked
-returns-clause-asked c = all_hold (All IsAsked) c.args.scripts.now c.loop-script.script-index
+pub returns-clause-known : goal.returns-clause-known
+returns-clause-known c = all_hold (All InsertsLogRecord) c.args.scripts.now c.loop-script.script-index
     c.loop-script-test.false c.loop-script.invariant.3

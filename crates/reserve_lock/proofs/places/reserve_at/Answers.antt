@@ -1,4 +1,4 @@
-use Rattle.std.proofs.Common.{ap}
+use Rattle.std.proofs.Common.{ℕ, ap, arith}
 use Rattle.wal_core.specs.Words.{Opening}
 use Rattle.wal_rule.specs.SeatedPasses.{view_of}
 use Rattle.reserve_lock.proofs.Steps.{known_in}
@@ -20,7 +20,9 @@ store_position-requires-clause-may g c =
     may_reserve (view_of old) c.args.at _ (ap (λ (o : Opening). o.setup) old.seated.own)
     c.requires.place load.result (view_of load.new.self) (known_in load.ensures.steps)
     (view_of c.store_prev.new.self) (known_in c.store_prev.ensures.steps)
-    c.args.lock c.args.body.now kind.0 kind.1 kind.2 _ kind.3 c.requires.holds c.requires.fits
+    (view_of old).working.locks c.args.body.now kind.0 kind.1 kind.2 _ kind.3
+    (c.requires.some, λ (lock : ℕ) among. among) c.requires.landed
+    (omega (arith, c.requires.room, c.requires.fits))
 
 pub returns-clause-entry : goal.returns-clause-entry
 returns-clause-entry g c =
@@ -30,5 +32,5 @@ returns-clause-entry g c =
     has_entry (view_of old) c.args.at _ (ap (λ (o : Opening). o.setup) old.seated.own)
     c.requires.place load.result (view_of load.new.self) (known_in load.ensures.steps)
     (view_of c.store_prev.new.self) (known_in c.store_prev.ensures.steps)
-    c.args.lock c.args.body.now kind.0 kind.1 kind.2 _ kind.3 _
+    (view_of old).working.locks c.args.body.now kind.0 kind.1 kind.2 _ kind.3 _
     (known_in c.store_position.ensures.steps)

@@ -1,45 +1,66 @@
-use Rattle.std.proofs.Common.{Err, sym, subst}
+use Rattle.std.proofs.Common.{Err, [], ◌∷◌, refl, sym, subst, arith}
 use Rattle.wal_rule.specs.SeatedPasses.{setup_of, view_of}
+use Rattle.reserve_lock.specs.Reserved.{TellsWhy}
+use Rattle.reserve_lock.specs.declared.reserving.ReserveErr.{ReserveErr}
 use Rattle.wal_log.specs.declared.beginning.TryErr.{TryErr}
 use Rattle.wal_log.specs.Beginning.{AnswersBeginTry}
-use Rattle.wal_log.proofs.BeginLaws.{begun_is, may_unlock_in_vain, place_keeps, tried_in_vain, vain_keeps}
+use Rattle.wal_log.specs.Standing.{HasLocks}
+use Rattle.wal_log.proofs.BeginLaws.{begun_is, between_holds, place_keeps, tried_in_vain, vain_keeps}
 use Rattle.wal_log.proofs.Seated.{further_seated, seat_stays, view_is}
+use Rattle.wal_log.proofs.Unlocking.{locks_held, none_flies}
+use Rattle.wal_log.proofs.beginning.reserve_under.Given.{Over}
 use Rattle.wal_log.proofs.beginning.reserve_under.Goals as goal
+use Rattle.wal_log.proofs.beginning.reserve_under.Goals.{After-try_reserve}
 
-pub release-requires-clause-may : goal.release-requires-clause-may
-release-requires-clause-may g c =
-    may_unlock_in_vain (setup_of c.args.seated.now) c.args.body.now (view_of c.args.seated.now)
-    (view_of c.try_reserve.new.seated) c.args.lock c.requires.holds.one c.in-Err.e
-    c.in-Err.ensures.why
+module _ (g : Over) (c : After-try_reserve g) where
+  still_holds : (e : ReserveErr) → TellsWhy (setup_of c.args.seated.now) c.args.body.now
+      (view_of c.args.seated.now) (view_of c.try_reserve.new.seated) e
+      → HasLocks (c.args.lock ∷ []) (view_of c.try_reserve.new.seated)
+  still_holds = between_holds (setup_of c.args.seated.now) c.args.body.now
+      (view_of c.args.seated.now) (view_of c.try_reserve.new.seated) c.args.lock
+      c.requires.holds.has
+
+pub release-requires-clause-holds : goal.release-requires-clause-holds
+release-requires-clause-holds g c =
+    locks_held (c.args.lock ∷ []) (view_of c.try_reserve.new.seated)
+    (still_holds g (goal.at.release-requires-clause-holds g c).After-try_reserve c.in-Err.e
+    c.in-Err.ensures.why)
+
+pub release-requires-clause-left : goal.release-requires-clause-left
+release-requires-clause-left g c =
+    none_flies (c.args.lock ∷ []) (view_of c.try_reserve.new.seated)
+    (still_holds g (goal.at.release-requires-clause-left g c).After-try_reserve c.in-Err.e
+    c.in-Err.ensures.why)
 
 pub returns-in-Ok-clause-begins : goal.returns-in-Ok-clause-begins
 returns-in-Ok-clause-begins g c =
     begun_is (setup_of c.args.seated.now) c.args.body.now (view_of c.args.seated.now)
     (view_of c.try_reserve.new.seated) c.args.lock _ _ _ c.in-Ok.ensures.reserved
-    c.in-Ok.ensures.end c.requires.holds.low c.requires.holds.one c.requires.up
+    c.in-Ok.ensures.end (c.requires.holds.are c.args.lock (0, omega arith, refl))
+    c.requires.holds.has c.requires.up
 
 pub returns-in-Ok-clause-goes_on : goal.returns-in-Ok-clause-goes_on
 returns-in-Ok-clause-goes_on g c = record {
   stays = c.try_reserve.ensures.stays;
   keeps = place_keeps (setup_of c.args.seated.now) c.args.body.now (view_of c.args.seated.now)
-      (view_of c.try_reserve.new.seated) c.args.lock _ _ c.in-Ok.ensures.reserved;
+      (view_of c.try_reserve.new.seated) (c.args.lock ∷ []) _ _ c.in-Ok.ensures.reserved.place;
 }
 
 pub returns-in-Err-clause-begins : goal.returns-in-Err-clause-begins
 returns-in-Err-clause-begins g c =
     subst (λ (t : TryErr). AnswersBeginTry (setup_of c.args.seated.now) c.args.body.now
-    (view_of c.args.seated.now) (Err t) (view_of c.release.new.self))
+    (view_of c.args.seated.now) (Err t) (view_of c.release.new.seated))
     (sym c.from.ensures)
     (tried_in_vain (setup_of c.args.seated.now) c.args.body.now (view_of c.args.seated.now)
-    (view_of c.try_reserve.new.seated) c.args.lock c.requires.holds.one c.in-Err.e
-    c.in-Err.ensures.why (view_of c.release.new.self) (view_is c.release.ensures.steps)
+    (view_of c.try_reserve.new.seated) c.args.lock c.requires.holds.has c.in-Err.e
+    c.in-Err.ensures.why (view_of c.release.new.seated) (view_is c.release.ensures.view)
     c.requires.up)
 
 pub returns-in-Err-clause-goes_on : goal.returns-in-Err-clause-goes_on
 returns-in-Err-clause-goes_on g c = record {
-  stays = further_seated c.args.seated.now c.try_reserve.new.seated c.release.new.self
-      c.try_reserve.ensures.stays (seat_stays c.release.ensures.steps);
+  stays = further_seated c.args.seated.now c.try_reserve.new.seated c.release.new.seated
+      c.try_reserve.ensures.stays (seat_stays c.release.ensures.view);
   keeps = vain_keeps (setup_of c.args.seated.now) c.args.body.now (view_of c.args.seated.now)
-      (view_of c.try_reserve.new.seated) c.args.lock c.requires.holds.one c.in-Err.e
-      c.in-Err.ensures.why (view_of c.release.new.self) (view_is c.release.ensures.steps);
+      (view_of c.try_reserve.new.seated) c.args.lock c.requires.holds.has c.in-Err.e
+      c.in-Err.ensures.why (view_of c.release.new.seated) (view_is c.release.ensures.view);
 }

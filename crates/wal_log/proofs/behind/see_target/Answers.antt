@@ -26,15 +26,21 @@ module _ (g : Over) (c : After-see_reserved-end g) where
       let same : setup_of loaded ≡ (view_of old).opening.setup =
       same_setup old loaded (c.load_async-async_met.ensures.steps.same_table
       ∙ c.load_flushed-flushed.ensures.steps.same_table) ∙ sym (own_setup old) in
+      let end = c.see_reserved-end.ensures.end
+      ∙ ap (λ (s : Setup). end_form s seen) same in
+      let size = ap (λ (s : Setup). s.segment_size) same in
+      let first = c.see_reserved-end.ensures.begun in
+      let begun : (view_of old).opening.setup.segment_size
+      ≤ end_form (view_of old).opening.setup seen = omega (arith, end, size, first) in
       sees_by_page c.load_flushed-flushed.result c.load_async-async_met.result seen (view_of old)
       (view_of c.load_flushed-flushed.new.self) (view_of loaded)
       (view_of c.see_reserved-end.new.seated) (view_is c.load_flushed-flushed.ensures.steps)
       (view_is c.load_async-async_met.ensures.steps) (view_is c.see_reserved-end.ensures.view)
       c.load_flushed-flushed.ensures.met c.load_async-async_met.ensures.met
-      c.load_async-async_met.ensures.furthest c.see_reserved-end.ensures.rises
-      c.see_reserved-end.ensures.met page
+      c.load_async-async_met.ensures.furthest c.load_flushed-flushed.ensures.furthest
+      c.see_reserved-end.ensures.rises c.see_reserved-end.ensures.met begun page
       (page_from_end c.see_reserved-end.result (end_form (view_of old).opening.setup seen)
-      (c.see_reserved-end.ensures.end ∙ ap (λ (s : Setup). end_form s seen) same))
+      end)
 
 pub returns-then-flushed-page-clause-sees : goal.returns-then-flushed-page-clause-sees
 returns-then-flushed-page-clause-sees g c =

@@ -3,6 +3,7 @@ use Rattle.wal_page.specs.Placed.{PlacedState, placed_end}
 use Rattle.wal_core.specs.declared.setup.Setup.{Setup}
 use Rattle.wal_core.specs.Views.{View}
 use Rattle.wal_rule.specs.SeatedPasses.{setup_of, view_of}
+use Rattle.insert_locks.specs.Holding.{locks_of}
 use Rattle.word_ring.proofs.CopyLaws.{words-left}
 use Rattle.wal_log.specs.declared.copying.CopyStop.{CopyStop}
 use Rattle.wal_log.specs.declared.copying.CopyStop.TheVariants.{Asked, Whole, Absent}
@@ -12,8 +13,8 @@ use Rattle.wal_log.proofs.CopyLaws.{alone_rest, copied_on, goes_on_itself, stood
 use Rattle.wal_log.proofs.Seated.{same_setup, view_is}
 use Rattle.wal_log.proofs.copying.copy_front.Goals as goal
 
-pub loop-end-init : goal.loop-end-init
-loop-end-init g c =
+pub loop-held-init : goal.loop-held-init
+loop-held-init g c =
     let p : PlacedState = c.args.placed.now in
     let none : p.next ≡ p.next + 0 = omega arith in
     let still = stood_still p c.args.seated.now c.args.seated.now
@@ -22,32 +23,32 @@ loop-end-init g c =
       copies = c.requires.copies;
       next_is = ap (λ (n : ℕ). record p { next = n }) none;
       within = (words-left c.args.seated.now p
-          (alone_rest c.args.seated.now c.args.lock p c.requires.copies)).0;
+          (alone_rest c.args.seated.now (locks_of c.args.held) p c.requires.copies)).0;
       copies_on = still;
       up = λ up. up;
       silent = λ none_asked. refl;
     }
 
-pub loop-end-preserved : goal.loop-end-preserved
-loop-end-preserved g c =
+pub loop-held-preserved : goal.loop-held-preserved
+loop-held-preserved g c =
     let went = c.in-Ok.ensures.tells in
-    let few = c.loop-end.invariant.few in
+    let few = c.loop-held.invariant.few in
     let first : PlacedState = c.args.placed.now in
-    let was = c.loop-end.invariant.next_is in
-    let more : first.next + 8 * c.loop-end.k + 8 * c.in-Ok.count
-    ≡ first.next + 8 * (c.loop-end.k + c.in-Ok.count) = omega arith in
-    let ended : placed_end c.copy_some.new.placed ≡ placed_end c.loop-end.placed =
+    let was = c.loop-held.invariant.next_is in
+    let more : first.next + 8 * c.loop-held.k + 8 * c.in-Ok.count
+    ≡ first.next + 8 * (c.loop-held.k + c.in-Ok.count) = omega arith in
+    let ended : placed_end c.copy_some.new.placed ≡ placed_end c.loop-held.placed =
     ap placed_end went.next_is in record {
       few = omega (arith, few, went.few);
-      copies = c.copy_some.ensures.copies c.args.lock c.loop-end.invariant.copies;
+      copies = c.copy_some.ensures.copies (locks_of c.args.held) c.loop-held.invariant.copies;
       next_is = went.next_is
           ∙ ap (λ (p : PlacedState). record p { next = p.next + 8 * c.in-Ok.count }) was
           ∙ ap (λ (n : ℕ). record first { next = n }) more;
       within = omega (arith, went.within, ended);
-      copies_on = copied_on first c.loop-end.placed c.copy_some.new.placed c.args.seated.now
-          c.loop-end.seated c.copy_some.new.seated c.loop-end.invariant.copies_on
+      copies_on = copied_on first c.loop-held.placed c.copy_some.new.placed c.args.seated.now
+          c.loop-held.seated c.copy_some.new.seated c.loop-held.invariant.copies_on
           c.copy_some.ensures.copies_on;
-      up = λ up. c.copy_some.ensures.up (c.loop-end.invariant.up up);
+      up = λ up. c.copy_some.ensures.up (c.loop-held.invariant.up up);
       silent = λ none. absurd (c.if-most-eq0.false none);
     }
 
@@ -62,18 +63,18 @@ stops setup most k p v few left (Absent absent) tells =
 
 pub returns-then-most-eq0-clause-tells : goal.returns-then-most-eq0-clause-tells
 returns-then-most-eq0-clause-tells g c =
-    let few = c.loop-end.invariant.few in
+    let few = c.loop-held.invariant.few in
     let none = c.if-most-eq0.true in
-    let ended = ap placed_end c.loop-end.invariant.next_is in
-    let before = c.loop-end-test.true in
+    let ended = ap placed_end c.loop-held.invariant.next_is in
+    let before = c.loop-held-test.true in
     let next = c.next_lsn.ensures in
     let end = c.requires.end in record {
       few = few;
-      next_is = c.loop-end.invariant.next_is;
-      earlier = (view_of c.loop-end.seated).told;
+      next_is = c.loop-held.invariant.next_is;
+      earlier = (view_of c.loop-held.seated).told;
       stop = (omega (arith, few, none), omega (arith, before, next, end, ended));
       told = λ some left. absurd (omega (arith, some, none));
-      silent = c.loop-end.invariant.silent;
+      silent = c.loop-held.invariant.silent;
     }
 
 pub returns-in-Err-clause-tells : goal.returns-in-Err-clause-tells
@@ -81,23 +82,23 @@ returns-in-Err-clause-tells g c =
     let tells = c.in-Err.ensures.tells in
     let v : View = view_of c.copy_some.new.seated in
     let told = view_is c.tell_progress.ensures.view in
-    let ended = ap placed_end c.loop-end.invariant.next_is in
-    let before = c.loop-end-test.true in
+    let ended = ap placed_end c.loop-held.invariant.next_is in
+    let before = c.loop-held-test.true in
     let next = c.next_lsn.ensures in
     let end = c.requires.end in record {
-      few = c.loop-end.invariant.few;
-      next_is = tells.0 ∙ c.loop-end.invariant.next_is;
+      few = c.loop-held.invariant.few;
+      next_is = tells.0 ∙ c.loop-held.invariant.next_is;
       earlier = v.told;
-      stop = subst (λ (w : View). TellsStop (setup_of c.args.seated.now) c.args.most c.loop-end.k
+      stop = subst (λ (w : View). TellsStop (setup_of c.args.seated.now) c.args.most c.loop-held.k
           c.copy_some.new.placed w c.in-Err.stop)
           (sym (ap (λ (w : View). record w { told = v.told }) told))
           (subst (λ (p : PlacedState). TellsStop (setup_of c.args.seated.now) c.args.most
-          c.loop-end.k p v c.in-Err.stop) (sym tells.0)
-          (subst (λ (s : Setup). TellsStop s c.args.most c.loop-end.k c.loop-end.placed v
-          c.in-Err.stop) (same_setup c.args.seated.now c.loop-end.seated
-          c.loop-end.invariant.copies_on.goes_on.stays.same_table)
-          (stops (setup_of c.loop-end.seated) c.args.most c.loop-end.k c.loop-end.placed v
-          c.loop-end.invariant.few (omega (arith, before, next, end, ended)) c.in-Err.stop
+          c.loop-held.k p v c.in-Err.stop) (sym tells.0)
+          (subst (λ (s : Setup). TellsStop s c.args.most c.loop-held.k c.loop-held.placed v
+          c.in-Err.stop) (same_setup c.args.seated.now c.loop-held.seated
+          c.loop-held.invariant.copies_on.goes_on.stays.same_table)
+          (stops (setup_of c.loop-held.seated) c.args.most c.loop-held.k c.loop-held.placed v
+          c.loop-held.invariant.few (omega (arith, before, next, end, ended)) c.in-Err.stop
           tells.1)));
       told = λ some left. ap (λ (w : View). w.told) told;
       silent = λ none. absurd (c.if-most-eq0.false none);
@@ -105,17 +106,17 @@ returns-in-Err-clause-tells g c =
 
 pub returns-clause-tells : goal.returns-clause-tells
 returns-clause-tells g c =
-    let within = c.loop-end.invariant.within in
-    let ended = ap placed_end c.loop-end.invariant.next_is in
-    let behind = c.loop-end-test.false in
+    let within = c.loop-held.invariant.within in
+    let ended = ap placed_end c.loop-held.invariant.next_is in
+    let behind = c.loop-held-test.false in
     let next = c.next_lsn.ensures in
     let end = c.requires.end in record {
-      few = c.loop-end.invariant.few;
-      next_is = c.loop-end.invariant.next_is;
-      earlier = (view_of c.loop-end.seated).told;
+      few = c.loop-held.invariant.few;
+      next_is = c.loop-held.invariant.next_is;
+      earlier = (view_of c.loop-held.seated).told;
       stop = omega (arith, within, behind, next, end, ended);
       told = λ some left. absurd (omega (arith, left, behind, next, end, ended));
-      silent = c.loop-end.invariant.silent;
+      silent = c.loop-held.invariant.silent;
     }
 
 pub returns-in-Err-clause-copies_on : goal.returns-in-Err-clause-copies_on
@@ -124,8 +125,8 @@ returns-in-Err-clause-copies_on g c =
     let told = c.tell_progress.ensures.view in
     copied_on first c.copy_some.new.placed c.copy_some.new.placed c.args.seated.now
     c.copy_some.new.seated c.tell_progress.new.seated
-    (copied_on first c.loop-end.placed c.copy_some.new.placed c.args.seated.now
-    c.loop-end.seated c.copy_some.new.seated c.loop-end.invariant.copies_on
+    (copied_on first c.loop-held.placed c.copy_some.new.placed c.args.seated.now
+    c.loop-held.seated c.copy_some.new.seated c.loop-held.invariant.copies_on
     c.copy_some.ensures.copies_on)
     (stood_still c.copy_some.new.placed c.copy_some.new.seated c.tell_progress.new.seated
     (told_keeps c.copy_some.new.seated c.tell_progress.new.seated

@@ -2,15 +2,16 @@
 use Rattle.std.proofs.Common.{◌≡◌, ◌+◌, ◌-◌, ◌*◌, ◌≤◌}
 use Rattle.wal_page.specs.Placed.{placed_end}
 use Rattle.wal_rule.specs.SeatedPasses.{view_of}
+use Rattle.insert_locks.specs.Holding.{locks_of}
 use Rattle.wal_log.specs.Copying.{CopyGoesOn}
 use Rattle.wal_log.specs.Downs.{KnowsNoFault}
 use Rattle.wal_log.specs.Standing.{CopiesAlone}
 use Rattle.wal_log.proofs.copying.copy_front.Given as goal
 
-abbrev pub invariant-loop-end : goal.invariant-loop-end
-invariant-loop-end g l = record {
+abbrev pub invariant-loop-held : goal.invariant-loop-held
+invariant-loop-held g l = record {
   few : l.k ≤ l.most;
-  copies : CopiesAlone l.lock l.placed l.seated;
+  copies : CopiesAlone (locks_of l.held) l.placed l.seated;
   next_is : l.placed ≡ record l.fn.placed { next = l.fn.placed.next + 8 * l.k };
   within : l.placed.next ≤ placed_end l.placed;
   copies_on : CopyGoesOn l.fn.placed l.placed l.fn.seated l.seated;
@@ -18,5 +19,5 @@ invariant-loop-end g l = record {
   silent : l.most ≡ 0 → view_of l.seated ≡ view_of l.fn.seated;
 }
 
-abbrev pub decreases-loop-end : goal.decreases-loop-end
-decreases-loop-end g l = l.most - l.k
+abbrev pub decreases-loop-held : goal.decreases-loop-held
+decreases-loop-held g l = l.most - l.k

@@ -1,5 +1,5 @@
 use Rattle.std.proofs.Common.{refl, arith}
-use Rattle.wal_log.proofs.CopyLaws.{alone_low, reached_stays, went_on}
+use Rattle.wal_log.proofs.CopyLaws.{alone_low, copies_still, reached_stays, went_on}
 use Rattle.wal_log.proofs.copying.copy_some.Goals as goal
 
 pub reach_page-requires-clause-low : goal.reach_page-requires-clause-low
@@ -7,6 +7,13 @@ reach_page-requires-clause-low g c =
     let copies = c.requires.copies in
     let low = alone_low c.args.seated.now copies.0 c.args.placed.now copies.1 in
     omega (arith, low, c.next_lsn-next.ensures)
+
+pub returns-in-Err-clause-copies : goal.returns-in-Err-clause-copies
+returns-in-Err-clause-copies g c =
+    copies_still c.args.seated.now c.reach_page.new.seated c.reach_page.ensures.maps.stays
+    c.args.placed.now c.args.placed.now
+    (reached_stays c.args.placed.now c.args.seated.now c.reach_page.new.seated
+    c.reach_page.ensures.maps)
 
 pub returns-in-Err-clause-copies_on : goal.returns-in-Err-clause-copies_on
 returns-in-Err-clause-copies_on g c =

@@ -1,10 +1,11 @@
-use Rattle.std.proofs.Common.{◌≡◌, ℕ, sym, ap, ◌∙◌, subst}
+use Rattle.std.proofs.Common.{◌≡◌, ℕ, List, sym, ap, ◌∙◌, subst}
 use Rattle.std.proofs.lemmas.Result.{err_from_is_err_and}
 use Rattle.wal_page.specs.Placed.{PlacedState}
 use Rattle.wal_core.specs.Moves.{after_advance}
 use Rattle.wal_core.specs.Views.{Idle, View}
 use Rattle.wal_rule.specs.declared.seated.SeatedPass.{SeatedPass}
 use Rattle.wal_rule.specs.SeatedPasses.{HasView, StaysSeated, view_of}
+use Rattle.insert_locks.specs.Holding.{locks_of}
 use Rattle.insert_locks.specs.declared.watching.Watched.{Watched}
 use Rattle.wal_log.specs.Downs.{KnowsNoFault}
 use Rattle.wal_log.specs.Hands.{TellsTurnErr}
@@ -26,11 +27,11 @@ use Rattle.wal_log.proofs.writing.write_early.Goals.{After-give_back, After-take
 -- ---- an exit
 
 -- a pass that copied alone, which added nothing and has no turn, goes on to copy
-module _ {D : Type 0} (old new : SeatedPass D) (lock : ℕ) (placed : PlacedState)
-    (copies : CopiesAlone lock placed old) (adds : AddsNothing old new) (rests : HasNoTurn new)
+module _ {D : Type 0} (old new : SeatedPass D) (locks : List ℕ) (placed : PlacedState)
+    (copies : CopiesAlone locks placed old) (adds : AddsNothing old new) (rests : HasNoTurn new)
   where
-    alone : CopiesAlone lock placed new
-    alone = alone_still old new (adds.works).same_table (adds.works).work rests lock placed copies
+    alone : CopiesAlone locks placed new
+    alone = alone_still old new (adds.works).same_table (adds.works).work rests locks placed copies
 
     goes_on : CopyGoesOn placed placed old new
     goes_on = stood_still placed old new (record {
@@ -43,7 +44,7 @@ module _ {D : Type 0} (old new : SeatedPass D) (lock : ℕ) (placed : PlacedStat
 
 -- ---- behind the watch
 
--- what a lock was told is no matter
+-- what locks were told is no matter
 leaves_told : (upto : ℕ) (v w : View) → LeavesAll (after_advance upto v) w → LeavesAll v w
 leaves_told upto v w left = record {
   work = record {
@@ -100,7 +101,7 @@ pub returns-in-Behind-clause-copies : goal.returns-in-Behind-clause-copies
 returns-in-Behind-clause-copies g c =
     let at = (goal.at.returns-in-Behind-clause-copies g c).After-watch in
     let is = c.in-Behind.is in
-    alone c.args.seated.now c.watch.new.seated c.args.lock c.args.placed.now c.requires.copies
+    alone c.args.seated.now c.watch.new.seated (locks_of c.args.held) c.args.placed.now c.requires.copies
     (behind g at c.in-Behind.lock c.in-Behind.word is).adds
     (stopped g at c.in-Behind.lock c.in-Behind.word is)
 
@@ -108,7 +109,7 @@ pub returns-in-Behind-clause-copies_on : goal.returns-in-Behind-clause-copies_on
 returns-in-Behind-clause-copies_on g c =
     let at = (goal.at.returns-in-Behind-clause-copies_on g c).After-watch in
     let is = c.in-Behind.is in
-    goes_on c.args.seated.now c.watch.new.seated c.args.lock c.args.placed.now c.requires.copies
+    goes_on c.args.seated.now c.watch.new.seated (locks_of c.args.held) c.args.placed.now c.requires.copies
     (behind g at c.in-Behind.lock c.in-Behind.word is).adds
     (stopped g at c.in-Behind.lock c.in-Behind.word is)
 
@@ -146,7 +147,7 @@ module _ (g : Over) (c : After-take_ready g)
 pub returns-in_err-take_ready-clause-copies : goal.returns-in_err-take_ready-clause-copies
 returns-in_err-take_ready-clause-copies g c =
     let path = goal.at.returns-in_err-take_ready-clause-copies g c in
-    alone c.args.seated.now c.take_ready.new.seated c.args.lock c.args.placed.now
+    alone c.args.seated.now c.take_ready.new.seated (locks_of c.args.held) c.args.placed.now
     c.requires.copies
     (tried g path.After-take_ready
     (all_seen g path.After-watch c.in-Finished.upto c.in-Finished.is))
@@ -155,7 +156,7 @@ returns-in_err-take_ready-clause-copies g c =
 pub returns-in_err-take_ready-clause-copies_on : goal.returns-in_err-take_ready-clause-copies_on
 returns-in_err-take_ready-clause-copies_on g c =
     let path = goal.at.returns-in_err-take_ready-clause-copies_on g c in
-    goes_on c.args.seated.now c.take_ready.new.seated c.args.lock c.args.placed.now
+    goes_on c.args.seated.now c.take_ready.new.seated (locks_of c.args.held) c.args.placed.now
     c.requires.copies
     (tried g path.After-take_ready
     (all_seen g path.After-watch c.in-Finished.upto c.in-Finished.is))
@@ -189,7 +190,7 @@ module _ (g : Over) (c : After-write_known g)
 pub returns-in_err-write_known-clause-copies : goal.returns-in_err-write_known-clause-copies
 returns-in_err-write_known-clause-copies g c =
     let path = goal.at.returns-in_err-write_known-clause-copies g c in
-    alone c.args.seated.now c.write_known.new.seated c.args.lock c.args.placed.now
+    alone c.args.seated.now c.write_known.new.seated (locks_of c.args.held) c.args.placed.now
     c.requires.copies
     (written g path.After-write_known (tried g path.After-take_ready
     (all_seen g path.After-watch c.in-Finished.upto c.in-Finished.is)))
@@ -198,7 +199,7 @@ returns-in_err-write_known-clause-copies g c =
 pub returns-in_err-write_known-clause-copies_on : goal.returns-in_err-write_known-clause-copies_on
 returns-in_err-write_known-clause-copies_on g c =
     let path = goal.at.returns-in_err-write_known-clause-copies_on g c in
-    goes_on c.args.seated.now c.write_known.new.seated c.args.lock c.args.placed.now
+    goes_on c.args.seated.now c.write_known.new.seated (locks_of c.args.held) c.args.placed.now
     c.requires.copies
     (written g path.After-write_known (tried g path.After-take_ready
     (all_seen g path.After-watch c.in-Finished.upto c.in-Finished.is)))
@@ -231,7 +232,7 @@ returns-clause-copies g c =
     let at = path.After-give_back in
     let before = written g path.After-write_known (tried g path.After-take_ready
     (all_seen g path.After-watch c.in-Finished.upto c.in-Finished.is)) in
-    alone c.args.seated.now c.give_back.new.seated c.args.lock c.args.placed.now
+    alone c.args.seated.now c.give_back.new.seated (locks_of c.args.held) c.args.placed.now
     c.requires.copies (given g at before) (given_rests g at)
 
 pub returns-clause-copies_on : goal.returns-clause-copies_on
@@ -240,7 +241,7 @@ returns-clause-copies_on g c =
     let at = path.After-give_back in
     let before = written g path.After-write_known (tried g path.After-take_ready
     (all_seen g path.After-watch c.in-Finished.upto c.in-Finished.is)) in
-    goes_on c.args.seated.now c.give_back.new.seated c.args.lock c.args.placed.now
+    goes_on c.args.seated.now c.give_back.new.seated (locks_of c.args.held) c.args.placed.now
     c.requires.copies (given g at before) (given_rests g at)
 
 pub returns-clause-ends : goal.returns-clause-ends

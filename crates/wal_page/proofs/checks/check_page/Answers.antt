@@ -1,7 +1,7 @@
-use Rattle.std.proofs.Common.{◌≡◌, ◌==◌, nat_lt, Bool, true, false, sym, ◌∙◌, arith}
+use Rattle.std.proofs.Common.{◌≡◌, true, sym, ◌∙◌, arith}
 use Rattle.std.proofs.lemmas.Bool.{eq-eqb, le-ltb}
 use Rattle.std.proofs.lemmas.Result.{err_from_is_err_and}
-use Rattle.wal_page.specs.Page.{is_first_page, is_long, info_of}
+use Rattle.wal_page.specs.Page.{is_first_page, is_long}
 use Rattle.wal_page.proofs.PageRows.{long_header_faulted}
 use Rattle.wal_page.proofs.checks.check_page.Goals as goal
 use Rattle.wal_page.proofs.checks.check_page.Goals.{else-not-is_first-via-then-not-is_first+else-is_long, else-not-is_first-via-else-not-is_first}

@@ -1,7 +1,11 @@
-use Rattle.std.proofs.Common.{rules, ◌≡◌, ℕ, List, take, drop, sym, ap, ◌∙◌}
+use Rattle.std.proofs.Common.{◌≡◌, ℕ, List, take, drop, sym, ap, ◌∙◌}
 use Rattle.std.proofs.lemmas.Result.{err_from_is_err_and}
+use Rattle.byte_position.specs.Position.{end_address_of}
+use Rattle.wal_reader.specs.declared.found.FoundRecord.{FoundRecord}
 use Rattle.wal_reader.specs.declared.record_place.RecordPlace.{RecordPlace}
-use Rattle.wal_reader.proofs.RecordReads.{header_fails_here, crc_fails_here, read_here, found_here, end_in_page, goes_on_behind}
+use Rattle.wal_reader.specs.RecordRead.{behind_read, without_place}
+use Rattle.wal_reader.specs.Spelled.{IsSpelled}
+use Rattle.wal_reader.proofs.RecordReads.{of_found, header_fails_here, crc_fails_here, read_here, found_here, end_in_page, goes_on_behind}
 use Rattle.wal_reader.proofs.record_reading.read_in_page.Goals as goal
 use Rattle.wal_reader.proofs.record_reading.read_in_page.Goals.{After-part_of_page-bytes}
 
@@ -26,31 +30,36 @@ pub found-requires-clause-end : goal.found-requires-clause-end
 found-requires-clause-end c =
     end_in_page c.args.cache.now.geometry c.args.opened.extent.at.position c.args.opened.extent.total c.args.opened.cursor c.requires.opened.none.gathered c.requires.within c.requires.opened.large c.requires.opened.none.reachable.aligned
 
-pub returns-in_err-found-2-clause-reads : goal.returns-in_err-found-2-clause-reads
-returns-in_err-found-2-clause-reads c = λ pages here.
-    let before = (goal.at.returns-in_err-found-2-clause-reads c).After-part_of_page-bytes in
+pub returns-in_err-read-clause-reads : goal.returns-in_err-read-clause-reads
+returns-in_err-read-clause-reads c = λ pages here.
+    let before = (goal.at.returns-in_err-read-clause-reads c).After-part_of_page-bytes in
     let size = c.args.cache.now.geometry in
-    let stop = err_from_is_err_and c.from_residual-in_err-found-2.result c.from_residual-in_err-found-2.ensures.1 in
+    let stop = err_from_is_err_and c.from_residual-in_err-read.result c.from_residual-in_err-read.ensures.1 in
     let read = read_here size pages c.args.opened.extent.at c.start-start.result c.args.opened.extent.total c.args.opened.cursor _ _ c.start-start.ensures c.requires.opened.page c.requires.opened.none.gathered here c.requires.whole c.requires.opened.large c.requires.within (own before) c.in_ok-check_header.ensures c.in_ok-check_crc.ensures in
-    rw (stop.1, stop.2) (read ∙ sym c.in_ok-found.ensures.read ∙ c.in_err-found-2.was)
+    rw (stop.1, stop.2) (read ∙ sym c.in_ok-found.ensures.read ∙ ap without_place c.in_err-read.was)
 
 pub returns-clause-answered : goal.returns-clause-answered
 returns-clause-answered c =
     let size = c.args.cache.now.geometry in
     let extent = c.args.opened.extent in
+    let read = c.in_ok-read.read in
     let bound = end_in_page size extent.at.position extent.total c.args.opened.cursor c.requires.opened.none.gathered c.requires.within c.requires.opened.large c.requires.opened.none.reachable.aligned in
+    let behind = of_found c.in_ok-found.field-0 (λ (read : FoundRecord × RecordPlace). read.1 ≡ behind_read size extent.at read.0 extent.total c.args.opened.cursor.timeline) read c.in_ok-read.was c.in_ok-found.ensures.behind in
+    let ends = of_found c.in_ok-found.field-0 (λ (read : FoundRecord × RecordPlace). read.0.end.0 ≡ end_address_of size read.1.position) read c.in_ok-read.was c.in_ok-found.ensures.end in
     record {
-      further = goes_on_behind size c.requires.opened.none.gathered.stands.valid extent.at c.behind-behind.result extent.total c.in_ok-found-2.found.value c.requires.opened.none.reachable c.requires.opened.large (bound c.in_ok-found-2.found.value) (ap (λ (next : RecordPlace). next.position) c.behind-behind.ensures);
-      behind = search rules;
-      spelled = search rules;
+      further = goes_on_behind size c.requires.opened.none.gathered.stands.valid extent.at read.1 extent.total read.0.value c.requires.opened.none.reachable c.requires.opened.large (bound read.0.value) (ap (λ (next : RecordPlace). next.position) behind);
+      behind = (sym ends, ap (λ (next : RecordPlace). next.prev) behind);
+      spelled = of_found c.in_ok-found.field-0 (λ (read : FoundRecord × RecordPlace). IsSpelled read.0) read c.in_ok-read.was c.in_ok-found.ensures.spelled;
     }
 
 pub returns-clause-reads : goal.returns-clause-reads
 returns-clause-reads c = λ pages here.
     let before = (goal.at.returns-clause-reads c).After-part_of_page-bytes in
     let size = c.args.cache.now.geometry in
-    let found = c.in_ok-found-2.found in
-    let read = read_here size pages c.args.opened.extent.at c.start-start.result c.args.opened.extent.total c.args.opened.cursor _ _ c.start-start.ensures c.requires.opened.page c.requires.opened.none.gathered here c.requires.whole c.requires.opened.large c.requires.within (own before) c.in_ok-check_header.ensures c.in_ok-check_crc.ensures in
-    let said = sym c.in_ok-found.ensures.read ∙ c.in_ok-found-2.was in
-    let behind = found_here size pages c.args.opened.extent.at c.start-start.result c.args.opened.extent.total c.args.opened.cursor _ _ c.start-start.ensures c.requires.opened.page c.requires.opened.none.gathered here c.requires.whole c.requires.opened.large c.requires.within (own before) found c.requires.opened.none.on.1 said in
-    (read ∙ said, c.behind-behind.ensures ∙ behind)
+    let extent = c.args.opened.extent in
+    let read = c.in_ok-read.read in
+    let reads = read_here size pages extent.at c.start-start.result extent.total c.args.opened.cursor _ _ c.start-start.ensures c.requires.opened.page c.requires.opened.none.gathered here c.requires.whole c.requires.opened.large c.requires.within (own before) c.in_ok-check_header.ensures c.in_ok-check_crc.ensures in
+    let said = sym c.in_ok-found.ensures.read ∙ ap without_place c.in_ok-read.was in
+    let at_page = of_found c.in_ok-found.field-0 (λ (read : FoundRecord × RecordPlace). read.1 ≡ behind_read size extent.at read.0 extent.total c.args.opened.cursor.timeline) read c.in_ok-read.was c.in_ok-found.ensures.behind in
+    let behind = found_here size pages extent.at c.start-start.result extent.total c.args.opened.cursor _ _ c.start-start.ensures c.requires.opened.page c.requires.opened.none.gathered here c.requires.whole c.requires.opened.large c.requires.within (own before) read.0 c.requires.opened.none.on.1 said in
+    (reads ∙ said, at_page ∙ behind)

@@ -1,14 +1,17 @@
-use Rattle.std.proofs.Common.{rules, ◌≡◌, ℕ, ◌/◌, Ok, Err, refl, vec_len, sym, ap, ◌∙◌, arith}
+use Rattle.std.proofs.Common.{◌≡◌, ℕ, ◌/◌, Ok, Err, refl, vec_len, sym, ap, ◌∙◌, arith}
 use Rattle.std.proofs.lemmas.Result.{err_from_is_err_and}
-use Rattle.byte_position.specs.Position.{address_of}
+use Rattle.byte_position.specs.Position.{address_of, end_address_of}
+use Rattle.wal_reader.specs.declared.found.FoundRecord.{FoundRecord}
 use Rattle.wal_reader.specs.declared.record_place.RecordPlace.{RecordPlace}
+use Rattle.wal_reader.specs.RecordRead.{behind_read, without_place}
+use Rattle.wal_reader.specs.Spelled.{IsSpelled}
 use Rattle.wal_reader.specs.PageCursor.{Crosses, HasGathered, HoldsPassed, Sees}
 use Rattle.wal_reader.specs.Pages.{Pages, bytes_from}
 use Rattle.wal_reader.specs.ReadsOn.{ReadsOn}
 use Rattle.wal_reader.proofs.ReadsOnLaws.{reads_more}
 use Rattle.wal_reader.proofs.CacheLaws.{held_page}
 use Rattle.wal_reader.proofs.GatherLaws.{holds_behind}
-use Rattle.wal_reader.proofs.RecordReads.{stopped_before_header, header_fails_over, stopped_over, crc_fails_over, read_over, found_as, found_behind, end_in_reach, goes_on_behind, bytes_from-none}
+use Rattle.wal_reader.proofs.RecordReads.{stopped_before_header, header_fails_over, stopped_over, crc_fails_over, read_over, found_as, found_behind, of_found, end_in_reach, goes_on_behind, bytes_from-none}
 use Rattle.wal_reader.proofs.record_reading.read_over_pages.Goals as goal
 use Rattle.wal_reader.proofs.record_reading.read_over_pages.Goals.{After-gather, After-check_header, After-check_crc}
 
@@ -70,16 +73,16 @@ found-requires-clause-end g c =
     let after = (goal.at.found-requires-clause-end g c).After-check_crc in
     end_in_reach c.args.buffers.now.cache.geometry c.args.opened.extent.at.position c.args.opened.extent.total c.in_ok-cursor-2.cursor (gathered_all g after) c.requires.none.reachable.aligned (omega (arith, c.requires.large))
 
-pub returns-in_err-found-2-clause-reads : goal.returns-in_err-found-2-clause-reads
-returns-in_err-found-2-clause-reads g c = λ pages sees.
-    let before = (goal.at.returns-in_err-found-2-clause-reads g c).After-check_header in
-    let after = (goal.at.returns-in_err-found-2-clause-reads g c).After-check_crc in
-    let stop = err_from_is_err_and c.from_residual-in_err-found-2.result c.from_residual-in_err-found-2.ensures.1 in
+pub returns-in_err-read-clause-reads : goal.returns-in_err-read-clause-reads
+returns-in_err-read-clause-reads g c = λ pages sees.
+    let before = (goal.at.returns-in_err-read-clause-reads g c).After-check_header in
+    let after = (goal.at.returns-in_err-read-clause-reads g c).After-check_crc in
+    let stop = err_from_is_err_and c.from_residual-in_err-read.result c.from_residual-in_err-read.ensures.1 in
     let first = c.in_ok-cursor.ensures in
     let bytes = c.deref-2.ensures.value ∙ record_items g after pages sees (header_items g before pages sees) in
     let read = read_over c.args.buffers.now.cache.geometry pages c.args.opened.extent.at c.start-start.result c.args.opened.extent.total c.start-start.ensures c.args.opened.cursor.page c.in_ok-cursor.cursor.page c.in_ok-cursor-2.cursor.page c.requires.page ((header_stands g before).last (omega arith)) ((gathered_all g after).last (omega (arith, c.requires.large))) (first.gathers pages sees).checks _ (header_gathered g before pages sees) c.in_ok-check_header.ensures (crosses_further g after pages sees) _ bytes c.in_ok-check_crc.ensures in
     let same = c.deref-3.ensures.value ∙ sym c.deref-2.ensures.value in
-    let said = found_as c.args.buffers.now.cache.geometry c.args.opened.extent.at c.args.opened.extent.total c.deref-2.result.now c.deref-3.result.now c.in_ok-found.field-0 (Err c.in_err-found-2.field-0.0) same c.in_ok-found.ensures.read c.in_err-found-2.was in
+    let said = found_as c.args.buffers.now.cache.geometry c.args.opened.extent.at c.args.opened.extent.total c.deref-2.result.now c.deref-3.result.now (without_place c.in_ok-found.field-0) (Err c.in_err-read.field-0.0) same c.in_ok-found.ensures.read (ap without_place c.in_err-read.was) in
     rw (stop.1, stop.2) (read ∙ said)
 
 pub returns-clause-answered : goal.returns-clause-answered
@@ -87,10 +90,14 @@ returns-clause-answered g c =
     let extent = c.args.opened.extent in
     let after = (goal.at.returns-clause-answered g c).After-check_crc in
     let bound = end_in_reach c.args.buffers.now.cache.geometry extent.at.position extent.total c.in_ok-cursor-2.cursor (gathered_all g after) c.requires.none.reachable.aligned (omega (arith, c.requires.large)) in
+    let size = c.args.buffers.now.cache.geometry in
+    let read = c.in_ok-read.read in
+    let behind = of_found c.in_ok-found.field-0 (λ (read : FoundRecord × RecordPlace). read.1 ≡ behind_read size extent.at read.0 extent.total c.in_ok-cursor-2.cursor.timeline) read c.in_ok-read.was c.in_ok-found.ensures.behind in
+    let ends = of_found c.in_ok-found.field-0 (λ (read : FoundRecord × RecordPlace). read.0.end.0 ≡ end_address_of size read.1.position) read c.in_ok-read.was c.in_ok-found.ensures.end in
     record {
-      further = goes_on_behind c.args.buffers.now.cache.geometry c.requires.none.gathered.stands.valid extent.at c.behind-behind.result extent.total c.in_ok-found-2.found.value c.requires.none.reachable c.requires.large (bound c.in_ok-found-2.found.value) (ap (λ (next : RecordPlace). next.position) c.behind-behind.ensures);
-      behind = search rules;
-      spelled = search rules;
+      further = goes_on_behind size c.requires.none.gathered.stands.valid extent.at read.1 extent.total read.0.value c.requires.none.reachable c.requires.large (bound read.0.value) (ap (λ (next : RecordPlace). next.position) behind);
+      behind = (sym ends, ap (λ (next : RecordPlace). next.prev) behind);
+      spelled = of_found c.in_ok-found.field-0 (λ (read : FoundRecord × RecordPlace). IsSpelled read.0) read c.in_ok-read.was c.in_ok-found.ensures.spelled;
     }
 
 -- the two reads, one behind the other
@@ -106,8 +113,8 @@ returns-in_err-check_crc-clause-reads_on g c = both g (goal.at.returns-in_err-ch
 pub returns-in_err-found-clause-reads_on : goal.returns-in_err-found-clause-reads_on
 returns-in_err-found-clause-reads_on g c = both g (goal.at.returns-in_err-found-clause-reads_on g c).After-check_crc
 
-pub returns-in_err-found-2-clause-reads_on : goal.returns-in_err-found-2-clause-reads_on
-returns-in_err-found-2-clause-reads_on g c = both g (goal.at.returns-in_err-found-2-clause-reads_on g c).After-check_crc
+pub returns-in_err-read-clause-reads_on : goal.returns-in_err-read-clause-reads_on
+returns-in_err-read-clause-reads_on g c = both g (goal.at.returns-in_err-read-clause-reads_on g c).After-check_crc
 
 pub returns-clause-reads_on : goal.returns-clause-reads_on
 returns-clause-reads_on g c = both g (goal.at.returns-clause-reads_on g c).After-check_crc
@@ -123,10 +130,12 @@ returns-clause-reads g c = λ pages sees.
     let ends = (gathered_all g after).last (omega (arith, c.requires.large)) in
     let read = read_over c.args.buffers.now.cache.geometry pages c.args.opened.extent.at c.start-start.result c.args.opened.extent.total c.start-start.ensures c.args.opened.cursor.page c.in_ok-cursor.cursor.page last.page c.requires.page ((header_stands g before).last (omega arith)) ends (first.gathers pages sees).checks _ (header_gathered g before pages sees) c.in_ok-check_header.ensures (crosses_further g after pages sees) _ bytes c.in_ok-check_crc.ensures in
     let same = c.deref-3.ensures.value ∙ sym c.deref-2.ensures.value in
-    let said = found_as c.args.buffers.now.cache.geometry c.args.opened.extent.at c.args.opened.extent.total c.deref-2.result.now c.deref-3.result.now c.in_ok-found.field-0 (Ok c.in_ok-found-2.found) same c.in_ok-found.ensures.read c.in_ok-found-2.was in
+    let said = found_as c.args.buffers.now.cache.geometry c.args.opened.extent.at c.args.opened.extent.total c.deref-2.result.now c.deref-3.result.now (without_place c.in_ok-found.field-0) (Ok c.in_ok-read.read.0) same c.in_ok-found.ensures.read (ap without_place c.in_ok-read.was) in
     let here = held_page (g.D.Disk.tape c.gather-2.new.disk) c.gather-2.new.buffers.cache pages last.page (second.reads_on.sees pages (first.reads_on.sees pages sees)) second.gathered.1.on.0 in
-    let behind = found_behind c.args.buffers.now.cache.geometry pages c.args.opened.extent.at c.args.opened.extent.total _ _ c.in_ok-found-2.found last c.gather-2.new.buffers.cache.bytes.value said ends here second.gathered.1.on.1 in
-    (read ∙ said, c.behind-behind.ensures ∙ behind)
+    let behind = found_behind c.args.buffers.now.cache.geometry pages c.args.opened.extent.at c.args.opened.extent.total _ _ c.in_ok-read.read.0 last c.gather-2.new.buffers.cache.bytes.value said ends here second.gathered.1.on.1 in
+    let extent = c.args.opened.extent in
+    let at_page = of_found c.in_ok-found.field-0 (λ (read : FoundRecord × RecordPlace). read.1 ≡ behind_read c.args.buffers.now.cache.geometry extent.at read.0 extent.total last.timeline) c.in_ok-read.read c.in_ok-read.was c.in_ok-found.ensures.behind in
+    (read ∙ said, at_page ∙ behind)
 
 -- ---- what the room holds
 
@@ -163,8 +172,8 @@ returns-in_err-check_crc-clause-room g c = λ pages sees. holds_all g (goal.at.r
 pub returns-in_err-found-clause-room : goal.returns-in_err-found-clause-room
 returns-in_err-found-clause-room g c = λ pages sees. holds_all g (goal.at.returns-in_err-found-clause-room g c).After-check_crc pages sees (header_items g (goal.at.returns-in_err-found-clause-room g c).After-check_header pages sees)
 
-pub returns-in_err-found-2-clause-room : goal.returns-in_err-found-2-clause-room
-returns-in_err-found-2-clause-room g c = λ pages sees. holds_all g (goal.at.returns-in_err-found-2-clause-room g c).After-check_crc pages sees (header_items g (goal.at.returns-in_err-found-2-clause-room g c).After-check_header pages sees)
+pub returns-in_err-read-clause-room : goal.returns-in_err-read-clause-room
+returns-in_err-read-clause-room g c = λ pages sees. holds_all g (goal.at.returns-in_err-read-clause-room g c).After-check_crc pages sees (header_items g (goal.at.returns-in_err-read-clause-room g c).After-check_header pages sees)
 
 pub returns-clause-room : goal.returns-clause-room
 returns-clause-room g c = λ pages sees. holds_all g (goal.at.returns-clause-room g c).After-check_crc pages sees (header_items g (goal.at.returns-clause-room g c).After-check_header pages sees)

@@ -1,6 +1,6 @@
 use Rattle.std.proofs.Common.{◌≡◌, ◌∷◌, arith}
 use Rattle.std.proofs.lemmas.Grind.{common_steps}
-use Rattle.wal_script.specs.Asked.{Insert, Commit}
+use Rattle.wal_script.specs.Asked.{Insert, Commit, CommitAsync}
 use Rattle.wal_script.specs.Meaning.{asks, line_with}
 use Rattle.wal_script.proofs.Words.{line_with_long_word}
 use Rattle.wal_script.proofs.parser.action_by.Goals as goal
@@ -16,6 +16,12 @@ returns-in_ok-commit-in-C c =
     let read = c.in_ok-commit-in-C.ensures in
     let means : line_with (c.args.word.now ∷ c.args.fields) ≡ asks (Commit read.0) = grind (arith, common_steps) in
     (Commit read.0, means, read.2)
+
+pub returns-in_ok-commit-in-A : goal.returns-in_ok-commit-in-A
+returns-in_ok-commit-in-A c =
+    let read = c.in_ok-commit-in-A.ensures in
+    let means : line_with (c.args.word.now ∷ c.args.fields) ≡ asks (CommitAsync read.0) = grind (arith, common_steps) in
+    (CommitAsync read.0, means, read.2)
 
 pub returns-in_default : goal.returns-in_default
 returns-in_default c = grind (arith, common_steps, line_with_long_word)

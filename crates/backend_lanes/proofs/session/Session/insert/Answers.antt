@@ -2,13 +2,17 @@ use Rattle.std.specs.Prelude.{Err}
 use Rattle.std.proofs.Common.{refl, sym, ap, ◌∙◌}
 use Rattle.wal_types.specs.declared.answers.Refused.{Refused}
 use Rattle.told_lines.specs.Answered.{told_of_insert}
-use Rattle.backend_lanes.proofs.Answering.{end_behind, insert_leaves_session, insert_plays_answer, told_of_inserted}
+use Rattle.backend_lanes.proofs.Answering.{no_switch, end_behind, insert_leaves_session, insert_plays_answer, told_of_inserted}
 use Rattle.backend_lanes.proofs.session.Session.insert.Goals as goal
+
+pub insert-requires-clause-inserted : goal.insert-requires-clause-inserted
+insert-requires-clause-inserted g c =
+    no_switch c.args.body.now c.requires.record.0 c.requires.record.1
 
 pub returns-in-Ok-clause-plays : goal.returns-in-Ok-clause-plays
 returns-in-Ok-clause-plays g c =
     insert_plays_answer c.args.log.now c.args.self.now c.note.new.self c.insert.new.pass
-    c.requires c.note.ensures.pass c.insert.ensures.keeps c.insert.ensures.pass
+    c.requires.session c.note.ensures.pass c.insert.ensures.keeps c.insert.ensures.pass
     c.of_insert.result c.args.body.now c.insert.result
     (c.of_insert.ensures ∙ ap told_of_inserted (sym c.in-Ok.is)) c.insert.ensures.inserts
     c.body_knows_its_record.ensures c.insert.ensures.down_again
@@ -16,7 +20,7 @@ returns-in-Ok-clause-plays g c =
 pub returns-in-Ok-clause-leaves : goal.returns-in-Ok-clause-leaves
 returns-in-Ok-clause-leaves g c =
     insert_leaves_session c.args.log.now c.args.self.now c.note.new.self c.insert.new.pass
-    c.requires c.note.ensures.pass c.insert.ensures.keeps c.insert.ensures.pass
+    c.requires.session c.note.ensures.pass c.insert.ensures.keeps c.insert.ensures.pass
     c.of_insert.result c.args.body.now c.insert.result
     (c.of_insert.ensures ∙ ap told_of_inserted (sym c.in-Ok.is)) c.insert.ensures.inserts
     (c.note.ensures.end ∙ ap (end_behind c.args.self.now.end.0) (sym c.of_insert.ensures))
@@ -25,7 +29,7 @@ pub returns-in-Err-clause-plays : goal.returns-in-Err-clause-plays
 returns-in-Err-clause-plays g c =
     insert_plays_answer c.args.log.now c.args.self.now
     (record { pass = c.insert.new.pass; end = c.args.self.now.end }) c.insert.new.pass
-    c.requires refl c.insert.ensures.keeps c.insert.ensures.pass c.of_insert-in-Err.result
+    c.requires.session refl c.insert.ensures.keeps c.insert.ensures.pass c.of_insert-in-Err.result
     c.args.body.now c.insert.result
     (c.of_insert-in-Err.ensures ∙ ap (λ (r : Refused). told_of_insert (Err r)) c.into.ensures
     ∙ ap told_of_inserted (sym c.in-Err.is)) c.insert.ensures.inserts
@@ -35,7 +39,7 @@ pub returns-in-Err-clause-leaves : goal.returns-in-Err-clause-leaves
 returns-in-Err-clause-leaves g c =
     insert_leaves_session c.args.log.now c.args.self.now
     (record { pass = c.insert.new.pass; end = c.args.self.now.end }) c.insert.new.pass
-    c.requires refl c.insert.ensures.keeps c.insert.ensures.pass c.of_insert-in-Err.result
+    c.requires.session refl c.insert.ensures.keeps c.insert.ensures.pass c.of_insert-in-Err.result
     c.args.body.now c.insert.result
     (c.of_insert-in-Err.ensures ∙ ap (λ (r : Refused). told_of_insert (Err r)) c.into.ensures
     ∙ ap told_of_inserted (sym c.in-Err.is)) c.insert.ensures.inserts

@@ -7,9 +7,9 @@ use Rattle.wal_core.specs.Sound.{IsSetup}
 use Rattle.wal_core.specs.Words.{log_limit, log_start}
 use Rattle.machine_turns.specs.declared.lane.PlainBackend.{PlainBackend}
 use Rattle.machine_turns.specs.declared.script.PlainLine.{PlainLine}
+use Rattle.machine_turns.specs.Scripts.{InsertsLogRecord}
 use Rattle.machine_turns.specs.Writer.{state_of}
-use Rattle.machine_core.specs.Cores.{core_of, first_opening, machine_begun, rooms_of_scripts}
-use Rattle.machine_core.specs.Lines.{IsAsked}
+use Rattle.machine_core.specs.Cores.{core_of, first_opening, flushes_of_scripts, lines_of_scripts, machine_begun, rooms_of_scripts}
 use Rattle.machine_core.specs.Playing.{PlaysMachine}
 use Rattle.machine_core.proofs.FirstData.{begins_playing, scripts_asked, writer_first}
 use Rattle.machine_core.proofs.machine.Core.new.Goals as goal
@@ -40,6 +40,24 @@ end_is c = subst (λ (scripts : List (List PlainLine)). c.log_end-end.result
     (min (log_start c.in-Some.shape + rooms_of_scripts scripts) (log_limit c.in-Some.shape)))
     c.deref.ensures.value c.log_end-end.ensures.end
 
+lines_are : (c : goal.In_ok-lanes)
+    → c.line_count-lines.result ≡ lines_of_scripts c.args.scripts.items
+lines_are c = omega (
+  arith,
+  c.line_count-lines.ensures,
+  c.in_ok-writer.ensures.few.0,
+  ap lines_of_scripts c.deref-2.ensures.value,
+)
+
+flushes_are : (c : goal.In_ok-lanes)
+    → c.flush_count-flushes.result ≡ flushes_of_scripts c.args.scripts.items
+flushes_are c = omega (
+  arith,
+  c.flush_count-flushes.ensures,
+  c.in_ok-writer.ensures.few.1,
+  ap flushes_of_scripts c.deref-3.ensures.value,
+)
+
 pub returns-clause-plays : goal.returns-clause-plays
 returns-clause-plays c = λ asks are.
     let shape = c.in-Some.shape in
@@ -47,8 +65,8 @@ returns-clause-plays c = λ asks are.
     let pages = c.in_ok-words.ensures.pages
     ∙ ap (λ (s : Setup). s.ring_pages) (sym c.in-Some.ensures.1) in
     let plays = begins_playing shape (is_setup c) c.in_ok-words.words w c.args.fail.items
-    c.args.scripts.items (few_scripts c) (words_first c) pages c.log_end-end.result (end_is c)
-    c.in_ok-writer.ensures.first c.in_ok-writer.ensures.kept.1.whole asks are in
+    c.args.scripts.items (few_scripts c) (words_first c) pages c.log_end-end.result c.line_count-lines.result
+    c.flush_count-flushes.result (lines_are c) (flushes_are c) (end_is c) c.in_ok-writer.ensures.first c.in_ok-writer.ensures.kept.1.whole asks are in
     subst (λ (lanes : List PlainBackend). PlaysMachine (record {
       setup = shape;
       words = c.in_ok-words.words;
@@ -74,7 +92,7 @@ returns-clause-begun c =
       writer = subst (λ (s : Setup). IsFirstWriter (first_opening s) w.plain) c.in-Some.ensures.1
           (writer_first shape (is_setup c) c.in_ok-words.words w c.args.fail.items
           c.args.scripts.items (few_scripts c) (words_first c) pages c.log_end-end.result
-          (end_is c) c.in_ok-writer.ensures.first c.in_ok-writer.ensures.kept.1.whole);
+          c.line_count-lines.result c.flush_count-flushes.result (lines_are c) (flushes_are c) (end_is c) c.in_ok-writer.ensures.first c.in_ok-writer.ensures.kept.1.whole);
       first = (c.in_ok-writer.ensures.first).first;
       calls = (c.in_ok-writer.ensures.first).calls;
       failing_is = (c.in_ok-writer.ensures.first).failing_is;
@@ -82,8 +100,8 @@ returns-clause-begun c =
 
 pub returns-clause-played : goal.returns-clause-played
 returns-clause-played c =
-    let asked = scripts_asked c.args.scripts.items
-    (subst (All (All IsAsked)) c.deref.ensures.value c.log_end-end.ensures.asked) in (
+    let asked = scripts_asked c.args.scripts.items c.requires.no_switch
+    (subst (All (All InsertsLogRecord)) c.deref.ensures.value c.log_end-end.ensures.known) in (
       c.in_ok-writer.ensures.kept,
       (
         machine_begun (core_of (record {

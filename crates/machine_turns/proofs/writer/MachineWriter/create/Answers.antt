@@ -5,8 +5,7 @@ use Rattle.segment_disk.specs.MemDisk.{can_create, count_behind_create, counts_n
 use Rattle.segment_disk.specs.Tape.{IsMade, create_call, failed_call}
 use Rattle.wal_core.specs.Moves.{after_create}
 use Rattle.machine_turns.specs.Writer.{maybe, state_of}
-use Rattle.machine_turns.proofs.Bounds.{within_room}
-use Rattle.machine_turns.proofs.Keeping.{can_make, counts_below_room, done_by, err_fact, fails_counted, kept_create, listed_by, made_ok, rose_from_none, unmade_kind, writer_failed}
+use Rattle.machine_turns.proofs.Keeping.{can_make, counts_now, done_by, err_fact, fails_counted, kept_create, listed_by, made_ok, rose_from_none, unmade_kind, writer_failed}
 use Rattle.machine_turns.proofs.writer.MachineWriter.create.Goals as goal
 
 pub returns-then-done-clause-kept : goal.returns-then-done-clause-kept
@@ -29,8 +28,7 @@ returns-else-done-clause-writer c =
     let g = kept.going c.requires.due.up in
     let bad = sym c.is_ok-done.ensures.value ∙ c.if-done.false in
     let call = create_call w.geometry (w.made + 1) in
-    let counts = counts_below_room w.geometry w.end w.disk (state_of w).plain w.page kept g
-    (within_room w.geometry w.made w.written w.end (limits_of w.disk).segments c.requires.due.behind c.requires.due.within kept.segments) in
+    let counts = counts_now w.disk c.requires.due.has_room in
     let can = can_make w.geometry w.end w.disk (state_of w).plain w.page kept g c.requires.due.behind c.requires.due.within in
     let done = done_by (counts_next w.disk) (can_create w.disk (w.made + 1)) (is_listed (limits_of w.disk).failing (moment_of w.disk + 1)) (is_ok c.create.result) e.exact counts can in
     let listed = listed_by (is_listed (limits_of w.disk).failing (moment_of w.disk + 1)) (sym bad ∙ done) in

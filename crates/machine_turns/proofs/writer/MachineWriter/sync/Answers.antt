@@ -1,11 +1,11 @@
-use Rattle.std.proofs.Common.{refl, sym, ap, subst, ℕ, ◌+◌, ◌∙◌, is_ok, arith}
+use Rattle.std.proofs.Common.{refl, sym, subst, ℕ, ◌+◌, ◌∙◌, is_ok, arith}
 use Rattle.segment_disk.specs.Failing.{is_listed}
 use Rattle.segment_disk.specs.Cause.{RoseByOne}
 use Rattle.segment_disk.specs.MemDisk.{counts_next, faults_of, has_segment, limits_of, moment_of}
 use Rattle.segment_disk.specs.Tape.{sync_call}
 use Rattle.wal_core.specs.Moves.{after_sync}
-use Rattle.machine_turns.specs.Writer.{is_waiting, maybe, state_of}
-use Rattle.machine_turns.proofs.Keeping.{counts_waiting, done_by, fails_counted, kept_call, listed_by, made_ok, rose_from_none, none_is_not_some, writer_failed}
+use Rattle.machine_turns.specs.Writer.{maybe, state_of}
+use Rattle.machine_turns.proofs.Keeping.{counts_now, done_by, fails_counted, kept_call, listed_by, made_ok, rose_from_none, none_is_not_some, writer_failed}
 use Rattle.machine_turns.proofs.writer.MachineWriter.sync.Goals as goal
 
 pub returns-then-done-clause-kept : goal.returns-then-done-clause-kept
@@ -18,7 +18,7 @@ returns-then-done-clause-kept c =
     let call = sync_call w.geometry c.args.segment in
     let m = made_ok w.disk c.sync.new.self call c.sync.result good e.answers e.cause in (
       c.requires.kept.0,
-      kept_call w.geometry w.end w.disk c.sync.new.self w.page e.counted.limits m.faults call tt (state_of w).plain _ kept due.up m.made e.segments (omega arith) kept.within refl (omega (arith, ap is_waiting due.waits))
+      kept_call w.geometry w.end w.disk c.sync.new.self w.page e.counted.limits m.faults call tt (state_of w).plain _ kept due.up m.made e.segments (omega arith) kept.within refl
           (λ s at. absurd (none_is_not_some s at)),
     )
 
@@ -29,7 +29,7 @@ returns-else-done-clause-done c =
     let kept = c.requires.kept.1 in
     let g = kept.going due.up in
     let there = g.waits c.args.segment due.waits in
-    let counts = counts_waiting w.geometry w.end w.disk (state_of w).plain w.page kept g c.args.segment due.waits in
+    let counts = counts_now w.disk due.has_room in
     c.is_ok-done.ensures.value ∙ done_by (counts_next w.disk) (has_segment w.disk c.args.segment) (is_listed (limits_of w.disk).failing (moment_of w.disk + 1)) (is_ok c.sync.result) c.sync.ensures.exact counts (g.there c.args.segment there.0 there.1)
 
 pub returns-else-done-clause-writer : goal.returns-else-done-clause-writer
@@ -43,7 +43,7 @@ returns-else-done-clause-writer c =
     let there = g.waits c.args.segment due.waits in
     let bad = sym c.is_ok-done.ensures.value ∙ c.if-done.false in
     let call = sync_call w.geometry c.args.segment in
-    let counts = counts_waiting w.geometry w.end w.disk (state_of w).plain w.page kept g c.args.segment due.waits in
+    let counts = counts_now w.disk due.has_room in
     let done = done_by (counts_next w.disk) (has_segment w.disk c.args.segment) (is_listed (limits_of w.disk).failing (moment_of w.disk + 1)) (is_ok c.sync.result) e.exact counts (g.there c.args.segment there.0 there.1) in
     let listed = listed_by (is_listed (limits_of w.disk).failing (moment_of w.disk + 1)) (sym bad ∙ done) in
     let f = fails_counted w.disk new call e.counted counts c.sync.result bad e.answers e.cause in

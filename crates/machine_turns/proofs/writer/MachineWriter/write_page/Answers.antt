@@ -7,7 +7,7 @@ use Rattle.segment_disk.specs.MemDisk.{counts_next, faults_of, has_segment, limi
 use Rattle.segment_disk.specs.Tape.{write_call}
 use Rattle.wal_core.specs.Moves.{after_write}
 use Rattle.machine_turns.specs.Writer.{next_outcome, page_at, segment_at, state_of}
-use Rattle.machine_turns.proofs.Keeping.{counts_below_end, done_by, fails_counted, kept_call, listed_by, made_ok, rose_from_none, same_write, segment_is_made, some_same, writer_failed}
+use Rattle.machine_turns.proofs.Keeping.{counts_now, done_by, fails_counted, kept_call, listed_by, made_ok, rose_from_none, same_write, segment_is_made, some_same, writer_failed}
 use Rattle.machine_turns.proofs.writer.MachineWriter.write_page.Goals as goal
 
 pub returns-then-done-clause-kept : goal.returns-then-done-clause-kept
@@ -22,7 +22,7 @@ returns-then-done-clause-kept c =
     let m = made_ok w.disk c.write_page.new.self call c.write_page.result good e.answers e.cause in
     let there = segment_is_made w segment c.pages.result c.segment-segment.ensures due.is_made kept.begun c.pages.ensures.value c.pages.ensures.whole c.pages.ensures.bound.0 in (
       c.requires.kept.0,
-      kept_call w.geometry w.end w.disk c.write_page.new.self w.page e.counted.limits m.faults call tt (state_of w).plain _ kept due.up m.made e.segments (omega (arith, due.rises)) due.within refl (omega (arith, due.rises))
+      kept_call w.geometry w.end w.disk c.write_page.new.self w.page e.counted.limits m.faults call tt (state_of w).plain _ kept due.up m.made e.segments (omega (arith, due.rises)) due.within refl
           (λ s at. let same = some_same segment s at in (omega (arith, there.0, same), omega (arith, there.1, same))),
     )
 
@@ -35,7 +35,7 @@ returns-else-done-clause-done c =
     let g = kept.going due.up in
     let segment = c.segment-segment.result in
     let there = segment_is_made w segment c.pages.result c.segment-segment.ensures due.is_made kept.begun c.pages.ensures.value c.pages.ensures.whole c.pages.ensures.bound.0 in
-    let counts = counts_below_end w.geometry w.end w.disk (state_of w).plain w.page kept g (omega (arith, due.rises, due.within)) in
+    let counts = counts_now w.disk due.has_room in
     let done = done_by (counts_next w.disk) (has_segment w.disk segment) (is_listed (limits_of w.disk).failing (moment_of w.disk + 1)) (is_ok c.write_page.result) e.exact counts (g.there segment there.0 there.1) in
     c.is_ok-done.ensures.value ∙ done
 
@@ -52,7 +52,7 @@ returns-else-done-clause-writer c =
     let page = c.page.result % c.from.result in
     let call = write_call w.geometry segment page w.page in
     let there = segment_is_made w segment c.pages.result c.segment-segment.ensures due.is_made kept.begun c.pages.ensures.value c.pages.ensures.whole c.pages.ensures.bound.0 in
-    let counts = counts_below_end w.geometry w.end w.disk (state_of w).plain w.page kept g (omega (arith, due.rises, due.within)) in
+    let counts = counts_now w.disk due.has_room in
     let done = done_by (counts_next w.disk) (has_segment w.disk segment) (is_listed (limits_of w.disk).failing (moment_of w.disk + 1)) (is_ok c.write_page.result) e.exact counts (g.there segment there.0 there.1) in
     let listed = listed_by (is_listed (limits_of w.disk).failing (moment_of w.disk + 1)) (sym bad ∙ done) in
     let f = fails_counted w.disk new call e.counted counts c.write_page.result bad e.answers e.cause in

@@ -1,6 +1,7 @@
-use Rattle.std.proofs.Common.{◌≡◌, ◌∙◌, sym, refl}
-use Rattle.record_spelling.specs.Spelling.{IsWritable, assembled}
+use Rattle.std.proofs.Common.{◌≡◌, ◌∙◌, false, sym, subst, refl}
+use Rattle.record_spelling.specs.Spelling.{Assembled, IsWritable, assembled, inserted, is_assembled_switch}
 use Rattle.record_spelling.proofs.Acceptance.{accepted_record, writable}
+use Rattle.record_spelling.proofs.SwitchLaws.{is_assembled_switch-inserted}
 use Rattle.record_spelling.proofs.body.Body.assemble.Goals as goal
 
 pub after_header-requires-clause-blocks : goal.after_header-requires-clause-blocks
@@ -16,7 +17,7 @@ of_parts-requires c =
     let numbers = c.header_fits.ensures in
     record {
       value = r;
-      writable = writable r accepted numbers.0 numbers.1 numbers.2 c.in_ok-after_header.ensures.fits;
+      logged = inserted (writable r accepted numbers.0 numbers.1 numbers.2 c.in_ok-after_header.ensures.fits);
       same = rw c.in_ok-after_header.ensures.ok refl;
     }
 
@@ -28,3 +29,8 @@ returns-clause-ok c =
     let numbers = c.header_fits.ensures in
     let could : IsWritable r = writable r accepted numbers.0 numbers.1 numbers.2 c.in_ok-after_header.ensures.fits in
     (same, could)
+
+pub returns-clause-inserted : goal.returns-clause-inserted
+returns-clause-inserted c =
+    let made = returns-clause-ok c in
+    subst (λ (a : Assembled). is_assembled_switch a ≡ false) (sym made.0) (is_assembled_switch-inserted c.args.r.now made.1)

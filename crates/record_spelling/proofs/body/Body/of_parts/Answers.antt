@@ -7,4 +7,4 @@ pub invariant_of-result : goal.invariant_of-result
 invariant_of-result c =
     let fed = rw c.deref.ensures.value at (c.update.ensures [] c.new-crc.ensures) in
     let known = c.requires in
-    (fed, subst AssembledFits (sym known.same) (ready known.value known.writable), known)
+    (fed, subst AssembledFits (sym known.same) (ready known.value known.logged), known)

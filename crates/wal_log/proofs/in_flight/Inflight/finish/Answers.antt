@@ -1,6 +1,7 @@
 use Rattle.std.proofs.Common.{◌≡◌, refl, arith}
 use Rattle.wal_page.specs.Placed.{placed_end}
-use Rattle.wal_log.proofs.FlightLaws.{flight_ended, flight_finishes, may_finish}
+use Rattle.insert_locks.proofs.Runs.{one_lock}
+use Rattle.wal_log.proofs.FlightLaws.{flight_ended, flight_finishes, flight_locks, flight_whole}
 use Rattle.wal_log.proofs.in_flight.Inflight.finish.Given.{Over}
 use Rattle.wal_log.proofs.in_flight.Inflight.finish.Goals as goal
 use Rattle.wal_log.proofs.in_flight.Inflight.finish.Goals.{After-seat-seated}
@@ -14,17 +15,26 @@ ended g c =
     flight_ended c.args.wal.now c.args.self c.requires.flight c.seat-seated.result
     c.seat-seated.ensures.view c.seat-seated.ensures.table (omega (arith, far, next, end))
 
-pub release-requires-clause-may : goal.release-requires-clause-may
-release-requires-clause-may g c = may_finish c.args.wal.now c.args.self c.requires.flight
+pub release-requires-clause-locks : goal.release-requires-clause-locks
+release-requires-clause-locks g c =
+    one_lock c.args.self.begun.lock c.requires.flight.lock_low
+
+pub release-requires-clause-holds : goal.release-requires-clause-holds
+release-requires-clause-holds g c = flight_locks c.args.wal.now c.args.self c.requires.flight
     c.seat-seated.result c.seat-seated.ensures.view c.seat-seated.ensures.table
-    (ended g (goal.at.release-requires-clause-may g c).After-seat-seated)
+    (ended g (goal.at.release-requires-clause-holds g c).After-seat-seated)
+
+pub release-requires-clause-left : goal.release-requires-clause-left
+release-requires-clause-left g c = flight_whole c.args.wal.now c.args.self c.requires.flight
+    c.seat-seated.result c.seat-seated.ensures.view c.seat-seated.ensures.table
+    (ended g (goal.at.release-requires-clause-left g c).After-seat-seated)
 
 pub returns : goal.returns
 returns g c = record {
   finishes = flight_finishes c.args.wal.now c.args.self c.requires.flight c.seat-seated.result
       c.seat-seated.ensures.view c.seat-seated.ensures.table
-      (ended g (goal.at.returns g c).After-seat-seated) c.release.new.self
-      c.release.ensures.steps c.put_back.new.self c.put_back.ensures.view
+      (ended g (goal.at.returns g c).After-seat-seated) c.release.new.seated
+      c.release.ensures.view c.put_back.new.self c.put_back.ensures.view
       c.put_back.ensures.pass
       (record { start = c.args.self.begun.start; end = c.args.self.begun.end }) refl refl;
 }

@@ -13,11 +13,10 @@ use Rattle.wal_log.proofs.wal.Wal.commit_async.Given.{Over}
 use Rattle.wal_log.proofs.wal.Wal.commit_async.Goals as goal
 use Rattle.wal_log.proofs.wal.Wal.commit_async.Goals.{After-put_back}
 
-pub commit_async_on-answer-requires : goal.commit_async_on-answer-requires
-commit_async_on-answer-requires g c = record {
-  rests = seated_rests c.args.self.now c.args.pass.now c.seat-seated.result
-      c.seat-seated.ensures.view c.requires.pass;
-}
+pub commit_async_on-answer-requires-clause-rests : goal.commit_async_on-answer-requires-clause-rests
+commit_async_on-answer-requires-clause-rests g c =
+    seated_rests c.args.self.now c.args.pass.now c.seat-seated.result
+    c.seat-seated.ensures.view c.requires.pass
 
 pub put_back-requires-clause-numbers : goal.put_back-requires-clause-numbers
 put_back-requires-clause-numbers g c = numbers_back c.args.self.now c.args.pass.now

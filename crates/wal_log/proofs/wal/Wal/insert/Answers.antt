@@ -13,11 +13,10 @@ use Rattle.wal_log.proofs.wal.Wal.insert.Given.{Over}
 use Rattle.wal_log.proofs.wal.Wal.insert.Goals as goal
 use Rattle.wal_log.proofs.wal.Wal.insert.Goals.{After-put_back}
 
-pub insert_on-answer-requires : goal.insert_on-answer-requires
-insert_on-answer-requires g c = record {
-  rests = seated_rests c.args.self.now c.args.pass.now c.seat-seated.result
-      c.seat-seated.ensures.view c.requires.pass;
-}
+pub insert_on-answer-requires-clause-rests : goal.insert_on-answer-requires-clause-rests
+insert_on-answer-requires-clause-rests g c =
+    seated_rests c.args.self.now c.args.pass.now c.seat-seated.result
+    c.seat-seated.ensures.view c.requires.pass
 
 pub put_back-requires-clause-numbers : goal.put_back-requires-clause-numbers
 put_back-requires-clause-numbers g c = numbers_back c.args.self.now c.args.pass.now

@@ -21,7 +21,8 @@ pub open-requires-clause-openable : goal.open-requires-clause-openable
 open-requires-clause-openable g c =
     nothing_opens (founded_opening c.of-founding.result)
     (subst (λ (o : Opening). IsSetup o.setup) (sym c.of-founding.ensures.opening) c.requires.setup)
-    refl (omega arith)
+    (ap (λ (o : Opening). o.found) c.of-founding.ensures.opening)
+    (omega (arith, ap (λ (o : Opening). o.made) c.of-founding.ensures.opening))
 
 pub open-requires-clause-writer : goal.open-requires-clause-writer
 open-requires-clause-writer g c =

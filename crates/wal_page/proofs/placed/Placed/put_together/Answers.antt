@@ -1,8 +1,8 @@
 -- The words are the record's own, so their positions rise with their addresses.
-use Rattle.std.proofs.Common.{◌≡◌, ◌+◌, ◌*◌, ◌≤◌, ℕ, length, subst, sym, ◌∙◌, arith}
+use Rattle.std.proofs.Common.{◌+◌, ◌*◌, ◌≤◌, ℕ, length, subst, sym, ◌∙◌, arith}
 use Rattle.wal_page.specs.Placed.{PlacedState, LieTogether, placed_end}
 use Rattle.wal_page.proofs.PlacedSteps.{next-bound}
-use Rattle.wal_page.proofs.RunSteps.{own_words_next, run_within, stands_over_run}
+use Rattle.wal_page.proofs.RunSteps.{own_words_next, stands_over_run}
 use Rattle.wal_page.proofs.placed.Placed.put_together.Goals as goal
 
 abbrev IsOwned : ℕ → PlacedState → Type 0
@@ -11,36 +11,30 @@ IsOwned count s = s.next + 8 * count ≤ placed_end s
 pub put_words-requires-clause-behind_header : goal.put_words-requires-clause-behind_header
 put_words-requires-clause-behind_header c =
     let run = subst (λ (s : PlacedState). LieTogether s (length c.args.words.now)) (sym c.self.view_is) c.requires.together in
-    omega (arith, run.behind_header, c.self.invariant.position)
+    let number = rw (← c.self.view_is) at c.word_number.ensures in
+    omega (arith, run.behind_header, number)
 
 pub put_words-requires-clause-starts_within : goal.put_words-requires-clause-starts_within
 put_words-requires-clause-starts_within c =
-    let p = c.self.inside in
-    let count = length c.args.words.now in
-    let run = subst (λ (s : PlacedState). LieTogether s count) (sym c.self.view_is) c.requires.together in
-    let owned = subst (IsOwned count) (sym c.self.view_is) c.requires.owned in
-    omega (arith, run_within p.geometry p.body.now p.start p.next p.passed c.self.invariant run.outside count run.on_page owned, c.requires.some)
+    let run = subst (λ (s : PlacedState). LieTogether s (length c.args.words.now)) (sym c.self.view_is) c.requires.together in
+    let number = rw (← c.self.view_is) at c.word_number.ensures in
+    omega (arith, run.own, run.behind_header, number, c.requires.some)
 
 pub put_words-requires-clause-ends_within : goal.put_words-requires-clause-ends_within
 put_words-requires-clause-ends_within c =
-    let p = c.self.inside in
-    let count = length c.args.words.now in
-    let run = subst (λ (s : PlacedState). LieTogether s count) (sym c.self.view_is) c.requires.together in
-    let owned = subst (IsOwned count) (sym c.self.view_is) c.requires.owned in
-    omega (arith, run_within p.geometry p.body.now p.start p.next p.passed c.self.invariant run.outside count run.on_page owned)
+    let run = subst (λ (s : PlacedState). LieTogether s (length c.args.words.now)) (sym c.self.view_is) c.requires.together in
+    let number = rw (← c.self.view_is) at c.word_number.ensures in
+    omega (arith, run.own, run.behind_header, number)
 
 pub overflow_add-self : goal.overflow_add-self
 overflow_add-self c =
-    let p = c.self.inside in
-    let count = length c.args.words.now in
-    let run = subst (λ (s : PlacedState). LieTogether s count) (sym c.self.view_is) c.requires.together in
-    let owned = subst (IsOwned count) (sym c.self.view_is) c.requires.owned in
-    omega (arith, run_within p.geometry p.body.now p.start p.next p.passed c.self.invariant run.outside count run.on_page owned, c.put_words.ensures.ready.size)
+    let run = subst (λ (s : PlacedState). LieTogether s (length c.args.words.now)) (sym c.self.view_is) c.requires.together in
+    omega (arith, run.on_page, c.self.invariant.passed_within, c.self.invariant.within)
 
 pub overflow_add-self-2 : goal.overflow_add-self-2
 overflow_add-self-2 c =
     let p = c.self.inside in
-    omega (arith, next-bound p.geometry p.body.now p.start p.next p.passed c.self.invariant, c.requires.together.on_page)
+    omega (arith, next-bound p.geometry p.body.now p.start p.room p.next p.passed c.self.invariant, c.requires.together.on_page)
 
 pub invariant_of-self : goal.invariant_of-self
 invariant_of-self c =
@@ -48,11 +42,12 @@ invariant_of-self c =
     let count = length c.args.words.now in
     let run = subst (λ (s : PlacedState). LieTogether s count) (sym c.self.view_is) c.requires.together in
     let owned = subst (IsOwned count) (sym c.self.view_is) c.requires.owned in
-    stands_over_run p.geometry p.body.now p.start p.next p.passed c.self.invariant run.outside count run.on_page owned
+    stands_over_run p.geometry p.body.now p.start p.room p.next p.passed c.self.invariant run.outside count run.on_page owned
 
 pub returns-clause-words : goal.returns-clause-words
 returns-clause-words c =
     let p = c.self.inside in
     let count = length c.args.words.now in
     let run = subst (λ (s : PlacedState). LieTogether s count) (sym c.self.view_is) c.requires.together in
-    rw (← c.self.view_is) (λ k lt. c.put_words.ensures.words p.prev.0 k lt ∙ sym (own_words_next p.geometry p.body.now p.start p.next p.passed c.self.invariant run.outside count run.on_page p.sysid p.prev.0 k lt))
+    let number = rw (← c.self.view_is) at c.word_number.ensures in
+    rw (← c.self.view_is) (λ k lt. c.put_words.ensures.words p.prev.0 k lt ∙ sym (own_words_next p.geometry p.body.now p.start p.room p.next p.passed c.self.invariant run.outside count run.on_page p.sysid p.prev.0 c.word_number.result number run.own k lt))

@@ -1,5 +1,5 @@
 -- The words go on where the last ones ended.
-use Rattle.std.proofs.Common.{◌≡◌, ◌+◌, ◌-◌, ◌*◌, ◌<◌, ◌≤◌, ℕ, ◌++◌, length, take, drop, subst, ap, sym, ◌∙◌, arith}
+use Rattle.std.proofs.Common.{◌≡◌, ◌+◌, ◌-◌, ◌*◌, ◌≤◌, ℕ, ◌++◌, length, take, drop, subst, ap, sym, ◌∙◌, arith}
 use Rattle.std.proofs.lemmas.List.{length-append, length-drop, length-take}
 use Rattle.wal_page.specs.Placed.{PlacedState, placed_end}
 use Rattle.wal_page.proofs.RunSteps.{words_further, placed_further}

@@ -1,4 +1,4 @@
-use Rattle.std.proofs.Common.{rules, sym, ◌∙◌, arith}
+use Rattle.std.proofs.Common.{sym, ◌∙◌, arith}
 use Rattle.wal_page.proofs.placed.Placed.words_together.Goals as goal
 
 pub returns-clause-together : goal.returns-clause-together
@@ -7,4 +7,5 @@ returns-clause-together c = λ some.
       outside = sym c.is_in_header.ensures ∙ c.if-is_in_header.false;
       behind_header = omega (arith, c.self.invariant.position);
       on_page = omega arith;
+      own = omega (arith, rw (← c.self.view_is) at c.own_left.ensures);
     })

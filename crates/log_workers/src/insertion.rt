@@ -1,0 +1,40 @@
+// The records that jobs insert. A segment switch is none: it closes its segment under all insertion
+// locks, by a call of its own. So a list of jobs needs no clause on its records.
+ghost use Rattle.std.specs.Prelude.{◌≡◌, false};
+ghost use Rattle.record_spelling.specs.Spelling.{is_assembled_switch};
+
+use record_spelling::Body;
+use std::marker::Model;
+
+/// A record that is no segment switch.
+#[derive(Drop)]
+pub struct Insertion {
+    body: Body,
+}
+
+impl Model for Insertion {
+    ghost use Rattle.std.specs.Prelude.{◌≡◌, false};
+    ghost use Rattle.record_spelling.specs.Spelling.{Assembled, is_assembled_switch};
+
+    ghost Value = { Assembled };
+
+    ghost view = { λ i. i.body };
+
+    ghost invariant = { λ i. is_assembled_switch i.body ≡ false };
+}
+
+impl Insertion {
+    pub fn of(body: Body) -> Insertion
+        requires { is_assembled_switch body ≡ false }
+        ensures { result ≡ body }
+    {
+        Insertion { body }
+    }
+
+    pub(crate) fn body(&self) -> &Body
+        ensures body { result.now ≡ self.now }
+        ensures inserted { is_assembled_switch result.now ≡ false }
+    {
+        &self.body
+    }
+}

@@ -1,0 +1,63 @@
+-- A segment switch is reserved while nothing is in flight, and the ring is zeros behind it.
+use Rattle.std.proofs.Common.{◌≡◌, ℕ, ◌*◌, ◌/◌, ◌<◌, Contains, List, refl, sym, ap, ◌∙◌, subst, ⊎_elim, arith}
+use mathlib.Core.Option.{Option}
+use Rattle.segment_disk.specs.Tape.{DiskState}
+use Rattle.wal_types.specs.declared.record.Record.{Record}
+use Rattle.record_spelling.specs.Record.{switch_record}
+use Rattle.record_spelling.proofs.SwitchLaws.{told_switched}
+use Rattle.wal_page.specs.Order.{Entry, IsChained}
+use Rattle.wal_page.proofs.LogWordLaws.{log_word-behind_switch}
+use Rattle.wal_core.specs.Words.{Opening, word_of_ring}
+use Rattle.wal_core.specs.Views.{HasAt, Copy, Flight, Landed, Copying, Plain, View, working_of}
+use Rattle.wal_core.specs.Ringed.{log_word_of}
+use Rattle.wal_core.specs.Steps.{MayStep, ring_place, store_position}
+use Rattle.wal_core.specs.Sound.{IsSound}
+use Rattle.wal_core.specs.Shown.{IsPresent}
+use Rattle.wal_core.proofs.Landing.{lock_of, none_lands}
+use Rattle.wal_core.proofs.Lists.{at_same, part_at}
+use Rattle.machine_laws.specs.SoundLocks.{HoldsLock}
+use Rattle.machine_laws.specs.Switches.{IsBehindSwitch}
+use Rattle.machine_laws.proofs.HolderLaws.{locks_have_holders}
+use Rattle.machine_laws.proofs.ShownLaws.{words_are_logs}
+
+pub holds_all : (v : View) (locks : List ℕ) (value : Record) → MayStep v (store_position locks value)
+    → value ≡ switch_record → (lock : ℕ) → lock < 8 → Contains locks lock × HoldsLock lock v
+holds_all v locks value may is lock low =
+    let ends = (told_switched value (may.3).logged).1 is in
+    let under = (may.3).all_locks ends lock low in (under, (may.5).1 lock under)
+
+-- a flight that is no copy has landed
+no_copy : (f : Flight) → ((c : Copy) → f ≡ Copying c → ⊥) → f ≡ Landed
+no_copy Landed none = refl
+no_copy (Copying c) none = absurd (none c refl)
+
+module _ {first : DiskState} (opening : Opening) (words : List ℕ) (home : Option Plain)
+    (views : List View) where
+  pub none_in_flight : (id : ℕ) (v : View) (locks : List ℕ) → IsSound first opening words home views
+      → HasAt views id v → MayStep v (store_position locks switch_record) → (other : ℕ) (w : View)
+      → HasAt views other w → (w.working).flight ≡ Landed
+  none_in_flight id v locks k here may other w there =
+      let holders = locks_have_holders opening words home views k in
+      no_copy (w.working).flight (λ c copies.
+      let parts = part_at working_of views other w there in
+      let under = lock_of c.locks (w.working).locks
+      (((k.locks).locks).under other w.working c parts copies) in
+      let low = holders.eight other under.0 w there under.2 in
+      let mine = (holds_all v locks switch_record may refl under.0 low).1 in
+      let one = holders.by_one under.0 id other v w here there mine under.2 in
+      let same = at_same views v w other (subst (λ (j : ℕ). HasAt views j v) one here) there in
+      none_lands c (sym may.6 ∙ ap (λ (u : View). (u.working).flight) same ∙ copies))
+
+  pub zeros_behind : (s : IsSound first opening words home views) (k : ℕ)
+      → IsBehindSwitch (opening.setup).segment_size s.order (8 * k)
+      → IsPresent opening.setup words (k / 1024)
+      → word_of_ring opening.setup words (ring_place opening.setup k) ≡ 0
+  zeros_behind s k b present =
+      let size = (opening.setup).segment_size in
+      let zero : log_word_of opening.setup s.order (8 * k) ≡ 0 =
+      ap (λ (es : List Entry). log_word_of opening.setup es (8 * k)) b.are
+      ∙ log_word-behind_switch size (opening.setup).sysid (s.setup_is).size b.front b.back b.entry
+      (subst (IsChained size) b.are (s.reserved).chained) b.switches (8 * k) (omega arith) b.behind
+      b.before_next in
+      ⊎_elim (λ own. own ∙ zero) (λ awaited. awaited.0)
+      ((words_are_logs opening words home views s).ring k present)

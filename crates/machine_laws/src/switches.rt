@@ -1,0 +1,34 @@
+//! What the machine promises of segment switches, each proved by a function that does nothing
+//! (PostgreSQL's xlog.c: ReserveXLogSwitch, CopyXLogRecordToWAL).
+
+ghost use Rattle.std.specs.Prelude.{◌≡◌, ℕ, ◌*◌, ◌/◌, ◌<◌, Contains, List};
+ghost use mathlib.Core.Option.{Option};
+ghost use Rattle.segment_disk.specs.Tape.{DiskState};
+ghost use Rattle.wal_types.specs.declared.record.Record.{Record};
+ghost use Rattle.record_spelling.specs.Record.{switch_record};
+ghost use Rattle.wal_core.specs.Words.{Opening, word_of_ring};
+ghost use Rattle.wal_core.specs.Views.{HasAt, Landed, Plain, View};
+ghost use Rattle.wal_core.specs.Steps.{MayStep, ring_place, store_position};
+ghost use Rattle.wal_core.specs.Sound.{IsSound};
+ghost use Rattle.wal_core.specs.Shown.{IsPresent};
+ghost use Rattle.machine_laws.specs.SoundLocks.{HoldsLock};
+ghost use Rattle.machine_laws.specs.Switches.{IsBehindSwitch};
+
+/// A switch is reserved by a pass that holds all eight insertion locks, and stands under each of
+/// them; so nothing is in flight when it is. Behind its record each word that the ring has is 0 up
+/// to the next entry, also where another page has a header.
+pub fn switches_stand_alone_before_zeros()
+    ensures locks { (v : View) (locks : List ℕ) (value : Record)
+        → MayStep v (store_position locks value) → value ≡ switch_record → (lock : ℕ) → lock < 8
+        → Contains locks lock × HoldsLock lock v }
+    ensures alone { (first : DiskState) (opening : Opening) (words : List ℕ) (home : Option Plain)
+        (views : List View) (id : ℕ) (v : View) (locks : List ℕ)
+        → IsSound first opening words home views → HasAt views id v
+        → MayStep v (store_position locks switch_record) → (other : ℕ) (w : View)
+        → HasAt views other w → (w.working).flight ≡ Landed }
+    ensures zeros { (first : DiskState) (opening : Opening) (words : List ℕ) (home : Option Plain)
+        (views : List View) (s : IsSound first opening words home views) (k : ℕ)
+        → IsBehindSwitch (opening.setup).segment_size s.order (8 * k)
+        → IsPresent opening.setup words (k / 1024)
+        → word_of_ring opening.setup words (ring_place opening.setup k) ≡ 0 }
+{}

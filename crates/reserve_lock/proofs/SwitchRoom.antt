@@ -1,0 +1,63 @@
+-- A segment switch fits wherever its own 24 bytes do, since the log ends with a segment; and what it leaves of a view.
+use Rattle.std.specs.Prelude.{Contains, zero, suc}
+use Rattle.std.proofs.Common.{◌≡◌, ℕ, ◌+◌, ◌-◌, ◌*◌, ◌/◌, ◌%◌, ◌<◌, ◌≤◌, true, refl, inl, inr, arith}
+use Rattle.std.proofs.lemmas.Bool.{cases_lt}
+use Rattle.std.proofs.Math.Nat.{lt_of_mul-lt-mul_left, mul-div-le, mul-le-mul_left}
+use Rattle.byte_position.specs.Geometry.{IsSegmentSize}
+use Rattle.byte_position.specs.Position.{address_of, position_of}
+use Rattle.byte_position.proofs.Rising.{address_of-lt, position_of-mono}
+use Rattle.byte_position.proofs.Segments.{first_position-usable, position_of-segment}
+use Rattle.record_spelling.specs.Spelling.{Assembled, assembled_size, is_assembled_switch}
+use Rattle.wal_page.specs.Order.{assembled_room_at, next_segment}
+use Rattle.wal_page.proofs.PaddingLaws.{position_behind_switch}
+use Rattle.wal_core.specs.declared.setup.Setup.{Setup}
+use Rattle.wal_core.specs.Words.{log_limit}
+use Rattle.reserve_lock.specs.Reserved.{every_lock}
+
+-- the log ends with a segment
+limit_is : (setup : Setup) → IsSegmentSize setup.segment_size → log_limit setup ≡ position_of setup.segment_size (setup.segment_size * (setup.cap_segments + 1))
+limit_is setup valid =
+    let size : ℕ = setup.segment_size in
+    omega (arith, first_position-usable size valid, position_of-segment size valid (setup.cap_segments + 1))
+
+-- the segment in which a byte of the log stands ends within the log
+next_within : (setup : Setup) → IsSegmentSize setup.segment_size → (last : ℕ) → last < log_limit setup → next_segment setup.segment_size last ≤ log_limit setup
+next_within setup valid last below =
+    let size : ℕ = setup.segment_size in
+    let cap = setup.cap_segments + 1 in
+    let limit = limit_is setup valid in
+    let under : address_of size last < size * cap = address_of-lt size valid last (size * cap) (omega (arith, below, limit)) in
+    let starts = mul-div-le (address_of size last) size in
+    let own : address_of size last / size < cap = lt_of_mul-lt-mul_left size (omega (arith, starts, under)) in
+    let ends : size * (address_of size last / size + 1) ≤ size * cap = mul-le-mul_left size (omega (arith, own)) in
+    omega (arith, limit, position_of-mono size (size * (address_of size last / size + 1)) (size * cap) ends)
+
+pub switch_within : (setup : Setup) → IsSegmentSize setup.segment_size → (at : ℕ) (body : Assembled) → at % 8 ≡ 0 → is_assembled_switch body ≡ true → assembled_size body ≡ 24 → at + 24 ≤ log_limit setup → at + assembled_room_at setup.segment_size at body ≤ log_limit setup
+switch_within setup valid at body whole switches size fits =
+    let behind = position_behind_switch setup.segment_size valid at body whole switches in
+    let next = next_within setup valid (at + assembled_size body - 1) (omega (arith, size, fits)) in
+    omega (arith, behind, next)
+
+-- so where it does not fit, fewer are left
+pub few_left : (setup : Setup) → IsSegmentSize setup.segment_size → (at free : ℕ) (body : Assembled) → at % 8 ≡ 0 → is_assembled_switch body ≡ true → assembled_size body ≡ 24 → at ≤ log_limit setup → free ≡ log_limit setup - at → free < assembled_room_at setup.segment_size at body → free < 24
+few_left setup valid at free body whole switches size within free_is short =
+    elim (cases_lt free 24) [
+      | inl few ↦ few
+      | inr many ↦ (
+          let fits = switch_within setup valid at body whole switches size (omega (arith, many, free_is, within)) in
+          omega (arith, fits, free_is, short, within)
+          )
+    ]
+
+-- ---- all locks
+
+pub has_every_lock : (lock : ℕ) → lock < 8 → Contains every_lock lock
+has_every_lock zero low = (0, omega arith, refl)
+has_every_lock (suc zero) low = (1, omega arith, refl)
+has_every_lock (suc (suc zero)) low = (2, omega arith, refl)
+has_every_lock (suc (suc (suc zero))) low = (3, omega arith, refl)
+has_every_lock (suc (suc (suc (suc zero)))) low = (4, omega arith, refl)
+has_every_lock (suc (suc (suc (suc (suc zero))))) low = (5, omega arith, refl)
+has_every_lock (suc (suc (suc (suc (suc (suc zero)))))) low = (6, omega arith, refl)
+has_every_lock (suc (suc (suc (suc (suc (suc (suc zero))))))) low = (7, omega arith, refl)
+has_every_lock (suc (suc (suc (suc (suc (suc (suc (suc n)))))))) low = absurd (omega (arith, low))

@@ -1,0 +1,35 @@
+use Rattle.std.proofs.Common.{refl, ap, ◌∙◌, arith}
+use Rattle.wal_core.specs.Words.{log_limit}
+use Rattle.wal_rule.specs.SeatedPasses.{view_of}
+use Rattle.reserve_lock.proofs.Records.{read_same, read_under, record_read}
+use Rattle.reserve_lock.proofs.reserving.reserve_locked.Goals as goal
+
+pub give_back-requires-clause-kind : goal.give_back-requires-clause-kind
+give_back-requires-clause-kind g c =
+    (record_read c.args.body.now, read_same c.args.body.now c.requires.known, refl)
+
+pub reserve_at-prev-requires-clause-kind : goal.reserve_at-prev-requires-clause-kind
+reserve_at-prev-requires-clause-kind g c = (
+  record_read c.args.body.now,
+  read_under c.args.body.now c.requires.known (view_of c.args.seated.now).working.locks
+      c.requires.all,
+  read_same c.args.body.now c.requires.known,
+  refl,
+)
+
+pub returns-clause-reserved : goal.returns-clause-reserved
+returns-clause-reserved g c =
+    let entry = c.reserve_at-prev.ensures.entry in
+    let short = c.if-free-room.false in
+    let limit = c.limit.ensures.limit ∙ ap log_limit c.shape-shape.ensures in (
+      record {
+        at = c.args.at;
+        prev = c.reserve_at-prev.result;
+        reserved = entry;
+        behind_seen = c.requires.seen;
+        within = omega (arith, limit, c.requires.room, short, c.requires.within);
+        placed_is = (cc);
+        start_is = (cc);
+      },
+      refl,
+    )

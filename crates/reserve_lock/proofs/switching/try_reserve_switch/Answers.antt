@@ -1,0 +1,69 @@
+use Rattle.std.proofs.Common.{◌≢◌, ◌%◌, ◌-◌, ◌<◌, ℕ, List, sym, ap, ◌∙◌, subst}
+use Rattle.std.specs.Prelude.{Contains}
+use Rattle.byte_position.specs.Geometry.{IsSegmentSize}
+use Rattle.byte_position.specs.Position.{end_address_of}
+use Rattle.wal_page.specs.Order.{assembled_room_at}
+use Rattle.wal_core.specs.declared.setup.Setup.{Setup}
+use Rattle.wal_core.specs.Words.{end_form, log_limit}
+use Rattle.wal_rule.specs.SeatedPasses.{setup_of, view_of}
+use Rattle.reserve_lock.specs.Reserved.{IsPositionLocked, IsSwitchReserved, every_lock}
+use Rattle.reserve_lock.proofs.Records.{switch_ends, switch_known, switch_size}
+use Rattle.reserve_lock.proofs.Since.{locks_since, switch_since}
+use Rattle.reserve_lock.proofs.Steps.{same_setup}
+use Rattle.reserve_lock.proofs.SwitchRoom.{few_left, has_every_lock}
+use Rattle.reserve_lock.proofs.switching.try_reserve_switch.Goals as goal
+
+pub reserve_locked-requires-clause-known : goal.reserve_locked-requires-clause-known
+reserve_locked-requires-clause-known g c = switch_known c.args.body.now c.requires.switch
+
+pub reserve_locked-requires-clause-all : goal.reserve_locked-requires-clause-all
+reserve_locked-requires-clause-all g c = λ switches.
+    subst (λ (locks : List ℕ). (lock : ℕ) → lock < 8 → Contains locks lock)
+    (sym (locks_since (setup_of c.args.seated.now) c.in-Ok.at (view_of c.args.seated.now)
+    (view_of c.lock_seen.new.seated) c.in-Ok.ensures.locked every_lock c.requires.holds))
+    has_every_lock
+
+pub returns-in-Ok-reserve_locked-clause-answers : goal.returns-in-Ok-reserve_locked-clause-answers
+returns-in-Ok-reserve_locked-clause-answers g c =
+    let setup = setup_of c.args.seated.now in
+    let own = setup_of c.lock_seen.new.seated in
+    let old = view_of c.args.seated.now in
+    let mid = view_of c.lock_seen.new.seated in
+    let new = view_of c.reserve_locked.new.seated in
+    let at = c.in-Ok.at in
+    let r = c.in-Ok-reserve_locked.reserved in
+    let given = c.in-Ok-reserve_locked.ensures.reserved in
+    let same = same_setup c.args.seated.now c.lock_seen.new.seated
+    c.in-Ok.ensures.stays.same_table in
+    let locked = subst (λ (s : Setup). IsPositionLocked s at old mid) (sym same)
+    c.in-Ok.ensures.locked in
+    let geometry = c.geometry-geometry.ensures ∙ ap (λ (s : Setup). s.segment_size) c.shape.ensures in
+    let end = c.to_end_lsn-end.ensures ∙ ap (λ (n : ℕ). end_address_of n at) geometry in
+    let size = c.segment_size.ensures.value ∙ geometry in
+    let inside : end_form setup at % setup.segment_size ≢ 0 = λ starts.
+    c.if-end-segment_size-eq0.false (ap (λ (n : ℕ). n % c.segment_size.result) end
+    ∙ ap (λ (n : ℕ). end_form setup at % n) size ∙ starts) in (
+      subst (λ (s : Setup). IsSwitchReserved s c.args.body.now old new r.start.0 r.placed) same
+          (switch_since own at old mid locked c.args.body.now new r.start.0 r.placed given.0
+          given.1 c.requires.holds (switch_ends c.args.body.now c.requires.switch)
+          (subst (λ (s : Setup). end_form s at % s.segment_size ≢ 0) (sym same) inside)),
+      c.in-Ok-reserve_locked.ensures.end,
+    )
+
+pub returns-in-Err-reserve_locked-clause-no_room : goal.returns-in-Err-reserve_locked-clause-no_room
+returns-in-Err-reserve_locked-clause-no_room g c =
+    let setup = setup_of c.args.seated.now in
+    let at = c.in-Ok.at in
+    let body = c.args.body.now in
+    let free = c.in-Err-reserve_locked.free in
+    let locked = c.in-Ok.ensures.locked in
+    let full = c.in-Err-reserve_locked.ensures.full in
+    let same = same_setup c.args.seated.now c.lock_seen.new.seated
+    c.in-Ok.ensures.stays.same_table in
+    let geometry = c.geometry-geometry.ensures ∙ ap (λ (s : Setup). s.segment_size) c.shape.ensures in
+    let size = c.segment_size.ensures.value ∙ geometry in
+    let room = c.room_at.ensures ∙ ap (λ (n : ℕ). assembled_room_at n at body) geometry in
+    few_left setup (subst IsSegmentSize size c.segment_size.ensures.valid) at free body locked.whole
+    (switch_ends body c.requires.switch) (switch_size body c.requires.switch) locked.within
+    (full.0 ∙ ap (λ (s : Setup). log_limit s - at) same)
+    (subst (λ (n : ℕ). free < n) room full.1)

@@ -1,0 +1,58 @@
+// A record in flight is ended: its words are copied (copying.rt), and its insertion locks are given
+// back, which tells each watcher that no word of it is left (PostgreSQL's xlog.c,
+// WALInsertLockRelease). If the disk has failed the copy is given up: record and locks stay with a
+// view with which nobody steps any more, so that no watch ever takes the record for copied.
+ghost use Rattle.std.specs.Prelude.{◌≡◌, MatchResult};
+ghost use mathlib.Core.Option.{some};
+ghost use Rattle.insert_locks.specs.Holding.{locks_of};
+ghost use Rattle.wal_page.specs.Placed.{placed_end};
+ghost use Rattle.wal_rule.specs.SeatedPasses.{view_of};
+ghost use Rattle.wal_log.specs.Downs.{KnowsNoFault, MeetsFault};
+ghost use Rattle.wal_log.specs.PassLogs.{log_of_pass};
+ghost use Rattle.wal_log.specs.Standing.{ComesToRest, CopiesAlone, entry_in_flight};
+ghost use Rattle.wal_log.specs.Whole.{CopiesWhole};
+
+use crate::copying::copy_whole;
+use crate::fault::Fault;
+use insert_locks::{Held, release};
+use segment_disk::Disk;
+use std::sync::Wait;
+use wal_page::Placed;
+use wal_rule::SeatedPass;
+use wal_types::Lsn;
+
+// Copies the words that are left of a record, and gives its locks back; or gives the copy up. The
+// record's last word ends at `end`.
+pub(crate) fn land<'p, 'a, D: Disk, R: Wait>(
+    rt: &R,
+    seated: &mut SeatedPass<'p, D>,
+    held: Held,
+    end: Lsn,
+    placed: &mut Placed<'a>,
+) -> Result<(), Fault>
+    // The pass copies this record under these locks and is about nothing else. It knows of no
+    // failed disk.
+    requires copies { CopiesAlone (locks_of held) placed.old seated.old }
+    requires end { end.0 ≡ placed_end placed.old }
+    requires up { KnowsNoFault (view_of seated.old) }
+    // Each word of the entry that was in flight was copied. Or the disk failed, in this call or
+    // before.
+    ensures lands { (e : _) → entry_in_flight (view_of seated.old) ≡ some e
+        → MatchResult result (λ _. CopiesWhole (view_of seated.old) (view_of seated.new) e
+        × KnowsNoFault (view_of seated.new))
+        (λ fault. MeetsFault (view_of seated.old) (view_of seated.new) fault) }
+    // The pass is about nothing, and its log is as it was.
+    ensures log { log_of_pass (view_of seated.new) ≡ log_of_pass (view_of seated.old) }
+    ensures rests { ComesToRest seated.old seated.new }
+{
+    match copy_whole(rt, seated, held, end, placed) {
+        Ok(()) => {
+            release(seated, held);
+            Ok(())
+        }
+        Err(fault) => {
+            seated.give_up();
+            Err(fault)
+        }
+    }
+}
