@@ -1,7 +1,7 @@
 #!/usr/bin/env bash
-# Replays 20 MiB of records where the system lends no more than 4 GiB of address space, which `rt ci` cannot
-# ask for: the call ends with status 0. A replay's disk has room for all calls that it may get, which goes by
-# its lines and pages.
+# Replays 20 MiB of records where the system lends no more than 4 GiB of address space, which
+# `rt ci` cannot ask for: the call ends with status 0. A replay's disk has room for all calls that
+# it may get, which goes by its lines and pages.
 #
 #     tests/replay_memory.sh            tries the program that the launcher ./pgwal built
 #     tests/replay_memory.sh PROGRAM    tries another build
