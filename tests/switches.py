@@ -1,10 +1,10 @@
 #!/usr/bin/env python3
 """Writes logs that have segment switches, and compares what the built program lists of them.
 
-`pgwal run` writes no switches, so the logs are made here, from docs/FORMATS.md alone: commits, inserts, and switches, which
-may have data, end on their segment's last byte, or go on in the next segment. Behind a switch its segment is zeros, as
-PostgreSQL leaves it, or noise, which is not to be read. Then the last segment is taken away: what stands before it is listed,
-and the status is 0, or 6 where a record goes on in it.
+`pgwal run` writes switches of 24 bytes alone, with zeros behind them, so the logs are made here, from docs/FORMATS.md alone:
+commits, inserts, and switches, which may have data, end on their segment's last byte, or go on in the next segment. Behind a
+switch its segment is zeros, as PostgreSQL leaves it, or noise, which is not to be read. Then the last segment is taken away:
+what stands before it is listed, and the status is 0, or 6 where a record goes on in it.
 
 Usage: tests/switches.py [TRIALS [SEED]] (100 trials), by hand, outside `rt ci`
 """

@@ -1,7 +1,7 @@
 -- Counts over the backends that a loop has gone over, and their bounds.
 use Rattle.std.proofs.Common.{◌≡◌, ℕ, zero, suc, ◌+◌, ◌<◌, ◌≤◌, List, [], ◌∷◌, get_or, length, take, ap, sym, arith}
 use Rattle.told_lines.specs.declared.told.Told.{Told}
-use Rattle.told_lines.specs.declared.told.Told.TheVariants.{Wrote, Hard, Flushed, Async, Idle, Refused}
+use Rattle.told_lines.specs.declared.told.Told.TheVariants.{Wrote, Hard, Flushed, Async, Idle, Switched, Stayed, Refused}
 use Rattle.told_lines.specs.Counts.{all_commits_of, commits_of, is_hard, is_reserved, reserved_count}
 use Rattle.run_laws.specs.Counted.{all_reserved_count}
 use Rattle.backend_lanes.specs.Backends.{lists_of}
@@ -13,6 +13,8 @@ is_hard-le (Hard start end moment) = omega arith
 is_hard-le (Flushed upto moment) = omega arith
 is_hard-le (Async start end) = omega arith
 is_hard-le (Idle upto) = omega arith
+is_hard-le (Switched start end) = omega arith
+is_hard-le (Stayed end) = omega arith
 is_hard-le (Refused cause reserved) = omega arith
 
 commits-le : (told : List Told) → commits_of told ≤ reserved_count told

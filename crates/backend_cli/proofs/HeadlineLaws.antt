@@ -11,12 +11,12 @@ use Rattle.byte_position.specs.Position.{first_position}
 use Rattle.wal_page.specs.Order.{IsChained}
 use Rattle.wal_reader.specs.declared.found.FoundRecord.{FoundRecord}
 use Rattle.wal_reader.proofs.FindsLaws.{finding_is_decoding}
-use Rattle.wal_script.specs.Asked.{Asked, AskedLine, Commit, CommitAsync, Flush, Insert, WriteBehind}
+use Rattle.wal_script.specs.Asked.{Asked, AskedLine, Commit, CommitAsync, Flush, Insert, Switch, WriteBehind}
 use Rattle.wal_script.specs.Run.{run_meaning}
 use Rattle.wal_script.specs.declared.line.Refusal.{Refusal}
 use Rattle.generated_lines.specs.Generated.{generated_script}
 use Rattle.told_lines.specs.declared.told.Told.{Told}
-use Rattle.told_lines.specs.declared.told.Told.TheVariants.{Wrote, Hard, Flushed, Async, Idle, Refused}
+use Rattle.told_lines.specs.declared.told.Told.TheVariants.{Wrote, Hard, Flushed, Async, Idle, Switched, Stayed, Refused}
 use Rattle.told_lines.specs.Crash.{IsFrontWithTold, SurvivesCrashes}
 use Rattle.told_lines.specs.Told.{FitsLine, Logged, RiseInLineOrder, TellsAll, TellsFrom, behind_or, entries_from, entry_of, order_from}
 use Rattle.told_lines.proofs.Orders.{sorted_permutes}
@@ -43,31 +43,49 @@ own_place logged pass behind (Insert value) (Hard start end moment) fits = fits
 own_place logged pass behind (Insert value) (Flushed upto moment) fits = fits
 own_place logged pass behind (Insert value) (Async start end) fits = fits
 own_place logged pass behind (Insert value) (Idle upto) fits = fits
+own_place logged pass behind (Insert value) (Switched start end) fits = fits
+own_place logged pass behind (Insert value) (Stayed end) fits = fits
 own_place logged pass behind (Insert value) (Refused cause reserved) fits = tt
 own_place logged pass behind (Commit value) (Wrote start end) fits = fits
 own_place logged pass behind (Commit value) (Hard start end moment) fits = fits
 own_place logged pass behind (Commit value) (Flushed upto moment) fits = fits
 own_place logged pass behind (Commit value) (Async start end) fits = fits
 own_place logged pass behind (Commit value) (Idle upto) fits = fits
+own_place logged pass behind (Commit value) (Switched start end) fits = fits
+own_place logged pass behind (Commit value) (Stayed end) fits = fits
 own_place logged pass behind (Commit value) (Refused cause reserved) fits = tt
 own_place logged pass behind Flush (Wrote start end) fits = fits
 own_place logged pass behind Flush (Hard start end moment) fits = fits
 own_place logged pass behind Flush (Flushed upto moment) fits = tt
 own_place logged pass behind Flush (Async start end) fits = fits
 own_place logged pass behind Flush (Idle upto) fits = fits
+own_place logged pass behind Flush (Switched start end) fits = fits
+own_place logged pass behind Flush (Stayed end) fits = fits
 own_place logged pass behind Flush (Refused cause reserved) fits = tt
 own_place logged pass behind (CommitAsync value) (Wrote start end) fits = fits
 own_place logged pass behind (CommitAsync value) (Hard start end moment) fits = fits
 own_place logged pass behind (CommitAsync value) (Flushed upto moment) fits = fits
 own_place logged pass behind (CommitAsync value) (Async start end) fits = fits
 own_place logged pass behind (CommitAsync value) (Idle upto) fits = fits
+own_place logged pass behind (CommitAsync value) (Switched start end) fits = fits
+own_place logged pass behind (CommitAsync value) (Stayed end) fits = fits
 own_place logged pass behind (CommitAsync value) (Refused cause reserved) fits = tt
 own_place logged pass behind WriteBehind (Wrote start end) fits = fits
 own_place logged pass behind WriteBehind (Hard start end moment) fits = fits
 own_place logged pass behind WriteBehind (Flushed upto moment) fits = tt
 own_place logged pass behind WriteBehind (Async start end) fits = fits
 own_place logged pass behind WriteBehind (Idle upto) fits = tt
+own_place logged pass behind WriteBehind (Switched start end) fits = fits
+own_place logged pass behind WriteBehind (Stayed end) fits = fits
 own_place logged pass behind WriteBehind (Refused cause reserved) fits = tt
+own_place logged pass behind Switch (Wrote start end) fits = fits
+own_place logged pass behind Switch (Hard start end moment) fits = fits
+own_place logged pass behind Switch (Flushed upto moment) fits = fits
+own_place logged pass behind Switch (Async start end) fits = fits
+own_place logged pass behind Switch (Idle upto) fits = fits
+own_place logged pass behind Switch (Switched start end) fits = fits
+own_place logged pass behind Switch (Stayed end) fits = tt
+own_place logged pass behind Switch (Refused cause reserved) fits = tt
 
 -- of a line and what it was told; of a backend's lines
 abbrev OwnsPlace : ℕ → AskedLine × Told → Type 0

@@ -4,7 +4,7 @@ use Rattle.std.specs.declared.alloc.Global.{Global}
 use Rattle.wal_script.specs.declared.line.Action.{Action}
 use Rattle.wal_script.specs.declared.line.Action.TheVariants as actions
 use Rattle.wal_script.specs.declared.line.Line.{Line}
-use Rattle.wal_script.specs.Asked.{Asked, AskedLine, Commit, CommitAsync, Flush, Insert, WriteBehind}
+use Rattle.wal_script.specs.Asked.{Asked, AskedLine, Commit, CommitAsync, Flush, Insert, Switch, WriteBehind}
 use Rattle.wal_script.specs.Bodies.{AreLinesOf, IsActionOf}
 use Rattle.wal_script.specs.ReplayReading.{AreBackendsOf}
 use Rattle.wal_turns.specs.Begun.{first_backend}
@@ -19,26 +19,37 @@ line_for (Insert value) (actions.Commit body) is = absurd is
 line_for (Insert value) actions.Flush is = absurd is
 line_for (Insert value) (actions.CommitAsync body) is = absurd is
 line_for (Insert value) actions.WriteBehind is = absurd is
+line_for (Insert value) (actions.Switch body) is = absurd is
 line_for (Commit value) (actions.Insert body) is = absurd is
 line_for (Commit value) (actions.Commit body) is = is
 line_for (Commit value) actions.Flush is = absurd is
 line_for (Commit value) (actions.CommitAsync body) is = absurd is
 line_for (Commit value) actions.WriteBehind is = absurd is
+line_for (Commit value) (actions.Switch body) is = absurd is
 line_for Flush (actions.Insert body) is = absurd is
 line_for Flush (actions.Commit body) is = absurd is
 line_for Flush actions.Flush is = tt
 line_for Flush (actions.CommitAsync body) is = absurd is
 line_for Flush actions.WriteBehind is = absurd is
+line_for Flush (actions.Switch body) is = absurd is
 line_for (CommitAsync value) (actions.Insert body) is = absurd is
 line_for (CommitAsync value) (actions.Commit body) is = absurd is
 line_for (CommitAsync value) actions.Flush is = absurd is
 line_for (CommitAsync value) (actions.CommitAsync body) is = is
 line_for (CommitAsync value) actions.WriteBehind is = absurd is
+line_for (CommitAsync value) (actions.Switch body) is = absurd is
 line_for WriteBehind (actions.Insert body) is = absurd is
 line_for WriteBehind (actions.Commit body) is = absurd is
 line_for WriteBehind actions.Flush is = absurd is
 line_for WriteBehind (actions.CommitAsync body) is = absurd is
 line_for WriteBehind actions.WriteBehind is = tt
+line_for WriteBehind (actions.Switch body) is = absurd is
+line_for Switch (actions.Insert body) is = absurd is
+line_for Switch (actions.Commit body) is = absurd is
+line_for Switch actions.Flush is = absurd is
+line_for Switch (actions.CommitAsync body) is = absurd is
+line_for Switch actions.WriteBehind is = absurd is
+line_for Switch (actions.Switch body) is = tt
 
 lines_for : (asked : List AskedLine) (lines : List Line) → AreLinesOf asked lines → AreLinesFor (asks_of asked) (machine_lines_of lines)
 lines_for [] [] are = tt

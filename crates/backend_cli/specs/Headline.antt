@@ -9,6 +9,7 @@ use Rattle.std.specs.List.{zip}
 use Rattle.std.specs.List.Sorted.{IsPermutation}
 use Rattle.byte_position.specs.Geometry.{is_segment_size}
 use Rattle.byte_position.specs.Position.{first_position}
+use Rattle.record_spelling.specs.Record.{switch_record}
 use Rattle.segment_disk.specs.DiskImage.{DiskImage, LeftAt}
 use Rattle.segment_disk.specs.Tape.{Tape, after_calls}
 use Rattle.wal_page.specs.Order.{Entry, FollowsFrom}
@@ -16,15 +17,16 @@ use Rattle.wal_reader.specs.declared.found.FoundRecord.{FoundRecord}
 use Rattle.wal_reader.specs.Finds.{FindsRecords}
 use Rattle.wal_reader.specs.Pages.{pages_in}
 use Rattle.written_log.specs.Torn.{NoTornPass}
-use Rattle.wal_script.specs.Asked.{Asked, AskedLine, Commit, CommitAsync, Flush, Insert, WriteBehind}
+use Rattle.wal_script.specs.Asked.{Asked, AskedLine, Commit, CommitAsync, Flush, Insert, Switch, WriteBehind}
 use Rattle.told_lines.specs.declared.told.Told.{Told}
-use Rattle.told_lines.specs.declared.told.Told.TheVariants.{Wrote, Hard, Flushed, Async, Idle, Refused}
+use Rattle.told_lines.specs.declared.told.Told.TheVariants.{Wrote, Hard, Flushed, Async, Idle, Switched, Stayed, Refused}
 use Rattle.told_lines.specs.Crash.{IsFrontWithTold}
 use Rattle.told_lines.specs.Told.{IsPlaced, RiseInLineOrder, entries_from}
 
 -- what each kind of line may be told: an insert, a commit or a commit that is answered ahead, where
--- its own record starts and ends (that of a commit is durable too); a flush or a flush behind, up
--- to where all is durable, or the latter that all was so already; each, that it is refused
+-- its own record starts and ends (that of a commit is durable too), and so a segment switch, or that
+-- the log ended at a segment's start already; a flush or a flush behind, up to where all is durable,
+-- or the latter that all was so already; each, that it is refused
 abbrev pub NamesOwnPlace : ℕ → Asked → Told → Type 0
 NamesOwnPlace size (Insert value) (Wrote start end) = IsPlaced size value start.0 end.0
 NamesOwnPlace size (Commit value) (Hard start end moment) = IsPlaced size value start.0 end.0
@@ -32,6 +34,8 @@ NamesOwnPlace size Flush (Flushed upto moment) = Unit {0}
 NamesOwnPlace size (CommitAsync value) (Async start end) = IsPlaced size value start.0 end.0
 NamesOwnPlace size WriteBehind (Flushed upto moment) = Unit {0}
 NamesOwnPlace size WriteBehind (Idle upto) = Unit {0}
+NamesOwnPlace size Switch (Switched start end) = IsPlaced size switch_record start.0 end.0
+NamesOwnPlace size Switch (Stayed end) = Unit {0}
 NamesOwnPlace size asked (Refused cause reserved) = Unit {0}
 NamesOwnPlace size asked others = ⊥
 

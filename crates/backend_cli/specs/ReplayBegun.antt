@@ -28,6 +28,7 @@ machine_line_of (actions.Commit body) = machine_lines.Commit body
 machine_line_of actions.Flush = machine_lines.Flush
 machine_line_of (actions.CommitAsync body) = machine_lines.Commit body
 machine_line_of actions.WriteBehind = machine_lines.Flush
+machine_line_of (actions.Switch body) = machine_lines.Flush
 
 abbrev pub machine_lines_of : List Line → List MachineLine
 machine_lines_of lines = map (λ line. machine_line_of line.action) lines

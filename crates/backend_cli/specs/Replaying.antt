@@ -19,7 +19,7 @@ use Rattle.wal_turns.specs.Doing.{Ask, Backend, Commits, Flushes, Inserts, Machi
 use Rattle.wal_turns.specs.Turned.{machine_behind}
 use Rattle.machine_core.specs.Cores.{HasWriter, first_opening}
 use Rattle.replay_schedule.specs.Turns.{backends_in_turn}
-use Rattle.wal_script.specs.Asked.{Asked, AskedLine, Commit, CommitAsync, Flush, Insert, WriteBehind}
+use Rattle.wal_script.specs.Asked.{Asked, AskedLine, Commit, CommitAsync, Flush, Insert, Switch, WriteBehind}
 use Rattle.wal_script.specs.Replay.{ReplayMeaning, replay_meaning}
 use Rattle.waldump_text.specs.Dump.{IsDump}
 use Rattle.waldump_text.specs.Put.{joined}
@@ -38,13 +38,15 @@ use Rattle.backend_cli.specs.Setups.{setup_asked}
 
 -- ---- the machine
 
--- what a line asks of the machine; a replay has no line that is answered ahead or flushes behind
+-- what a line asks of the machine; a replay has no line that is answered ahead, flushes behind or
+-- closes a segment
 abbrev pub ask_of : Asked → Ask
 ask_of (Insert value) = Inserts value
 ask_of (Commit value) = Commits value
 ask_of Flush = Flushes
 ask_of (CommitAsync value) = Commits value
 ask_of WriteBehind = Flushes
+ask_of Switch = Flushes
 
 abbrev pub asks_of : List AskedLine → List Ask
 asks_of lines = map (λ line. ask_of line.asked) lines

@@ -109,7 +109,7 @@ pub record HoldsOpened (outside : Outside) (options : RunOptions) (outcome : Out
       (order_from options.geometry 1 script lists))
   pub ends : EndsOpened outside lists outcome
   pub full : SomeTold IsFullAnswer lists
-      → capacity_of options.geometry options.cap_segments < all_rooms_asked script
+      → capacity_of options.geometry options.cap_segments < all_rooms_asked options.geometry script
 
 -- the run of a script that is known: without told lists the log was not opened, and nothing was
 -- touched

@@ -9,7 +9,7 @@ use Rattle.wal_script.specs.Asked.{AskedLine}
 use Rattle.waldump_text.specs.Put.{joined}
 use Rattle.told_lines.specs.Counts.{all_commits_of}
 use Rattle.told_lines.specs.declared.told.Told.{Told}
-use Rattle.told_lines.specs.declared.told.Told.TheVariants.{Wrote, Hard, Flushed, Async, Idle, Refused}
+use Rattle.told_lines.specs.declared.told.Told.TheVariants.{Wrote, Hard, Flushed, Async, Idle, Switched, Stayed, Refused}
 use Rattle.wal_types.specs.declared.answers.Cause.{Cause}
 use Rattle.wal_types.specs.declared.answers.Cause.TheVariants.{Full, Disk, Down}
 
@@ -35,6 +35,9 @@ answer_text (Flushed upto moment) =
 answer_text (Async start end) =
     codes " async " ∷ lsn_text start.0 ∷ codes " " ∷ lsn_text end.0 ∷ codes "\n" ∷ []
 answer_text (Idle upto) = codes " idle " ∷ lsn_text upto.0 ∷ codes "\n" ∷ []
+answer_text (Switched start end) =
+    codes " switched " ∷ lsn_text start.0 ∷ codes " " ∷ lsn_text end.0 ∷ codes "\n" ∷ []
+answer_text (Stayed end) = codes " stayed " ∷ lsn_text end.0 ∷ codes "\n" ∷ []
 answer_text (Refused cause reserved) = cause_text cause reserved
 
 -- a told line: backend, line, and what was told

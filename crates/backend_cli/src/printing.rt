@@ -28,25 +28,32 @@ pub(crate) fn put_told<O: Sink>(
     let backend = backend_digits.format(backend).as_bytes();
     let line = line_digits.format(line).as_bytes();
     match told {
-        Told::Wrote { start, end } => put_wrote(out, backend, line, *start, *end),
+        Told::Wrote { start, end } => put_places(out, backend, line, b" wrote ", *start, *end),
         Told::Hard { start, end, moment } => put_hard(out, backend, line, *start, *end, *moment),
         Told::Flushed { upto, moment } => put_flushed(out, backend, line, *upto, *moment),
-        Told::Async { start, end } => put_async(out, backend, line, *start, *end),
-        Told::Idle { upto } => put_idle(out, backend, line, *upto),
+        Told::Async { start, end } => put_places(out, backend, line, b" async ", *start, *end),
+        Told::Idle { upto } => put_address(out, backend, line, b" idle ", *upto),
+        Told::Switched { start, end } => {
+            put_places(out, backend, line, b" switched ", *start, *end)
+        }
+        Told::Stayed { end } => put_address(out, backend, line, b" stayed ", *end),
         Told::Refused { cause, reserved } => put_refused(out, backend, line, cause, reserved),
     }
 }
 
-// The told line of a record that was written, behind the numbers of its backend and line.
-fn put_wrote<'a, O: Sink>(
+// The told line of a record that was written, behind the numbers of its backend and line: where it
+// starts and ends, behind the word that is told of it.
+fn put_places<'a, O: Sink>(
     out: &mut O,
     backend: &'a [u8],
     line: &'a [u8],
+    word: &'a [u8],
     start: Lsn,
     end: Lsn,
 ) -> Result<(), SinkFault>
     ensures { Puts (O.taken out.old) (O.taken out.new) (O.faults out.old) (O.faults out.new)
-        (joined (backend.now ∷ codes " " ∷ line.now ∷ answer_text (Told.Wrote start end))) result }
+        (joined (backend.now ∷ codes " " ∷ line.now ∷ word.now ∷ lsn_text start.0 ∷ codes " " ∷
+        lsn_text end.0 ∷ codes "\n" ∷ [])) result }
 {
     put_all(
         out,
@@ -54,7 +61,7 @@ fn put_wrote<'a, O: Sink>(
             backend,
             b" ",
             line,
-            b" wrote ",
+            word,
             start.text().as_bytes(),
             b" ",
             end.text().as_bytes(),
@@ -122,52 +129,21 @@ fn put_flushed<'a, O: Sink>(
     )
 }
 
-// The same of a commit that was answered ahead.
-fn put_async<'a, O: Sink>(
+// The same of a line that did nothing: an address, behind the word that is told of it.
+fn put_address<'a, O: Sink>(
     out: &mut O,
     backend: &'a [u8],
     line: &'a [u8],
-    start: Lsn,
-    end: Lsn,
+    word: &'a [u8],
+    address: Lsn,
 ) -> Result<(), SinkFault>
     ensures { Puts (O.taken out.old) (O.taken out.new) (O.faults out.old) (O.faults out.new)
-        (joined (backend.now ∷ codes " " ∷ line.now ∷ answer_text (Told.Async start end))) result }
+        (joined (backend.now ∷ codes " " ∷ line.now ∷ word.now ∷ lsn_text address.0 ∷ codes "\n" ∷
+        [])) result }
 {
     put_all(
         out,
-        &[
-            backend,
-            b" ",
-            line,
-            b" async ",
-            start.text().as_bytes(),
-            b" ",
-            end.text().as_bytes(),
-            b"\n",
-        ],
-    )
-}
-
-// The same of a flush behind that found nothing to do.
-fn put_idle<'a, O: Sink>(
-    out: &mut O,
-    backend: &'a [u8],
-    line: &'a [u8],
-    upto: Lsn,
-) -> Result<(), SinkFault>
-    ensures { Puts (O.taken out.old) (O.taken out.new) (O.faults out.old) (O.faults out.new)
-        (joined (backend.now ∷ codes " " ∷ line.now ∷ answer_text (Told.Idle upto))) result }
-{
-    put_all(
-        out,
-        &[
-            backend,
-            b" ",
-            line,
-            b" idle ",
-            upto.text().as_bytes(),
-            b"\n",
-        ],
+        &[backend, b" ", line, word, address.text().as_bytes(), b"\n"],
     )
 }
 

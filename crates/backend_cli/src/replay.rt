@@ -50,8 +50,8 @@ fn read_replay<S: Source>(alloc: Global, source: &mut S) -> Result<Replay, Outco
     Ok(parse_replay(alloc, &script)?)
 }
 
-// What a line asks of the machine. The last two kinds do not come: `parse_replay` refuses a script
-// with such a line, since a replay has neither commits answered ahead nor flushes behind.
+// What a line asks of the machine. The last three kinds do not come: `parse_replay` refuses a script
+// with such a line, since a replay has no commits answered ahead, flushes behind or segment switches.
 fn machine_line(line: Line) -> PlainLine
     ensures { result ≡ machine_line_of line.action }
 {
@@ -61,6 +61,7 @@ fn machine_line(line: Line) -> PlainLine
         Action::Flush => PlainLine::Flush,
         Action::CommitAsync(body) => PlainLine::Commit(body),
         Action::WriteBehind => PlainLine::Flush,
+        Action::Switch(_) => PlainLine::Flush,
     }
 }
 

@@ -9,6 +9,7 @@ use Rattle.byte_position.specs.Position.{end_address_of, first_position}
 use Rattle.byte_position.proofs.EndAddresses.{end_address_of-mono, le-position_of}
 use Rattle.wal_types.specs.declared.lsn.Lsn.{Lsn}
 use Rattle.wal_types.specs.declared.record.Record.{Record}
+use Rattle.record_spelling.specs.Record.{switch_record}
 use Rattle.record_spelling.specs.Spelling as spelling
 use Rattle.record_spelling.specs.Spelling.{Assembled, IsLogRecord, assembled, is_assembled_switch}
 use Rattle.record_spelling.proofs.SwitchLaws.{is_assembled_switch-inserted}
@@ -21,8 +22,8 @@ use Rattle.wal_types.specs.declared.answers.Refused as refused
 use Rattle.wal_types.specs.declared.answers.Sealed.{Sealed}
 use Rattle.told_lines.specs.Answered.{told_of_commit, told_of_commit_async, told_of_insert}
 use Rattle.told_lines.specs.declared.told.Told.{Told}
-use Rattle.told_lines.specs.declared.told.Told.TheVariants.{Wrote, Hard, Flushed, Async, Idle, Refused}
-use Rattle.wal_script.specs.Asked.{Asked, Commit, CommitAsync, Flush, Insert, WriteBehind}
+use Rattle.told_lines.specs.declared.told.Told.TheVariants.{Wrote, Hard, Flushed, Async, Idle, Switched, Stayed, Refused}
+use Rattle.wal_script.specs.Asked.{Asked, Commit, CommitAsync, Flush, Insert, Switch, WriteBehind}
 use Rattle.wal_script.specs.Bodies.{IsActionOf, IsBodyOf}
 use Rattle.wal_script.specs.declared.line.Action.TheVariants as actions
 use Rattle.wal_core.specs.declared.setup.Setup.{Setup}
@@ -39,6 +40,10 @@ use Rattle.wal_log.specs.declared.flushing.FlushErr.{FlushErr}
 use Rattle.wal_log.specs.declared.flushing.FlushErr.TheVariants as flushes
 use Rattle.wal_log.specs.declared.inserting.InsertErr.{InsertErr}
 use Rattle.wal_log.specs.declared.inserting.InsertErr.TheVariants as inserts
+use Rattle.wal_log.specs.declared.switching.Switch as switching
+use Rattle.wal_log.specs.declared.switching.Switch.TheVariants as switched
+use Rattle.wal_log.specs.declared.switching.SwitchErr.{SwitchErr}
+use Rattle.wal_log.specs.declared.switching.SwitchErr.TheVariants as switches
 use Rattle.wal_log.specs.declared.wal.Wal.{Wal}
 use Rattle.wal_log.specs.Behind.{AnswersBehind, SeesTarget, behind_known_down, page_of_end, page_start, view_met_up}
 use Rattle.wal_log.specs.Committing.{AnswersCommit, RefusesCommit, commit_known_down, refused_of_insert}
@@ -47,11 +52,12 @@ use Rattle.wal_log.specs.Inserting.{AnswersInsert, IsOwnEntry, IsStarted, Refuse
 use Rattle.wal_log.specs.Logs.{IsPassOfLog, setup_of_log}
 use Rattle.wal_log.specs.PassLogs.{PassLog, log_of_pass, log_with_entry}
 use Rattle.wal_log.specs.Standing.{KeepsPass}
+use Rattle.wal_log.specs.Switching.{AnswersSwitch, HasSwitched, IsSwitchStarted}
 use Rattle.wal_log.proofs.CommitLaws.{never_both}
 use Rattle.run_laws.specs.Played.{Leaves, PlaysLine, TellsCause, RefusesRecordLine, Reserves, behind_last_own, end_of_own, pass_state_of}
 use Rattle.run_laws.specs.Reached.{EndsBy}
 use Rattle.backend_lanes.specs.declared.session.Session.{Session}
-use Rattle.backend_lanes.specs.Sessions.{IsSessionOf, IsReserved, LeavesSession, PlaysAnswer, view_of_session}
+use Rattle.backend_lanes.specs.Sessions.{IsSessionOf, IsReserved, LeavesSession, PlaysAnswer, told_of_flush_err, told_of_switch_err, view_of_session}
 
 -- ---- the end of a pass's own last entry
 
@@ -108,14 +114,18 @@ told_of_ahead (Err e) = told_of_commit_async (Err (refused_of_insert e))
 
 abbrev pub told_of_flushed : Result hard.Hard FlushErr → Told
 told_of_flushed (Ok done) = Flushed done.upto done.moment
-told_of_flushed (Err (flushes.Disk faults)) = Refused (causes.Disk faults) None
-told_of_flushed (Err (flushes.Down faults)) = Refused (causes.Down faults) None
-told_of_flushed (Err (flushes.Unreserved found)) = Refused (causes.Down 0) None
+told_of_flushed (Err e) = told_of_flush_err e
 
 abbrev pub told_of_caught : Result Caught FlushErr → Told
 told_of_caught (Ok (caught.Flushed done)) = Flushed done.upto done.moment
 told_of_caught (Ok (caught.Idle upto)) = Idle upto
-told_of_caught (Err e) = told_of_flushed (Err e)
+told_of_caught (Err e) = told_of_flush_err e
+
+-- the same of a segment switch
+abbrev pub told_of_switched : Result switching.Switch SwitchErr → Told
+told_of_switched (Ok (switched.Done start end)) = Switched start end
+told_of_switched (Ok (switched.Stayed end)) = Stayed end
+told_of_switched (Err e) = told_of_switch_err e
 
 -- the end kept behind an answer
 abbrev pub end_behind : ℕ → Told → ℕ
@@ -124,6 +134,8 @@ end_behind end (Hard start last moment) = max end last.0
 end_behind end (Flushed upto moment) = end
 end_behind end (Async start last) = max end last.0
 end_behind end (Idle upto) = end
+end_behind end (Switched start last) = max end last.0
+end_behind end (Stayed last) = end
 end_behind end (Refused cause reserved) = end
 
 pub flush_keeps_end : (end : ℕ) (answer : Result hard.Hard FlushErr)
@@ -139,6 +151,11 @@ caught_keeps_end end (Ok (caught.Flushed done)) = refl
 caught_keeps_end end (Ok (caught.Idle upto)) = refl
 caught_keeps_end end (Err e) = flush_keeps_end end (Err e)
 
+pub refusal_keeps_end : (end : ℕ) (e : SwitchErr) → end_behind end (told_of_switch_err e) ≡ end
+refusal_keeps_end end (switches.Full free) = refl
+refusal_keeps_end end (switches.Disk faults start) = refl
+refusal_keeps_end end (switches.Down faults start) = refl
+
 -- a commit that is answered ahead has its end told as an insert has
 ahead_keeps_end : (end : ℕ) (answer : Result Receipt InsertErr)
     → end_behind end (told_of_inserted answer) ≡ end_behind end (told_of_ahead answer)
@@ -151,6 +168,8 @@ ends_by_end_behind end (Hard start last moment) = omega arith
 ends_by_end_behind end (Flushed upto moment) = tt
 ends_by_end_behind end (Async start last) = omega arith
 ends_by_end_behind end (Idle upto) = tt
+ends_by_end_behind end (Switched start last) = omega arith
+ends_by_end_behind end (Stayed last) = tt
 ends_by_end_behind end (Refused cause reserved) = tt
 
 pub le-end_behind : (end : ℕ) (told : Told) → end ≤ end_behind end told
@@ -159,6 +178,8 @@ le-end_behind end (Hard start last moment) = omega arith
 le-end_behind end (Flushed upto moment) = omega arith
 le-end_behind end (Async start last) = omega arith
 le-end_behind end (Idle upto) = omega arith
+le-end_behind end (Switched start last) = omega arith
+le-end_behind end (Stayed last) = omega arith
 le-end_behind end (Refused cause reserved) = omega arith
 
 -- an insert is refused as its commit would be
@@ -242,6 +263,24 @@ module _ (setup : Setup) (valid : IsSegmentSize setup.segment_size) (old new : V
     end_inserted (Err e) why = end_refused (refused_of_insert e).cause
         (refused_of_insert e).reserved (refused_as_commit setup body old new e why)
 
+    pub end_switched : (answer : Result switching.Switch SwitchErr)
+        → AnswersSwitch setup body old answer new
+        → HasEnd setup (end_behind end (told_of_switched answer)) new
+    end_switched (Ok (switched.Done start last)) told =
+        let reserved = (told.switched).reserved in
+        end_rises told.entry last.0 told.end_is (ap (λ (l : PassLog). l.entries) reserved.log_is)
+        reserved.seen
+    end_switched (Ok (switched.Stayed last)) told =
+        end_stays (ap (λ (l : PassLog). l.entries) told.log_is)
+    end_switched (Err (switches.Full free)) why =
+        end_stays (ap (λ (l : PassLog). l.entries) (why.full).log_is)
+    end_switched (Err (switches.Disk faults start)) why =
+        end_known_down faults (why.1.some, inr why.1.set)
+    end_switched (Err (switches.Down faults None)) why =
+        end_known_down faults (why.1.some, inl why.1.met)
+    end_switched (Err (switches.Down faults (Some start))) why =
+        end_known_down faults (why.1.some, inl why.1.met)
+
     pub end_committed : (answer : Result Sealed refused.Refused)
         → AnswersCommit setup body old answer new
         → HasEnd setup (end_behind end (told_of_commit answer)) new
@@ -280,23 +319,32 @@ abbrev pub KnowsRecords : Type 0
 KnowsRecords = (r other : Record) → IsLogRecord r → IsLogRecord other
     → assembled r ≡ assembled other → r ≡ other
 
+-- an entry of this record that a pass has reserved for itself
+abbrev reserves_of : (setup : Setup) (old : View) (value : Record) (e : Entry) (at : ℕ)
+    → e ≡ entry_reserved (old.reserving).number at value
+    → (start : ℕ) (after : PassLog) → start ≡ start_of setup.segment_size e
+    → after ≡ log_with_entry e (log_of_pass old)
+    → Reserves setup.segment_size (log_limit setup) (old.reserving).number value start
+    (log_of_pass old) after
+reserves_of setup old value e at is start after start_is log_is = record {
+  at = at;
+  start_is = start_is ∙ ap (start_of setup.segment_size) is;
+  log_is = log_is ∙ ap (λ (x : Entry). log_with_entry x (log_of_pass old)) is;
+}
+
 module _ (knows_record : KnowsRecords) (setup : Setup) (body : Assembled)
     (old new : View) (value : Record) (is_body : IsBodyOf value body) where
   entry_is : (e : Entry) (own : IsOwnEntry setup body old e)
       → e ≡ entry_reserved (old.reserving).number own.at value
   entry_is e own = own.entry_is ∙ ap (entry_reserved (old.reserving).number own.at)
-      (knows_record own.value value (spelling.inserted own.writable) (spelling.inserted is_body.1)
+      (knows_record own.value value own.logged (spelling.inserted is_body.1)
       (own.of_body ∙ is_body.0))
 
   reserves : (e : Entry) (own : IsOwnEntry setup body old e) (start : ℕ) (after : PassLog)
       → start ≡ start_of setup.segment_size e → after ≡ log_with_entry e (log_of_pass old)
       → Reserves setup.segment_size (log_limit setup) (old.reserving).number value start
       (log_of_pass old) after
-  reserves e own start after start_is log_is = record {
-    at = own.at;
-    start_is = start_is ∙ ap (start_of setup.segment_size) (entry_is e own);
-    log_is = log_is ∙ ap (λ (x : Entry). log_with_entry x (log_of_pass old)) (entry_is e own);
-  }
+  reserves e own = reserves_of setup old value e own.at (entry_is e own)
 
   started : (start : ℕ) → IsStarted setup body old new start
       → Reserves setup.segment_size (log_limit setup) (old.reserving).number value start
@@ -441,6 +489,97 @@ module _ (knows_record : KnowsRecords) (setup : Setup) (body : Assembled)
     sees = keeps.rises;
     again = λ faults knows. is ∙ ap told_of_commit (again faults knows);
   }
+
+-- ---- a segment switch
+
+module _ (setup : Setup) (body : Assembled) (old new : View) where
+  switch_is : (e : Entry) (has : HasSwitched setup body old new e)
+      → e ≡ entry_reserved (old.reserving).number ((has.reserved).own).at switch_record
+  switch_is e has =
+      let own = (has.reserved).own in
+      let value : own.value ≡ switch_record =
+      sym (ap (λ (x : Entry). x.value) own.entry_is) ∙ (has.switch).switches in
+      own.entry_is ∙ ap (entry_reserved (old.reserving).number own.at) value
+
+  reserves_switch : (e : Entry) (has : HasSwitched setup body old new e) (start : ℕ)
+      → start ≡ start_of setup.segment_size e
+      → Reserves setup.segment_size (log_limit setup) (old.reserving).number switch_record start
+      (log_of_pass old) (log_of_pass new)
+  reserves_switch e has start start_is =
+      reserves_of setup old switch_record e ((has.reserved).own).at (switch_is e has) start
+      (log_of_pass new) start_is (has.reserved).log_is
+
+  switch_started : (start : ℕ) → IsSwitchStarted setup body old new start
+      → Reserves setup.segment_size (log_limit setup) (old.reserving).number switch_record start
+      (log_of_pass old) (log_of_pass new)
+  switch_started start told = reserves_switch told.entry told.switched start told.start_is
+
+  module _ (is_body : body ≡ assembled switch_record) where
+    switched_leaves : (answer : Result switching.Switch SwitchErr)
+        → AnswersSwitch setup body old answer new
+        → Leaves setup.segment_size (log_limit setup) (old.reserving).number Switch
+        (told_of_switched answer) (pass_state_of old) (pass_state_of new)
+    unfolding reserves_switch
+    switched_leaves (Ok (switched.Done start end)) told = record {
+      reserved = reserves_switch told.entry told.switched start.0 told.start_is;
+      end_is = told.end_is
+          ∙ ap (finish_of setup.segment_size) (switch_is told.entry told.switched);
+    }
+    switched_leaves (Ok (switched.Stayed end)) told = record {
+      at = told.at;
+      end_is = told.end_is;
+      starts = told.starts;
+      log_is = told.log_is;
+    }
+    switched_leaves (Err (switches.Full free)) why =
+        let full = why.full in record {
+          full = record {
+            at = full.at;
+            free_is = (let is = full.free_is in let within = full.within in
+                omega (arith, is, within));
+            short = subst
+                (λ (a : Assembled). free < assembled_room_at setup.segment_size full.at a)
+                is_body full.short;
+            log_is = full.log_is;
+          };
+          some = why.some;
+          few = why.few;
+        }
+    switched_leaves (Err (switches.Disk faults start)) why =
+        (switch_started start.0 why.0, (why.1.some, inr why.1.set))
+    switched_leaves (Err (switches.Down faults None)) why =
+        (why.0, (why.1.some, inl why.1.met))
+    switched_leaves (Err (switches.Down faults (Some start))) why =
+        (switch_started start.0 why.0, (why.1.some, inl why.1.met))
+
+    switched_caused : (answer : Result switching.Switch SwitchErr)
+        → AnswersSwitch setup body old answer new
+        → TellsCause (told_of_switched answer) (pass_state_of old) (pass_state_of new)
+    switched_caused (Ok (switched.Done start end)) told = (told.up.met, told.up.set)
+    switched_caused (Ok (switched.Stayed end)) told = (told.up.met, told.up.set)
+    switched_caused (Err (switches.Full free)) why = (why.up.met, why.up.set)
+    switched_caused (Err (switches.Disk faults start)) why = why.1.set
+    switched_caused (Err (switches.Down faults None)) why = (why.1.met, why.1.set_none)
+    switched_caused (Err (switches.Down faults (Some start))) why = (why.1.met, why.1.set_none)
+
+    pub plays_switch : KeepsPass old new → (answer : Result switching.Switch SwitchErr)
+        (told : Told) → told ≡ told_of_switched answer → AnswersSwitch setup body old answer new
+        → ((faults : ℕ) → KnowsDown faults old → answer ≡ Err (switches.Down faults None))
+        → PlaysLine setup.segment_size (log_limit setup) (old.reserving).number Switch told
+        (pass_state_of old) (pass_state_of new)
+    plays_switch keeps answer told is answers again = record {
+      writable = tt;
+      leaves = subst (λ (t : Told). Leaves setup.segment_size (log_limit setup)
+          (old.reserving).number Switch t (pass_state_of old) (pass_state_of new)) (sym is)
+          (switched_leaves answer answers);
+      cause = subst (λ (t : Told). TellsCause t (pass_state_of old) (pass_state_of new)) (sym is)
+          (switched_caused answer answers);
+      counts = keeps.counts;
+      sees = keeps.rises;
+      again = λ faults knows. is ∙ ap told_of_switched (again faults knows);
+    }
+
+-- ---- flushes
 
 -- a flush of an end
 module _ (setup : Setup) (valid : IsSegmentSize setup.segment_size) (old new : View)
@@ -621,6 +760,7 @@ module _ (P : Asked → Type 0) (body : Assembled) where
   holds_of_insert at Flush is = absurd is
   holds_of_insert at (CommitAsync value) is = absurd is
   holds_of_insert at WriteBehind is = absurd is
+  holds_of_insert at Switch is = absurd is
 
   pub holds_of_commit : ((value : Record) → IsBodyOf value body → P (Commit value))
       → (asked : Asked) → IsActionOf asked (actions.Commit body) → P asked
@@ -629,6 +769,7 @@ module _ (P : Asked → Type 0) (body : Assembled) where
   holds_of_commit at Flush is = absurd is
   holds_of_commit at (CommitAsync value) is = absurd is
   holds_of_commit at WriteBehind is = absurd is
+  holds_of_commit at Switch is = absurd is
 
   pub holds_of_ahead : ((value : Record) → IsBodyOf value body → P (CommitAsync value))
       → (asked : Asked) → IsActionOf asked (actions.CommitAsync body) → P asked
@@ -637,6 +778,16 @@ module _ (P : Asked → Type 0) (body : Assembled) where
   holds_of_ahead at Flush is = absurd is
   holds_of_ahead at (CommitAsync value) is = at value is
   holds_of_ahead at WriteBehind is = absurd is
+  holds_of_ahead at Switch is = absurd is
+
+  pub holds_of_switch : (body ≡ assembled switch_record → P Switch)
+      → (asked : Asked) → IsActionOf asked (actions.Switch body) → P asked
+  holds_of_switch at (Insert value) is = absurd is
+  holds_of_switch at (Commit value) is = absurd is
+  holds_of_switch at Flush is = absurd is
+  holds_of_switch at (CommitAsync value) is = absurd is
+  holds_of_switch at WriteBehind is = absurd is
+  holds_of_switch at Switch is = at is
 
 -- ---- what a line leaves of a session
 
@@ -731,6 +882,25 @@ module _ {D : Type 0} (wal : Wal D) (old new : Session) (pass : Pass) (here : Is
           (plays_ahead knows_record (setup_of_log wal) body (view_of_session old)
           (view_of_pass pass) value is_body keeps answer told is answers counted again)
 
+    module _ (answer : Result switching.Switch SwitchErr) (is : told ≡ told_of_switched answer)
+        (answers : AnswersSwitch (setup_of_log wal) body (view_of_session old) answer
+        (view_of_pass pass)) where
+      pub switch_leaves_session : new.end.0 ≡ end_behind old.end.0 told
+          → LeavesSession wal told old new
+      switch_leaves_session end_is = leaves_session end_is
+          (subst (λ (t : Told). HasEnd (setup_of_log wal) (end_behind old.end.0 t)
+          (view_of_pass pass)) (sym is)
+          (end_switched (setup_of_log wal) (has_valid_size wal old.pass here.pass)
+          (view_of_session old) (view_of_pass pass) keeps old.end.0 has_end body answer answers))
+
+      pub switch_plays_answer : body ≡ assembled switch_record
+          → ((faults : ℕ) → KnowsDown faults (view_of_session old)
+          → answer ≡ Err (switches.Down faults None))
+          → PlaysAnswer wal Switch told old new
+      switch_plays_answer is_body again = plays_answer Switch
+          (plays_switch (setup_of_log wal) body (view_of_session old) (view_of_pass pass) is_body
+          keeps answer told is answers again)
+
     module _ (answer : Result Sealed refused.Refused) (is : told ≡ told_of_commit answer)
         (answers : AnswersCommit (setup_of_log wal) body (view_of_session old) answer
         (view_of_pass pass)) where
@@ -789,11 +959,20 @@ module _ {D : Type 0} (wal : Wal D) (old new : Session) (pass : Pass) (here : Is
         (view_of_session old) (has_setup wal old.pass here.pass) old.end.0 has_end
         (view_of_pass pass) keeps answer told is answers again)
 
--- a flush of the end kept is not found unreserved
+-- a flush of the end kept is not found unreserved, nor is a flush behind
 pub session_never_unreserved : {D : Type 0} (wal : Wal D) (session : Session)
-    → IsSessionOf wal session → (found : ℕ) (new : View)
-    → IsUnreserved session.end.0 found (view_of_session session) new → ⊥
-session_never_unreserved {D} wal session here found new told =
+    → IsSessionOf wal session → (answer : Result hard.Hard FlushErr) (new : View)
+    → AnswersFlush session.end.0 (view_of_session session) answer new → (found : Lsn)
+    → answer ≡ Err (flushes.Unreserved found) → ⊥
+session_never_unreserved {D} wal session here answer new answers found is =
+    let why = subst (λ (r : Result hard.Hard FlushErr).
+    AnswersFlush session.end.0 (view_of_session session) r new) is answers in
     never_unreserved (setup_of_log wal) (has_valid_size wal session.pass here.pass)
     (view_of_session session) new (has_setup wal session.pass here.pass) session.end.0
-    here.end.reserved found told
+    here.end.reserved found.0 why.1
+
+pub behind_never_unreserved : (old new : View) (answer : Result Caught FlushErr)
+    → AnswersBehind old answer new → (found : Lsn) → answer ≡ Err (flushes.Unreserved found) → ⊥
+behind_never_unreserved old new answer answers found is =
+    let why = subst (λ (r : Result Caught FlushErr). AnswersBehind old r new) is answers in
+    absurd why.1

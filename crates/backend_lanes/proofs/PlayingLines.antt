@@ -13,7 +13,7 @@ use Rattle.wal_script.specs.Asked.{Asked, AskedLine}
 use Rattle.wal_script.specs.Bodies.{AreLinesOf, IsActionOf}
 use Rattle.wal_script.specs.declared.line.Line.{Line}
 use Rattle.told_lines.specs.declared.told.Told.{Told}
-use Rattle.told_lines.specs.declared.told.Told.TheVariants.{Wrote, Hard, Flushed, Async, Idle, Refused}
+use Rattle.told_lines.specs.declared.told.Told.TheVariants.{Wrote, Hard, Flushed, Async, Idle, Switched, Stayed, Refused}
 use Rattle.run_laws.specs.Played.{PassState, PlaysAllLines, PlaysLine, PlaysLines, state_at_first}
 use Rattle.run_laws.specs.Reached.{EndsBy}
 use Rattle.backend_lanes.specs.Sessions.{IsSessionOf, LeavesSession, PlaysAnswer, state_of_session, view_of_session}
@@ -28,6 +28,8 @@ ends_further address further more (Hard start end moment) ends = omega (arith, m
 ends_further address further more (Flushed upto moment) ends = tt
 ends_further address further more (Async start end) ends = omega (arith, more, ends)
 ends_further address further more (Idle upto) ends = tt
+ends_further address further more (Switched start end) ends = omega (arith, more, ends)
+ends_further address further more (Stayed end) ends = tt
 ends_further address further more (Refused cause reserved) ends = tt
 
 -- ---- the asked lines before a place, and the one that stands there

@@ -1,5 +1,6 @@
 -- A backend's pass, what it has between two lines, and the end that is kept beside it.
-use Rattle.std.specs.Prelude.{◌⊎◌, ℕ, ◌≤◌}
+use Rattle.std.specs.Prelude.{◌⊎◌, ℕ, ◌≤◌, Some, None}
+use Rattle.wal_types.specs.declared.answers.Cause.TheVariants as causes
 use Rattle.wal_core.specs.Words.{end_form, log_limit}
 use Rattle.wal_core.specs.declared.setup.Setup.{Setup}
 use Rattle.wal_rule.specs.Downs.{KnowsDown}
@@ -7,9 +8,14 @@ use Rattle.wal_rule.specs.Passes.{view_of_pass}
 use Rattle.wal_core.specs.Views.{View}
 use Rattle.wal_log.specs.Logs.{IsPassOfLog, setup_of_log}
 use Rattle.wal_log.specs.Standing.{KeepsPass}
+use Rattle.wal_log.specs.declared.flushing.FlushErr.{FlushErr}
+use Rattle.wal_log.specs.declared.flushing.FlushErr.TheVariants as flushes
+use Rattle.wal_log.specs.declared.switching.SwitchErr.{SwitchErr}
+use Rattle.wal_log.specs.declared.switching.SwitchErr.TheVariants as switches
 use Rattle.wal_log.specs.declared.wal.Wal.{Wal}
 use Rattle.wal_script.specs.Asked.{Asked}
 use Rattle.told_lines.specs.declared.told.Told.{Told}
+use Rattle.told_lines.specs.declared.told.Told.TheVariants.{Refused}
 use Rattle.run_laws.specs.Played.{PassState, PlaysLine, end_of_own, pass_state_of}
 use Rattle.run_laws.specs.Reached.{EndsBy}
 use Rattle.backend_lanes.specs.declared.session.Session.{Session}
@@ -53,3 +59,15 @@ pub record LeavesSession {D : Type 0} (wal : Wal D) (told : Told) (old new : Ses
   pub keeps : KeepsPass (view_of_session old) (view_of_session new)
   pub told_end : EndsBy new.end.0 told
   pub rises : old.end.0 ≤ new.end.0
+
+-- what a line is told whose flush was refused; none is found unreserved
+abbrev pub told_of_flush_err : FlushErr → Told
+told_of_flush_err (flushes.Disk faults) = Refused (causes.Disk faults) None
+told_of_flush_err (flushes.Down faults) = Refused (causes.Down faults) None
+told_of_flush_err (flushes.Unreserved found) = Refused (causes.Down 0) None
+
+-- what a line is told whose segment switch was refused
+abbrev pub told_of_switch_err : SwitchErr → Told
+told_of_switch_err (switches.Full free) = Refused (causes.Full free) None
+told_of_switch_err (switches.Disk faults start) = Refused (causes.Disk faults) (Some start)
+told_of_switch_err (switches.Down faults start) = Refused (causes.Down faults) start

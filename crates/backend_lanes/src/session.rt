@@ -5,15 +5,17 @@
 // seen: so no flush asks for what nobody reserved.
 ghost use Rattle.std.specs.Prelude.{◌≡◌, ◌-◌, max};
 ghost use Rattle.wal_types.specs.declared.record.Record.{Record};
-ghost use Rattle.wal_script.specs.Asked.{Asked, Commit, CommitAsync, Flush, Insert, WriteBehind};
+ghost use Rattle.record_spelling.specs.Record.{switch_record};
+ghost use Rattle.record_spelling.specs.Spelling.{assembled};
+ghost use Rattle.wal_script.specs.Asked.{Asked, Commit, CommitAsync, Flush, Insert, Switch, WriteBehind};
 ghost use Rattle.wal_script.specs.Bodies.{IsActionOf, IsBodyOf};
-ghost use Rattle.backend_lanes.specs.Sessions.{IsSessionOf, LeavesSession, PlaysAnswer};
+ghost use Rattle.backend_lanes.specs.Sessions.{IsSessionOf, LeavesSession, PlaysAnswer, told_of_flush_err, told_of_switch_err};
 
 use record_spelling::Body;
 use segment_disk::Disk;
 use std::sync::Wait;
 use told_lines::Told;
-use wal_log::{Caught, Cause, CommitErr, FlushErr, Pass, Wal};
+use wal_log::{Caught, Cause, CommitErr, FlushErr, Pass, SwitchErr, Wal};
 use wal_record::laws::body_knows_its_record;
 use wal_script::Action;
 use wal_types::Lsn;
@@ -48,6 +50,7 @@ impl Session {
             Action::Flush => self.flush(rt, log),
             Action::CommitAsync(body) => self.commit_async(rt, log, body),
             Action::WriteBehind => self.write_behind(rt, log),
+            Action::Switch(body) => self.switch(rt, log, body),
         }
     }
 
@@ -93,10 +96,8 @@ impl Session {
     {
         match log.flush(rt, &mut self.pass, self.end) {
             Ok(hard) => Told::of_flush(Ok(hard)),
-            Err(FlushErr::Disk { faults }) => refused_flush(Cause::Disk { faults }),
-            Err(FlushErr::Down { faults }) => refused_flush(Cause::Down { faults }),
             // The pass has seen its own records reserved.
-            Err(FlushErr::Unreserved { .. }) => unreachable!(),
+            Err(e) => refused_flush(e),
         }
     }
 
@@ -125,10 +126,26 @@ impl Session {
         match log.write_behind(rt, &mut self.pass) {
             Ok(Caught::Flushed(hard)) => Told::of_flush(Ok(hard)),
             Ok(Caught::Idle { upto }) => Told::Idle { upto },
-            Err(FlushErr::Disk { faults }) => refused_flush(Cause::Disk { faults }),
-            Err(FlushErr::Down { faults }) => refused_flush(Cause::Down { faults }),
             // What it flushes is reserved.
-            Err(FlushErr::Unreserved { .. }) => unreachable!(),
+            Err(e) => refused_flush(e),
+        }
+    }
+
+    // Closes the segment. Where the log ends at a segment's start, no record of this backend does
+    // so for it: the end kept stays.
+    fn switch<R: Wait, D: Disk>(&mut self, rt: &R, log: &Wal<D>, body: &Body) -> Told
+        requires session { IsSessionOf log.now self.old }
+        requires record { body.now ≡ assembled switch_record }
+        ensures plays { PlaysAnswer log.now Switch result self.old self.new }
+        ensures leaves { LeavesSession log.now result self.old self.new }
+    {
+        match log.switch(rt, &mut self.pass, body) {
+            Ok(wal_log::Switch::Done { start, end }) => {
+                self.note(end);
+                Told::Switched { start, end }
+            }
+            Ok(wal_log::Switch::Stayed { end }) => Told::Stayed { end },
+            Err(e) => refused_switch(e),
         }
     }
 
@@ -141,11 +158,30 @@ impl Session {
     }
 }
 
-fn refused_flush(cause: Cause) -> Told
-    ensures { result ≡ Told.Refused cause None }
+// What a line is told whose flush was refused. It was reserved what it asked for.
+fn refused_flush(e: FlushErr) -> Told
+    requires { (end : Lsn) → e ≡ FlushErr.Unreserved end → ⊥ }
+    ensures { result ≡ told_of_flush_err e }
 {
+    let cause = match e {
+        FlushErr::Disk { faults } => Cause::Disk { faults },
+        FlushErr::Down { faults } => Cause::Down { faults },
+        FlushErr::Unreserved { .. } => unreachable!(),
+    };
     Told::of_flush(Err(CommitErr {
         cause,
         reserved: None,
     }))
+}
+
+// What a line is told whose segment switch was refused.
+fn refused_switch(e: SwitchErr) -> Told
+    ensures { result ≡ told_of_switch_err e }
+{
+    let (cause, reserved) = match e {
+        SwitchErr::Full { free } => (Cause::Full { free }, None),
+        SwitchErr::Disk { faults, start } => (Cause::Disk { faults }, Some(start)),
+        SwitchErr::Down { faults, start } => (Cause::Down { faults }, start),
+    };
+    Told::Refused { cause, reserved }
 }

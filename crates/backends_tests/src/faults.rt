@@ -14,7 +14,8 @@ use std::test::Fail;
 use std::thread::Threads;
 use wal_types::Lsn;
 
-const DOWN: Cause = Cause::Down { faults: 1 };
+/// What lines are told behind a fault.
+pub const DOWN: Cause = Cause::Down { faults: 1 };
 
 const COMMITS: Lines = (4, b"C 1 0\n");
 
@@ -159,6 +160,24 @@ const OVER_A_SEGMENT: Failing = Failing {
     moments: 2,
 };
 
+// The segment is made, and the first commit's page written and synced. The segment has 128 pages,
+// of which the switch writes the first half as it makes room on its ring, and the second commit the
+// others and the sync; it makes the next segment, and writes and syncs its page.
+const BEHIND_A_SWITCH: Failing = Failing {
+    row: Row {
+        what: "a segment is closed between two commits",
+        words: &["run", "--seg", "1048576", "--cap", "2"],
+        backends: &[(1, b"C 1 0\nW\nW\nC 2 0\n")],
+        segments: 2,
+        told: (1, 4),
+        ..ONE
+    },
+    calls: 135,
+    lines: 135,
+    times: 1,
+    moments: 2,
+};
+
 #[test]
 fn each_call_fails_in_turn(rt: HostRuntime) -> Result<(), Fail> {
     for failing in EACH_CALL {
@@ -170,6 +189,11 @@ fn each_call_fails_in_turn(rt: HostRuntime) -> Result<(), Fail> {
 #[test]
 fn each_call_fails_in_turn_over_a_segment(rt: HostRuntime) -> Result<(), Fail> {
     fails_in_turn(&rt, rt.alloc(), &OVER_A_SEGMENT)
+}
+
+#[test]
+fn each_call_fails_in_turn_behind_a_switch(rt: HostRuntime) -> Result<(), Fail> {
+    fails_in_turn(&rt, rt.alloc(), &BEHIND_A_SWITCH)
 }
 
 fn fails_in_turn<R: Abort + Threads + Wait + Sync>(
@@ -230,23 +254,36 @@ fn all_are_down_at_last<R: Abort>(rt: &R, run: &Run) {
 }
 
 // What crashes leave at each moment from one on is a front of the records, with those that were
-// told to be durable by then, by whichever backend.
+// told to be durable by then.
 fn outlive<R: Abort + Threads + Wait + Sync>(
     rt: &R,
     alloc: Global,
     run: &Run,
     first: u64,
 ) -> Result<(), Fail> {
-    let all = starts_told(alloc, &run.told, Which::All)?;
     for moment in first..run.disk.moment().saturating_add(1) {
-        let durable = starts_told(alloc, &run.told, durable(&run.told, moment))?;
-        for pick in [Pick::Old, Pick::New, Pick::Odd] {
-            let left = run.disk.crash(alloc, moment, pick)?;
-            assert!(rt;
-                has_front(rt, alloc, left, &all, &durable)?,
-                "at moment {moment}"
-            );
-        }
+        outlive_at(rt, alloc, run, moment)?;
+    }
+    Ok(())
+}
+
+/// What crashes leave at a moment is a front of the records, with each that lies below what some
+/// line, of whichever backend, was told to be durable by then: a commit that was answered ahead of
+/// the disk is one of them as soon as anybody's flush has passed it.
+pub fn outlive_at<R: Abort + Threads + Wait + Sync>(
+    rt: &R,
+    alloc: Global,
+    run: &Run,
+    moment: u64,
+) -> Result<(), Fail> {
+    let all = starts_told(alloc, &run.told, Which::All)?;
+    let durable = starts_told(alloc, &run.told, durable(&run.told, moment))?;
+    for pick in [Pick::Old, Pick::New, Pick::Odd] {
+        let left = run.disk.crash(alloc, moment, pick)?;
+        assert!(rt;
+            has_front(rt, alloc, left, &all, &durable)?,
+            "at moment {moment}"
+        );
     }
     Ok(())
 }

@@ -1,7 +1,7 @@
 //! Runs of several backends, and what each ends with.
 
 use crate::listed::is_listed;
-use crate::meeting::{Awaited, EIGHT, FOUR, HELD_SYNC, SHARED_SYNC, TWO};
+use crate::meeting::{Awaited, EIGHT, FOUR, HELD_SYNC, SHARED_SYNC, THREE, TWO};
 use crate::played::{Run, disk_of, play};
 use crate::told::count_told;
 use backend_cli::Cause;
@@ -171,6 +171,58 @@ fn runs_end_as_listed(rt: HostRuntime) -> Result<(), Fail> {
         let has_met = !run.was_missed;
         let is_sound = row.status == 4 || is_listed(&rt, alloc, run)?;
         assert!(rt; has_met && is_sound, "{}", row.what);
+    }
+    Ok(())
+}
+
+// One switch beside two backends of commits, wherever it comes between them: behind it all stand in
+// the second segment.
+const SWITCH: Row = Row {
+    what: "a segment is closed beside commits",
+    words: &["run", "--seg", "1048576", "--cap", "2", "--ring", "4"],
+    backends: &[(1, b"C 1 0\nW\nC 1 0\n"), (4, b"C 2 0\n"), (4, b"C 3 0\n")],
+    awaited: THREE,
+    segments: 2,
+    told: (3, 11),
+    ..ROW
+};
+
+const LONG_INSERT_AND_SWITCH: Lines = (1, b"I 1 10 00 59971*ab\nW\n");
+
+// Records of 60,000 bytes, on a ring of four pages, beside switches: each of them waits for room
+// while others hold it up. A switch may find the log at a segment's start.
+const SWITCHES: Row = Row {
+    what: "segments are closed beside records longer than the ring",
+    words: &["run", "--seg", "1048576", "--cap", "3", "--ring", "4"],
+    backends: &[LONG_INSERT_AND_SWITCH; 3],
+    awaited: THREE,
+    segments: 3,
+    told: (3, 6),
+    ..ROW
+};
+
+#[test]
+fn a_switch_is_listed_where_it_was_told(rt: HostRuntime) -> Result<(), Fail> {
+    are_listed(&rt, rt.alloc(), &SWITCH, 200)
+}
+
+#[test]
+fn switches_are_listed_where_they_were_told(rt: HostRuntime) -> Result<(), Fail> {
+    are_listed(&rt, rt.alloc(), &SWITCHES, 20)
+}
+
+// A row is played so many times: whichever way its backends interleave, the listing has the records
+// where they were told.
+fn are_listed<R: Abort + Threads + Wait + Sync>(
+    rt: &R,
+    alloc: Global,
+    row: &Row,
+    times: u32,
+) -> Result<(), Fail> {
+    for _ in 0..times {
+        let run = ended(rt, alloc, row, NO_CALL)?;
+        let has_met = !run.was_missed;
+        assert!(rt; has_met && is_listed(rt, alloc, run)?, "{}", row.what);
     }
     Ok(())
 }

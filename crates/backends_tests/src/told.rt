@@ -19,7 +19,10 @@ pub enum Which {
 // The end of a record, where it is told.
 fn end_told(answer: &Told) -> Option<Lsn> {
     match answer {
-        Told::Wrote { end, .. } | Told::Hard { end, .. } | Told::Async { end, .. } => Some(*end),
+        Told::Wrote { end, .. }
+        | Told::Hard { end, .. }
+        | Told::Async { end, .. }
+        | Told::Switched { end, .. } => Some(*end),
         _ => None,
     }
 }
@@ -49,7 +52,7 @@ fn durable_by(answer: &Told, latest: u64) -> Lsn {
 }
 
 /// The records that lie below an address that some line was told to be durable by a moment: those
-/// of inserts and of commits that were answered ahead too.
+/// of inserts, of switches and of commits that were answered ahead too.
 pub fn durable(told: &ToldLists, latest: u64) -> Which {
     let mut address = Lsn(0);
     for backend in 0..told.len() {

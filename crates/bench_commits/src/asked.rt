@@ -1,6 +1,7 @@
 //! What the command line asks for.
 
 use crate::trouble::Trouble;
+use log_workers::CommitKind;
 use std::env;
 
 /// What the log is written to.
@@ -20,12 +21,23 @@ impl Medium {
     }
 }
 
-/// How many threads commit, how many commits each makes, and where to.
+fn kind_of_word(word: &str) -> Option<CommitKind> {
+    match word {
+        "hard" => Some(CommitKind::Hard),
+        "async" => Some(CommitKind::Async),
+        _ => None,
+    }
+}
+
+/// How many threads commit, how many commits each makes and of which kind, where to, and whether
+/// the time is printed.
 #[derive(Clone, Copy, Debug, PartialEq, Eq)]
 pub struct Options {
     pub backends: u32,
     pub commits: u32,
     pub place: Medium,
+    pub kind: CommitKind,
+    pub timed: bool,
 }
 
 impl Options {
@@ -37,6 +49,15 @@ impl Options {
             Some(word) => Medium::of_word(word.as_str()).ok_or(Trouble::Usage)?,
             None => return Err(Trouble::Usage),
         };
+        let kind = match words.next() {
+            Some(word) => kind_of_word(word.as_str()).ok_or(Trouble::Usage)?,
+            None => return Err(Trouble::Usage),
+        };
+        let timed = match words.next() {
+            Some(word) if word.as_str() == "timed" => true,
+            Some(_) => return Err(Trouble::Usage),
+            None => false,
+        };
         if words.next().is_some() || backends > 1000 || commits > 1_000_000 {
             return Err(Trouble::Usage);
         }
@@ -44,6 +65,8 @@ impl Options {
             backends,
             commits,
             place,
+            kind,
+            timed,
         })
     }
 
@@ -58,7 +81,8 @@ impl Options {
         (bytes >> 24).saturating_add(2).min(4096) as u32
     }
 
-    /// The calls of a disk that all commits make at most: each writes one page or two, and syncs.
+    /// The calls of a disk that all commits make at most: each writes one page or two, and syncs,
+    /// or whoever flushes it behind does.
     pub fn calls(self) -> u32 {
         self.all()
             .saturating_mul(3)

@@ -7,7 +7,7 @@ mod log;
 mod trouble;
 
 use asked::{Medium, Options};
-use log::sealed;
+use log::measured;
 use segment_disk::MemDisk;
 use segment_files::FileDisk;
 use std::process;
@@ -32,19 +32,22 @@ fn main(rt: HostRuntime) -> ExitCode {
 fn run<R: Threads + Wait + Sync>(threads: &R, rt: HostRuntime) -> Result<(), Trouble> {
     let asked = Options::of_words(rt)?;
     let alloc = rt.alloc();
-    let count = match asked.place {
+    let measured = match asked.place {
         Medium::Memory => {
             let (segments, calls) = (asked.segments(), asked.calls());
             let disk = MemDisk::new(alloc, segments, calls, Vec::new(alloc), Vec::new(alloc))?;
-            sealed(threads, alloc, disk, asked)?
+            measured(threads, rt, alloc, disk, asked)?
         }
         Medium::Files => {
             let disk = FileDisk::open(rt, alloc, FOLDER, process::id(rt.process()))?;
-            sealed(threads, alloc, disk, asked)?
+            measured(threads, rt, alloc, disk, asked)?
         }
     };
-    println!(rt; "commits {count}")?;
-    if count == asked.all() {
+    println!(rt; "commits {}", measured.commits)?;
+    if asked.timed {
+        println!(rt; "microseconds {}", measured.time.as_micros())?;
+    }
+    if measured.commits == asked.all() {
         Ok(())
     } else {
         Err(Trouble::Refused)

@@ -7,7 +7,7 @@ use thiserror::Error;
 
 #[derive(Clone, Copy, Debug, PartialEq, Eq, Error)]
 pub enum Trouble {
-    #[error("usage: bench_commits BACKENDS COMMITS memory|files")]
+    #[error("usage: bench_commits BACKENDS COMMITS memory|files hard|async [timed]")]
     Usage,
     #[error("out of memory")]
     Memory,
@@ -15,7 +15,7 @@ pub enum Trouble {
     Open,
     #[error("a commit was refused")]
     Refused,
-    #[error("standard input or output failed")]
+    #[error("the standard output or the clock failed")]
     Stream,
 }
 

@@ -1,10 +1,9 @@
 -- A disk that holds all of a log for good reads back all of it, also as it is read now.
-use Rattle.std.proofs.Common.{◌≡◌, ℕ, ◌≤◌, ◌⊎◌, inl, inr, List, [], ◌∷◌, length, take, take_all, Option, None, Some, ◌==◌, if◌then◌else◌, refl, sym, subst, arith}
-use Rattle.std.proofs.lemmas.Bool.{cases_eq, eq-eqb, ne_eqb}
+use Rattle.std.proofs.Common.{◌≡◌, ℕ, ◌≤◌, inl, List, length, take, take_all, sym, subst, arith}
 use Rattle.segment_disk.specs.declared.disk.Call.{Call}
-use Rattle.segment_disk.specs.DiskImage.{DiskImage, IsWritten, MayLeave, image_as_read, word_of}
-use Rattle.segment_disk.specs.Tape.{DiskState, Segment, Tape, after_calls, after_writes, page_as_read, state_now}
-use Rattle.segment_disk.specs.Assured.{DiskImageFits, IsMadeUpto, IsNowhere, SegmentAssures, SegmentFits, StateAssures, TapeAssures}
+use Rattle.segment_disk.specs.DiskImage.{DiskImage, MayLeave, image_as_read}
+use Rattle.segment_disk.specs.Tape.{Tape, after_calls, state_now}
+use Rattle.segment_disk.specs.Assured.{DiskImageFits, IsMadeUpto, IsNowhere, TapeAssures}
 use Rattle.flush_core.specs.Lawful.{IsLawful}
 use Rattle.wal_page.specs.Order.{Entry, end_position}
 use Rattle.wal_core.specs.Words.{Opening, end_form, flushed_word, moment_word}
@@ -13,42 +12,11 @@ use Rattle.wal_core.specs.Durable.{IsFirm, IsLawfulAt, IsLogBelow}
 use Rattle.wal_core.proofs.Tapes.{at_suited}
 use Rattle.machine_laws.proofs.CrashLaws.{IsLawful-left}
 use Rattle.written_log.proofs.LawfulLaws.{whole_lawful_images_decode}
+use Rattle.written_log.proofs.ReadImages.{as_read_fits}
 use Rattle.closed_log.specs.Closed.{IsClosedOn}
 use Rattle.closed_log.specs.Whole.{HoldsWhole}
 use Rattle.told_lines.specs.Whole.{DecodesTo}
 use Rattle.closed_log.proofs.ClosedDisk.{chained, crashes, known, low, moment_passed, sound_tape, valid}
-
--- ---- a disk as it is read
-
--- a word of a page as it is read is the durable one, or that of a write
-word_read : (writes : List (ℕ × List ℕ)) (page k : ℕ) (bytes word : List ℕ)
-    → word ≡ word_of (after_writes writes page bytes) k
-    → (word ≡ word_of bytes k) ⊎ IsWritten writes page k word
-word_read [] page k bytes word is = inl is
-word_read (w ∷ writes) page k bytes word is =
-    elim (word_read writes page k (if w.0 == page then w.1 else bytes) word is) [
-      | inl first ↦ elim (cases_eq w.0 page) [
-        | inl same ↦ inr (inl (same, rw (eq-eqb w.0 page same) at first))
-        | inr other ↦ inl (rw (ne_eqb w.0 page other) at first)
-      ]
-      | inr written ↦ inr (inr written)
-    ]
-
-module _ (size : ℕ) (IsThere : ℕ → Type 0) (Fits : ℕ → ℕ → List ℕ → Type 0) where
-  segment_read_fits : (segment : ℕ) (s : Option Segment)
-      → SegmentAssures size IsThere Fits segment s
-      → SegmentFits size IsThere Fits segment (image_as_read (λ (n : ℕ). s) segment)
-  segment_read_fits segment None assures = assures
-  segment_read_fits segment (Some s) assures = (
-    assures.0,
-    λ page word within low. assures.1 page word within low (word_of (page_as_read s page) word)
-        (word_read s.writes page word (s.durable page) (word_of (page_as_read s page) word) refl),
-  )
-
-  -- what a state assures holds of it as it is read
-  as_read_fits : (state : DiskState) → StateAssures size IsThere Fits state
-      → DiskImageFits size IsThere Fits (image_as_read state)
-  as_read_fits state assures = λ n. segment_read_fits n (state n) (assures n)
 
 -- ---- the whole log
 

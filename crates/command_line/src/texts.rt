@@ -17,12 +17,14 @@ pgwal run [--seg N] [--ring N] [--cap N] [--list] [--writer N]
     --ring N   how many pages the log keeps in memory, 4 to 64 (64)
     --cap N    how many segments the log may fill, 1 to 4096 (64)
     --list     prints a line for each line of the script
-    --writer N a log writer, which is one backend more behind the script's last: N times, 1 to
-               1000, it flushes what lines A had answered before it was durable
+    --writer N adds a log writer, as a backend behind the script's last: it flushes N times, 1 to
+               1000, and so makes commits durable that lines A were answered for
     Example: an insert and a commit
         printf 'I 700 10 00 aabb\\nC 700 0\\n' | pgwal run --list
-    Example: a commit that is answered before it is durable, and a writer that flushes behind it
+    Example: a commit that is answered before it is durable, and a log writer that makes it so
         printf 'A 700 0\\n' | pgwal run --list --writer 10
+    Example: a segment switch between two commits: the second one is in the next segment
+        printf 'C 700 0\\nW\\nC 701 0\\n' | pgwal run --list
 
 pgwal gen N [--seg N] [--ring N] [--cap N] [--list]
     Writes a log into the folder pg_wal as run does, of lines that are made in place of a script:

@@ -13,7 +13,7 @@ use Rattle.segment_disk.specs.DiskImage.{word_of, IsWritten}
 use Rattle.segment_disk.specs.ImageWords.{zero_word}
 use Rattle.segment_disk.specs.Assured.{SegmentAssures, StateAssures}
 use Rattle.flush_core.specs.Pages.{unsynced_writes}
-use Rattle.flush_core.specs.Settled.{AreThere, HaveWholePages, IsAmong, IsAsRead, IsOldOrZero, IsReadBelow, IsSettledWord, cleared, clear_calls, clear_from, first_to_clear, kept_of, page_clears, segment_clears, segments_cleared, settle_calls, sync_calls}
+use Rattle.flush_core.specs.Settled.{AreThere, HaveWholePages, IsAmong, IsAsRead, IsOldOrZero, IsReadOrZero, IsSettledWord, cleared, clear_calls, clear_from, first_to_clear, kept_of, page_clears, segment_clears, segments_cleared, settle_calls, sync_calls}
 use Rattle.flush_core.proofs.LeftLaws.{AllFit, read_word}
 use Rattle.flush_core.proofs.SettledPages.{cleared_before, cleared_behind, settled_page, silent_first, silent_settled, turns_settled, turns_spared}
 use Rattle.flush_core.proofs.SettleReads.{syncs_spare}
@@ -130,6 +130,10 @@ module _ (size end : ℕ) (valid : IsSegmentSize size) where
 pub some_same : (a b : List ℕ) (o : Option (List ℕ)) → o ≡ Some a → o ≡ Some b → a ≡ b
 some_same a b o first second = ap (λ (x : Option (List ℕ)). unwrap_or x a) (sym first ∙ second)
 
+some_segment : (s : Option Segment) → IsSome (page_of_segment s 0) → IsSome s
+some_segment None has = has
+some_segment (Some s) has = refl
+
 -- a page that was there: its bytes, as they are read
 pub record KnownPage (size : ℕ) (before : DiskState) (segment page : ℕ) : Type 0 where
   pub bytes : List ℕ
@@ -169,9 +173,11 @@ module _ (size end count : ℕ) (valid : IsSegmentSize size) (before : DiskState
   old_here segment (Some s) is =
       let all = subst (λ (o : Option Segment). IfSome o (λ s. (s.pages ≡ pages_of size) × ((page : ℕ) → page < s.pages → length (page_as_read s page) ≡ 8192))) is (whole segment) in (
         all.0,
-        λ page word within low bytes may.
-            inl (at_number size end valid segment page within (λ d m. IsSomeAnd (before d) (λ x. (bytes ≡ word_of (x.durable m) word) ⊎ IsWritten x.writes m word bytes))
-            (subst (λ (o : Option Segment). IsSomeAnd o (λ x. (bytes ≡ word_of (x.durable page) word) ⊎ IsWritten x.writes page word bytes)) (sym is) may)),
+        λ page word within low bytes may. (
+          at_number size end valid segment page within (λ d m. IsSome (before d)) (subst (λ (o : Option Segment). IsSome o) (sym is) refl),
+          inl (at_number size end valid segment page within (λ d m. IsSomeAnd (before d) (λ x. (bytes ≡ word_of (x.durable m) word) ⊎ IsWritten x.writes m word bytes))
+              (subst (λ (o : Option Segment). IsSomeAnd o (λ x. (bytes ≡ word_of (x.durable page) word) ⊎ IsWritten x.writes page word bytes)) (sym is) may)),
+        ),
       )
 
   pub old_assures : StateAssures size (IsAmong count) (IsOldOrZero size before end) before
@@ -184,22 +190,26 @@ module _ (size end count : ℕ) (valid : IsSegmentSize size) (before : DiskState
       let same = some_same bytes page_before.bytes (page_of_segment (before segment) page) reads page_before.is in
       let long : length bytes ≡ 8192 = ap length same ∙ page_before.long in
       let number = segment * pages_of size + page in
+      let some = at_number size end valid segment page within (λ d m. IsSome (before d)) (some_segment (before segment) (there segment among)) in
       elim (cases_lt (number * 8192 + 8 * word) end) [
         | inl below ↦
             (let is : word_of page_before.bytes word ≡ word_of (cleared (clear_from (kept_of size end segment) page) bytes) word = ap (λ (l : List ℕ). word_of l word) (sym same) ∙ sym (word_below size end valid segment page within bytes long word low behind below) in
-            inl (read_stands (before (number / pages_of size)) (number % pages_of size) word _ (subst (IsAsRead size before number word) is (page_before.read word))))
-        | inr above ↦ inr (above, word_behind size end valid segment page within bytes long word low behind above)
+            (some, inl (read_stands (before (number / pages_of size)) (number % pages_of size) word _ (subst (IsAsRead size before number word) is (page_before.read word)))))
+        | inr above ↦ (some, inr (above, word_behind size end valid segment page within bytes long word low behind above))
       ]
 
-  pub read_clears : ClearsFit size (IsReadBelow size before count end) end count before
+  pub read_clears : ClearsFit size (IsReadOrZero size before count end) end count before
   read_clears segment page bytes among within behind reads word low =
       let page_before = known segment page among within in
       let same = some_same bytes page_before.bytes (page_of_segment (before segment) page) reads page_before.is in
       let long : length bytes ≡ 8192 = ap length same ∙ page_before.long in
       let number = segment * pages_of size + page in
-      λ _ below.
-      (let is : word_of page_before.bytes word ≡ word_of (cleared (clear_from (kept_of size end segment) page) bytes) word = ap (λ (l : List ℕ). word_of l word) (sym same) ∙ sym (word_below size end valid segment page within bytes long word low behind below) in
-      subst (IsAsRead size before number word) is (page_before.read word))
+      λ _. elim (cases_lt (number * 8192 + 8 * word) end) [
+        | inl below ↦
+            (let is : word_of page_before.bytes word ≡ word_of (cleared (clear_from (kept_of size end segment) page) bytes) word = ap (λ (l : List ℕ). word_of l word) (sym same) ∙ sym (word_below size end valid segment page within bytes long word low behind below) in
+            inl (subst (IsAsRead size before number word) is (page_before.read word)))
+        | inr above ↦ inr (above, word_behind size end valid segment page within bytes long word low behind above)
+      ]
 
   -- a state in which nothing waits is known by what is read in it
   module _ (Fits : ℕ → ℕ → List ℕ → Type 0) (st : DiskState) (old : StateAssures size (IsAmong count) (IsOldOrZero size before end) st)
@@ -243,13 +253,13 @@ module _ (size end count : ℕ) (valid : IsSegmentSize size) (before : DiskState
     silent_assures segment = silent_here segment (st segment) refl
 
   -- behind the first syncs, and behind all calls
-  pub synced_assures : StateAssures size (IsAmong count) (IsOldOrZero size before end) (after_calls before (sync_calls size (range_with_len 1 count))) → StateAssures size (IsAmong count) (IsReadBelow size before count end) (after_calls before (sync_calls size (range_with_len 1 count)))
+  pub synced_assures : StateAssures size (IsAmong count) (IsOldOrZero size before end) (after_calls before (sync_calls size (range_with_len 1 count))) → StateAssures size (IsAmong count) (IsReadOrZero size before count end) (after_calls before (sync_calls size (range_with_len 1 count)))
   synced_assures old =
       let syncs = sync_calls size (range_with_len 1 count) in
-      silent_assures (IsReadBelow size before count end) (after_calls before syncs) old
-      (λ segment page among within. let page_before = known segment page among within in (page_before.bytes, turns_spared segment page page_before.bytes syncs (syncs_spare size segment page (range_with_len 1 count)) before page_before.is, λ word low _ _. page_before.read word))
+      silent_assures (IsReadOrZero size before count end) (after_calls before syncs) old
+      (λ segment page among within. let page_before = known segment page among within in (page_before.bytes, turns_spared segment page page_before.bytes syncs (syncs_spare size segment page (range_with_len 1 count)) before page_before.is, λ word low _. inl (page_before.read word)))
       (λ segment among. silent_first segment size count among.0 among.1 before)
-      (λ segment page word bytes within apart among _. absurd (apart (from_number size end valid segment page within (IsAmong count) among)))
+      (λ segment page word bytes within apart among. absurd (apart (from_number size end valid segment page within (IsAmong count) among)))
 
   pub settled_assures : StateAssures size (IsAmong count) (IsOldOrZero size before end) (after_calls before (settle_calls size end count before)) → StateAssures size (IsAmong count) (IsSettledWord size before count end) (after_calls before (settle_calls size end count before))
   settled_assures old =
@@ -261,12 +271,15 @@ module _ (size end count : ℕ) (valid : IsSegmentSize size) (before : DiskState
         new,
         turns_settled size end segment page before page_before.bytes page_before.is page_before.long within count among.0 among.1 before page_before.is,
         λ word low. (
-          λ _ below. subst (IsAsRead size before (segment * pages_of size + page) word) (sym (settled_below size end valid segment page within page_before.bytes page_before.long word low below)) (page_before.read word),
+          λ _. elim (cases_lt ((segment * pages_of size + page) * 8192 + 8 * word) end) [
+            | inl below ↦ inl (subst (IsAsRead size before (segment * pages_of size + page) word) (sym (settled_below size end valid segment page within page_before.bytes page_before.long word low below)) (page_before.read word))
+            | inr above ↦ inr (above, settled_behind size end valid segment page within page_before.bytes page_before.long word low above)
+          ],
           λ _ above. settled_behind size end valid segment page within page_before.bytes page_before.long word low above,
         ),
       ))
       (λ segment among. silent_settled segment size end count before among.0 among.1 before)
       (λ segment page word bytes within apart. (
-        λ among _. absurd (apart (from_number size end valid segment page within (IsAmong count) among)),
+        λ among. absurd (apart (from_number size end valid segment page within (IsAmong count) among)),
         λ among _. absurd (apart (from_number size end valid segment page within (IsAmong count) among)),
       ))

@@ -8,7 +8,7 @@ use Rattle.segment_disk.specs.declared.disk.Call.{Call}
 use Rattle.segment_disk.specs.Tape.{DiskState, Tape, after_calls, state_now, sync_call}
 use Rattle.segment_disk.specs.Assured.{StateAssures, TapeAssures}
 use Rattle.flush_core.specs.Calls.{AreMade, with_calls}
-use Rattle.flush_core.specs.Settled.{AreThere, HaveWholePages, IfWhole, IsAmong, IsOldOrZero, IsReadBelow, StaysSettled, IsSettledWord, KeepsRead, KeepsOld, MakesCalls, NextFails, StopsCalls, segment_clears, segments_cleared, settle_calls, sync_calls}
+use Rattle.flush_core.specs.Settled.{AreThere, HaveWholePages, IfWhole, IsAmong, IsOldOrZero, IsReadOrZero, StaysSettled, IsSettledWord, KeepsRead, KeepsOld, MakesCalls, NextFails, StopsCalls, segment_clears, segments_cleared, settle_calls, sync_calls}
 use Rattle.flush_core.proofs.GrowingTapes.{with_calls-append, with_calls-some}
 use Rattle.flush_core.proofs.LeftLaws.{AllFit, TapeAssures-failed, TapeAssures-now, TapeAssures-with_calls, front_fits}
 use Rattle.flush_core.proofs.SettledLeft.{all_fit, old_assures, old_clears, read_clears, rest_fits, settled_assures, synced_assures}
@@ -61,8 +61,8 @@ module _ (size end count : ℕ) (valid : IsSegmentSize size) (t : Tape) (m0 : �
   old_fit : AllFit size (IsAmong count) (IsOldOrZero size before end) (syncs ++ rest)
   old_fit = all_fit size (IsOldOrZero size before end) end count before (old_clears size end count valid before whole there)
 
-  read_fit : AllFit size (IsAmong count) (IsReadBelow size before count end) rest
-  read_fit = rest_fits size (IsReadBelow size before count end) end count before (read_clears size end count valid before whole there)
+  read_fit : AllFit size (IsAmong count) (IsReadOrZero size before count end) rest
+  read_fit = rest_fits size (IsReadOrZero size before count end) end count before (read_clears size end count valid before whole there)
 
   old_behind : (calls : List Call) → AllFit size (IsAmong count) (IsOldOrZero size before end) calls → KeepsOld size before count end m0 (with_more calls)
   old_behind calls fit =
@@ -82,8 +82,8 @@ module _ (size end count : ℕ) (valid : IsSegmentSize size) (t : Tape) (m0 : �
   read_tape : KeepsRead size before count end (m0 + count) (with_more syncs)
   read_tape =
       let old : StateAssures size (IsAmong count) (IsOldOrZero size before end) (after_calls before syncs) = subst (StateAssures size (IsAmong count) (IsOldOrZero size before end)) (state_is syncs) (old_behind syncs old_first).now in
-      TapeAssures-now size (IsAmong count) (IsReadBelow size before count end) (m0 + count) (with_more syncs) (omega (arith, counts, syncs_count, length-append t.calls syncs))
-      (subst (StateAssures size (IsAmong count) (IsReadBelow size before count end)) (sym (state_is syncs)) (synced_assures size end count valid before whole there old))
+      TapeAssures-now size (IsAmong count) (IsReadOrZero size before count end) (m0 + count) (with_more syncs) (omega (arith, counts, syncs_count, length-append t.calls syncs))
+      (subst (StateAssures size (IsAmong count) (IsReadOrZero size before count end)) (sym (state_is syncs)) (synced_assures size end count valid before whole there old))
 
   read_some : IfSome (with_calls (Some t) syncs) (KeepsRead size before count end (m0 + count))
   read_some = subst (λ (o : Option Tape). IfSome o (KeepsRead size before count end (m0 + count))) (sym (with_calls-some t syncs)) read_tape
@@ -99,7 +99,7 @@ module _ (size end count : ℕ) (valid : IsSegmentSize size) (t : Tape) (m0 : �
     pub made_keeps : IfSome new (KeepsRead size before count end (m0 + count))
     made_keeps =
         subst (λ (o : Option Tape). IfSome o (KeepsRead size before count end (m0 + count))) (sym (grown ∙ with_calls-append (Some t) syncs rest))
-        (TapeAssures-with_calls size (IsAmong count) (IsReadBelow size before count end) (m0 + count) (with_calls (Some t) syncs) rest read_fit read_some)
+        (TapeAssures-with_calls size (IsAmong count) (IsReadOrZero size before count end) (m0 + count) (with_calls (Some t) syncs) rest read_fit read_some)
 
     pub made_settles : IfSome new (StaysSettled size before count end m1)
     made_settles =
@@ -122,7 +122,7 @@ module _ (size end count : ℕ) (valid : IsSegmentSize size) (t : Tape) (m0 : �
         let parts = front_of syncs front others rest are (omega (arith, syncs_count, long)) in
         let behind = drop (length syncs) front in
         let tape : with_calls (Some t) front ≡ with_calls (with_calls (Some t) syncs) behind = ap (with_calls (Some t)) parts.0 ∙ with_calls-append (Some t) syncs behind in
-        stopped_assures size (IsAmong count) (IsReadBelow size before count end) (m0 + count) (with_calls (Some t) syncs) new (m0 + length front) m1 behind others (subst (AllFit size (IsAmong count) (IsReadBelow size before count end)) (sym parts.1) read_fit) read_some
+        stopped_assures size (IsAmong count) (IsReadOrZero size before count end) (m0 + count) (with_calls (Some t) syncs) new (m0 + length front) m1 behind others (subst (AllFit size (IsAmong count) (IsReadOrZero size before count end)) (sym parts.1) read_fit) read_some
         (elim ends [ inl made ↦ inl (made.tape ∙ tape) | inr fails ↦ inr (subst (λ (o : Option Tape). NextFails o new (m0 + length front) m1 others) tape fails) ])
 
 -- ---- where the disk tells its tape

@@ -25,9 +25,11 @@ abbrev pub AreThere : DiskState → ℕ → Type 0
 AreThere state count =
     (segment : ℕ) → IsAmong count segment → IsSome (page_of_segment (state segment) 0)
 
--- .. and the next one is not, if it would end at address 2 ^ 60 or below
+-- .. and the next one is not, if it would end at address 2 ^ 60 or below; none of them ends above
+-- that
 pub record AreAllThere (size : ℕ) (state : DiskState) (count : ℕ) : Type 0 where
   pub there : AreThere state count
+  pub low : count < 2 ^ 60 / size
   pub others : count + 1 < 2 ^ 60 / size → page_of_segment (state (count + 1)) 0 ≡ None
 
 -- ---- the calls
@@ -124,20 +126,23 @@ MayStand size state page word bytes = IsSomeAnd (state (page / pages_of size))
     (λ s. (bytes ≡ word_of (s.durable (page % pages_of size)) word)
     ⊎ IsWritten s.writes (page % pages_of size) word bytes)
 
--- a word that a crash might have left before, or at or above the end zeros
+-- a word of a segment that was there: one that a crash might have left before, or at or above the
+-- end zeros
 abbrev pub IsOldOrZero : ℕ → DiskState → ℕ → ℕ → ℕ → List ℕ → Type 0
-IsOldOrZero size before end page word bytes = MayStand size before page word bytes
+IsOldOrZero size before end page word bytes = IsSome (before (page / pages_of size))
+    × (MayStand size before page word bytes
+    ⊎ ((end ≤ page * 8192 + 8 * word) × (bytes ≡ zero_word)))
+
+-- in the segments that were there a word is as it was read, or at or above the end zeros
+abbrev pub IsReadOrZero : ℕ → DiskState → ℕ → ℕ → ℕ → ℕ → List ℕ → Type 0
+IsReadOrZero size before count end page word bytes = IsAmong count (page / pages_of size)
+    → IsAsRead size before page word bytes
     ⊎ ((end ≤ page * 8192 + 8 * word) × (bytes ≡ zero_word))
 
--- in the segments that were there a word below the end is as it was read
-abbrev pub IsReadBelow : ℕ → DiskState → ℕ → ℕ → ℕ → ℕ → List ℕ → Type 0
-IsReadBelow size before count end page word bytes = IsAmong count (page / pages_of size)
-    → page * 8192 + 8 * word < end → IsAsRead size before page word bytes
-
--- .. and one at or above it is zeros
+-- .. and one at or above the end is zeros
 abbrev pub IsSettledWord : ℕ → DiskState → ℕ → ℕ → ℕ → ℕ → List ℕ → Type 0
 IsSettledWord size before count end page word bytes =
-    IsReadBelow size before count end page word bytes
+    IsReadOrZero size before count end page word bytes
     × (IsAmong count (page / pages_of size) → end ≤ page * 8192 + 8 * word → bytes ≡ zero_word)
 
 -- whatever a crash leaves since: below the end nothing but what it might have left before
@@ -145,10 +150,11 @@ abbrev pub KeepsOld : ℕ → DiskState → ℕ → ℕ → ℕ → Tape → Typ
 KeepsOld size before count end moment tape =
     TapeAssures size (IsAmong count) (IsOldOrZero size before end) moment tape
 
--- from the moment on at which the first syncs are done: below the end just what was read
+-- from the moment on at which the first syncs are done: below the end just what was read, and at or
+-- above it that or zeros
 abbrev pub KeepsRead : ℕ → DiskState → ℕ → ℕ → ℕ → Tape → Type 0
 KeepsRead size before count end moment tape =
-    TapeAssures size (IsAmong count) (IsReadBelow size before count end) moment tape
+    TapeAssures size (IsAmong count) (IsReadOrZero size before count end) moment tape
 
 -- from the end of all calls on: that, and zeros from the end of the log on
 abbrev pub StaysSettled : ℕ → DiskState → ℕ → ℕ → ℕ → Tape → Type 0
@@ -178,11 +184,13 @@ TellsSettleFault old new old_moment new_moment old_faults new_faults Memory =
 TellsSettleFault old new old_moment new_moment old_faults new_faults (Disk faults) =
     (faults ≡ new_faults) × Rose old_faults new_faults
 
--- a log was not settled: a front of the calls was made
+-- a log was not settled: a front of the calls was made, of the segments that are there; where they
+-- could not be counted no call was made
 pub record HasNotSettled (size end : ℕ) (old new : Option Tape) (old_moment new_moment : ℕ)
     : Type 0 where
   pub count : ℕ
-  pub there : IfSome old (λ t. AreThere (state_now t) count)
+  pub there : IfSome old (λ t. AreAllThere size (state_now t) count)
+      ⊎ ((count ≡ 0) × IsNotMade old new old_moment new_moment)
   pub calls : StopsCalls old new old_moment new_moment (settle_calls size end count)
   pub keeps_old : IfWhole size old new
       (λ before. KeepsOld size before count end old_moment)

@@ -23,7 +23,7 @@ IsZeroOrLogWord size sysid es page word bytes =
 -- in the segments from 1 to `count` each word below `upto` reads as the log's
 abbrev pub ReadsAsLog : ℕ → ℕ → ℕ → List Entry → ℕ → DiskState → Type 0
 ReadsAsLog size sysid count es upto state = (page word : ℕ) (bytes : List ℕ)
-    → IsAmong count (page / pages_of size) → page * 8192 + 8 * word < upto
+    → IsAmong count (page / pages_of size) → word < 1024 → page * 8192 + 8 * word < upto
     → IsAsRead size state page word bytes → IsLogWord size sysid es page word bytes
 
 -- no other segments were there

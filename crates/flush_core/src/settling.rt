@@ -69,8 +69,8 @@ pub fn settle<D: Disk>(
     }
 }
 
-// How many segments are there, from 1 on.
-fn count_segments<D: Disk>(
+/// How many segments are there, from 1 up to the first that is not. `page` is room for a page.
+pub fn count_segments<D: Disk>(
     disk: &mut D,
     geometry: Geometry,
     page: &mut [u8; 8192],

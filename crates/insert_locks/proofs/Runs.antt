@@ -1,14 +1,18 @@
 -- A run of locks: which ones they are, and what is told and left under them, one by one.
-use Rattle.std.proofs.Common.{◌≡◌, ℕ, zero, suc, ◌+◌, ◌-◌, ◌<◌, ◌≤◌, Bool, cond, not, eq-eqb, ne_eqb, List, [], ◌∷◌, length, slice_index_or, Contains, refl, sym, ap, ◌∙◌, subst, arith}
+use Rattle.std.specs.Prelude.{if◌then◌else◌, ◌==◌}
+use Rattle.std.proofs.Common.{◌≡◌, ◌≢◌, ℕ, zero, suc, ◌+◌, ◌-◌, ◌<◌, ◌≤◌, Bool, cond, not, eq-eqb, ne_eqb, List, [], ◌∷◌, ◌++◌, length, slice_index_or, Contains, refl, sym, ap, ◌∙◌, subst, arith}
+use Rattle.std.proofs.lemmas.List.Elements.{Contains-append_left, Contains-push}
+use mathlib.Core.Logic.{dite}
 use mathlib.Core.Option.{none}
+use native.Mathlib.Decide.{ℕ_discrete}
 use Rattle.wal_page.specs.EntryWords.{words_owned}
-use Rattle.wal_core.specs.Moves.{landed, standing, with_working, without_lock}
-use Rattle.wal_core.specs.Steps.{release, view_behind, MayStep}
+use Rattle.wal_core.specs.Moves.{after_advance, landed, standing, with_told, with_working, without_lock}
+use Rattle.wal_core.specs.Steps.{advance, release, view_behind, MayStep}
 use Rattle.wal_core.specs.Views.{Copy, Copying, Flight, Landed, View}
 use Rattle.wal_core.proofs.Landing.{is_among_them}
 use Rattle.wal_rule.specs.declared.seated.SeatedPass.{SeatedPass}
 use Rattle.wal_rule.specs.SeatedPasses.{HasView, Steps, hand_of, view_of}
-use Rattle.insert_locks.specs.Holding.{AreLocks, NothingLeft, lock_run}
+use Rattle.insert_locks.specs.Holding.{AreLocks, HasTold, NothingLeft, lock_run}
 
 -- ---- which ones they are
 
@@ -39,6 +43,21 @@ run_below first count lock (k, less, is) =
 pub run_first : (first count : ℕ) → Contains (lock_run first (suc count)) first
 run_first first count = (0, omega arith, refl)
 
+-- with one lock more behind them
+run_push : (first count : ℕ)
+    → lock_run first count ++ (first + count) ∷ [] ≡ lock_run first (suc count)
+run_push first zero = ap (λ (n : ℕ). n ∷ []) (omega arith)
+run_push first (suc count) =
+    ap (λ (n : ℕ). first ∷ (lock_run (first + 1) count ++ n ∷ [])) (omega arith)
+    ∙ ap (λ (locks : List ℕ). first ∷ locks) (run_push (first + 1) count)
+
+pub run_more : (count : ℕ) → lock_run 0 count ++ count ∷ [] ≡ lock_run 0 (count + 1)
+run_more count =
+    let last : count ≡ 0 + count = omega arith in
+    let more : suc count ≡ count + 1 = omega arith in
+    ap (λ (n : ℕ). lock_run 0 count ++ n ∷ []) last ∙ run_push 0 count
+    ∙ ap (λ (n : ℕ). lock_run 0 n) more
+
 -- some of the eight are below a number, which is 8 at most
 pub run_low : (count : ℕ) → AreLocks (lock_run 0 count) → count ≤ 8
 run_low zero are = omega arith
@@ -51,6 +70,73 @@ run_locks count low lock has = let below = run_below 0 count lock has in omega (
 
 pub one_lock : (lock : ℕ) → lock < 8 → AreLocks (lock ∷ [])
 one_lock lock low other has = let below = run_below lock 1 other has in omega (arith, below, low)
+
+-- ---- an address is told under a run, from lock 0 up
+
+-- under the locks below this number, which may be 0
+pub record HasToldBelow {D : Type 0} (count upto : ℕ) (old new : SeatedPass D) : Type 0 where
+  pub view : HasView
+      (with_told (view_of new).told (view_of new).told_under (view_of old)) old new
+  pub told : 0 < count → (view_of new).told ≡ upto
+  pub each : (lock : ℕ) → lock < count → Contains (view_of new).told_under lock
+
+pub none_told : {D : Type 0} (a : SeatedPass D) (upto : ℕ) → HasToldBelow 0 upto a a
+none_told a upto = record {
+  view = record { same_table = refl; me_is = refl };
+  told = λ some. absurd (omega (arith, some));
+  each = λ lock low. absurd (omega (arith, low));
+}
+
+-- under one lock, and under those too under which that was told last
+abbrev under_more : (lock upto : ℕ) → View → List ℕ
+under_more lock upto v = (if v.told == upto then v.told_under else []) ++ lock ∷ []
+
+told_more : (lock upto : ℕ) (v : View) → Contains (under_more lock upto v) lock
+told_more lock upto v = Contains-push (if v.told == upto then v.told_under else []) lock
+
+told_still : (lock upto : ℕ) (v : View) → v.told ≡ upto → (other : ℕ)
+    → Contains v.told_under other → Contains (under_more lock upto v) other
+told_still lock upto v same other has = Contains-append_left _ (lock ∷ []) other
+    (subst (λ (b : Bool). Contains (if b then v.told_under else []) other)
+    (sym (eq-eqb v.told upto same)) has)
+
+now_told : {D : Type 0} (a b : SeatedPass D) (lock upto : ℕ) → Steps (advance lock upto) 0 a b
+    → view_of b ≡ with_told upto (under_more lock upto (view_of a)) (view_of a)
+now_told a b lock upto step = ap (λ me. me.0) step.me_is
+
+pub told_next : {D : Type 0} (a b c : SeatedPass D) (lock upto : ℕ) → HasToldBelow lock upto a b
+    → Steps (advance lock upto) 0 b c → HasToldBelow (lock + 1) upto a c
+told_next a b c lock upto before step =
+    let now = now_told b c lock upto step in
+    let told : (view_of c).told ≡ upto = ap (λ (v : View). v.told) now in
+    let under : (view_of c).told_under ≡ under_more lock upto (view_of b) =
+    ap (λ (v : View). v.told_under) now in record {
+      view = record {
+        same_table = step.same_table ∙ (before.view).same_table;
+        me_is = step.me_is ∙ ap (λ me. (after_advance lock upto me.0, me.1)) (before.view).me_is
+            ∙ ap (λ (x : ℕ × List ℕ). (with_told x.0 x.1 (view_of a), hand_of a))
+            (λ j. (sym told j, sym under j));
+      };
+      told = λ some. told;
+      each = λ other low. subst (λ (ls : List ℕ). Contains ls other) (sym under)
+          (dite (ℕ_discrete other lock)
+          (λ (is : other ≡ lock). subst
+          (λ (n : ℕ). Contains (under_more lock upto (view_of b)) n) (sym is)
+          (told_more lock upto (view_of b)))
+          (λ (ne : other ≢ lock).
+          let below : other < lock = omega (arith, ne, low) in
+          told_still lock upto (view_of b) (before.told (omega (arith, below))) other
+          (before.each other below)));
+    }
+
+pub told_all : {D : Type 0} (a b : SeatedPass D) (count upto : ℕ) → 0 < count
+    → HasToldBelow count upto a b → HasTold (lock_run 0 count) upto a b
+told_all a b count upto some all = record {
+  under = (view_of b).told_under;
+  each = λ lock has. let low = run_below 0 count lock has in all.each lock (omega (arith, low));
+  view = subst (λ (n : ℕ). HasView (with_told n (view_of b).told_under (view_of a)) a b)
+      (all.told some) all.view;
+}
 
 -- ---- a run is given back, from its first lock on
 

@@ -3,8 +3,11 @@
 use Rattle.std.specs.Prelude.{◌≡◌, ℕ, zero, suc, ◌+◌, ◌<◌, ◌≤◌, Contains, List, [], ◌∷◌, length}
 use Rattle.wal_page.specs.EntryWords.{words_owned}
 use Rattle.wal_core.specs.declared.setup.Setup.{Setup}
+use Rattle.wal_core.specs.Moves.{with_told}
 use Rattle.wal_core.specs.Steps.{advance, MayStep}
 use Rattle.wal_core.specs.Views.{Copying, Flight, Landed, View}
+use Rattle.wal_rule.specs.declared.seated.SeatedPass.{SeatedPass}
+use Rattle.wal_rule.specs.SeatedPasses.{HasView, view_of}
 use Rattle.insert_locks.specs.declared.holding.Held.{Held}
 use Rattle.insert_locks.specs.declared.holding.Held.TheVariants.{One, Below}
 
@@ -24,6 +27,12 @@ AreLocks locks = (lock : ℕ) → Contains locks lock → lock < 8
 -- the address may be told under each
 abbrev pub MayTell : List ℕ → ℕ → View → Type 0
 MayTell locks upto v = (lock : ℕ) → Contains locks lock → MayStep v (advance lock upto)
+
+-- of a pass only what it told has changed: this address, under each of these locks at least
+pub record HasTold {D : Type 0} (locks : List ℕ) (upto : ℕ) (old new : SeatedPass D) : Type 0 where
+  pub under : List ℕ
+  pub each : (lock : ℕ) → Contains locks lock → Contains under lock
+  pub view : HasView (with_told upto under (view_of old)) old new
 
 -- nothing is left to copy under these locks: nothing is in flight, or an entry stands under just
 -- these, of which there is one at least, with each of its words copied

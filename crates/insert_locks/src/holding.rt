@@ -4,9 +4,9 @@
 // all that its pass holds. So each of them tells the same address, from lock 0 up, as a watch
 // visits them; and with the last one that is given back the entry has landed.
 ghost use Rattle.std.specs.Prelude.{◌≡◌, ◌+◌, ◌<◌, ◌≤◌, ◌^◌, length};
-ghost use Rattle.wal_core.specs.Moves.{after_advance, without_work};
+ghost use Rattle.wal_core.specs.Moves.{without_work};
 ghost use Rattle.wal_rule.specs.SeatedPasses.{HasView, view_of};
-ghost use Rattle.insert_locks.specs.Holding.{AreLocks, MayTell, NothingLeft, lock_run, locks_of};
+ghost use Rattle.insert_locks.specs.Holding.{AreLocks, HasTold, MayTell, NothingLeft, lock_run, locks_of};
 
 use segment_disk::Disk;
 use wal_rule::SeatedPass;
@@ -27,7 +27,7 @@ pub fn tell<'p, D: Disk>(seated: &mut SeatedPass<'p, D>, held: Held, upto: u64)
     requires locks { AreLocks (locks_of held) }
     requires may { MayTell (locks_of held) upto (view_of seated.old) }
     requires low { upto + 1 < 2 ^ 64 }
-    ensures view { HasView (after_advance upto (view_of seated.old)) seated.old seated.new }
+    ensures told { HasTold (locks_of held) upto seated.old seated.new }
 {
     match held {
         Held::One(lock) => seated.advance(lock, upto),
@@ -36,14 +36,14 @@ pub fn tell<'p, D: Disk>(seated: &mut SeatedPass<'p, D>, held: Held, upto: u64)
 }
 
 // Tells so under each lock below a number.
-fn tell_below<'p, D: Disk>(seated: &mut SeatedPass<'p, D>, count: u32, upto: u64)
-    requires some { 1 ≤ count }
-    requires locks { count ≤ 8 }
-    requires may { MayTell (lock_run 0 count) upto (view_of seated.old) }
+fn tell_below<'p, D: Disk>(seated: &mut SeatedPass<'p, D>, end: u32, upto: u64)
+    requires some { 1 ≤ end }
+    requires locks { end ≤ 8 }
+    requires may { MayTell (lock_run 0 end) upto (view_of seated.old) }
     requires low { upto + 1 < 2 ^ 64 }
-    ensures view { HasView (after_advance upto (view_of seated.old)) seated.old seated.new }
+    ensures told { HasTold (lock_run 0 end) upto seated.old seated.new }
 {
-    for lock in 0..count {
+    for lock in 0..end {
         seated.advance(lock, upto);
     }
 }

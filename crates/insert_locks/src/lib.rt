@@ -18,5 +18,5 @@ mod watching;
 
 pub use holding::{Held, release, tell};
 pub use seeing::{see_end, see_reserved};
-pub use taking::{AllHeld, try_take};
+pub use taking::{AllHeld, try_take, try_take_lock};
 pub use watching::{Watched, watch};

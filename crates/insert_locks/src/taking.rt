@@ -1,7 +1,8 @@
 // An insertion lock is taken (PostgreSQL's xlog.c, WALInsertLockAcquire), by an exchange of 0 for 1
 // in its word. The eight are tried in turn, from the lock of the pass's number on, so that passes
 // with other numbers begin at other locks. PostgreSQL waits at a lock that is held; here the caller
-// is told if all eight are, and then holds no more than before.
+// is told if all eight are, and then holds no more than before. A segment switch needs them all, and
+// tries each by itself, from lock 0 up.
 // A record is reserved only under a lock that its pass holds already. So a watch that saw the
 // record reserved, and visits the locks afterwards, finds this one held, or all of it copied.
 ghost use Rattle.std.specs.Prelude.{◌≡◌, ◌≢◌, ◌<◌, IfErr, IfOk};
@@ -34,7 +35,7 @@ pub fn try_take<'p, D: Disk>(seated: &mut SeatedPass<'p, D>) -> Result<u32, AllH
     let mut seen = [0; 8];
     for tried in 0..8 {
         let lock = (first + tried) % LOCKS;
-        let word = try_lock(seated, lock);
+        let word = try_take_lock(seated, lock);
         if word == 0 {
             return Ok(lock);
         }
@@ -43,10 +44,10 @@ pub fn try_take<'p, D: Disk>(seated: &mut SeatedPass<'p, D>) -> Result<u32, AllH
     Err(AllHeld { seen })
 }
 
-// Takes a lock where it is free, which is where the word met is 0. Else the pass holds what it
-// held.
-fn try_lock<'p, D: Disk>(seated: &mut SeatedPass<'p, D>, lock: u32) -> u64
+/// Takes this lock where it is free, by one try, and tells the word met, which is 0 just then.
+pub fn try_take_lock<'p, D: Disk>(seated: &mut SeatedPass<'p, D>, lock: u32) -> u64
     requires lock { lock < 8 }
+    // The pass holds the lock beside those that it held, or what it held.
     ensures taken { result ≡ 0
         → HasView (with_lock lock (view_of seated.old)) seated.old seated.new }
     ensures held { result ≢ 0 → HasView (view_of seated.old) seated.old seated.new }

@@ -9,7 +9,9 @@ use std::process::Abort;
 use std::sync::Wait;
 use std::test::Fail;
 use std::thread::Threads;
-use wal_log::{Cause, Closed, CommitErr, FlushErr, Hard, InsertErr, Receipt, Sealed, Setup};
+use wal_log::{
+    Cause, Closed, CommitErr, FlushErr, Hard, InsertErr, Receipt, Sealed, Setup, Switch, SwitchErr,
+};
 use wal_types::Lsn;
 
 // A log, what its backends ask one behind the other, and what is left of it.
@@ -262,6 +264,47 @@ const ROWS: &[Row] = &[
             Step::Flush(START, Err(FlushErr::Down { faults: 1 })),
         ]],
         left: (LONG_END, 1, Some(1)),
+    },
+    // The commit's page is written again with the rest of its segment, which is synced before the
+    // next one is made.
+    Row {
+        what: "a switch ends its segment, and another one stays",
+        ring_pages: 4,
+        cap_segments: 2,
+        fail: &[],
+        backends: &[&[
+            COMMITTED,
+            Step::Switch(Ok(Switch::Done {
+                start: END,
+                end: Lsn(0x20_0000),
+            })),
+            Step::Switch(Ok(Switch::Stayed {
+                end: Lsn(0x20_0000),
+            })),
+            Step::Commit(Ok(Sealed {
+                start: Lsn(0x20_0028),
+                end: Lsn(0x20_0050),
+                moment: 135,
+            })),
+        ]],
+        left: (Lsn(0x20_0050), 135, None),
+    },
+    Row {
+        what: "too few bytes are left for a switch",
+        ring_pages: 64,
+        cap_segments: 1,
+        fail: &[],
+        backends: &[&[
+            Step::Insert(
+                1_045_451,
+                Ok(Receipt {
+                    start: START,
+                    end: Lsn(0x1f_fff8),
+                }),
+            ),
+            Step::Switch(Err(SwitchErr::Full { free: 8 })),
+        ]],
+        left: (Lsn(0x1f_fff8), 65, None),
     },
     Row {
         what: "the write of a commit fails",

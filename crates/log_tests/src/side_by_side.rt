@@ -3,14 +3,15 @@
 use crate::filled::{Ended, SETUP, filled};
 use crate::reading::{Found, end_behind, records_on};
 use crate::records::record;
-use crate::told::{is_down_behind, records_told, rises};
-use log_workers::{Insertion, Job, LogCall, commits, transaction};
+use crate::told::{is_down_behind, records_told, rises, start_told};
+use log_workers::{CommitKind, Insertion, Job, LogCall, SegmentEnd, commits, transaction};
 use segment_disk::{Disk, MemDisk, Pick};
 use std::alloc::Global;
 use std::process::Abort;
 use std::sync::Wait;
 use std::test::Fail;
 use std::thread::Threads;
+use wal_log::Setup;
 
 // For each backend so many commits; the first one's transactions have the numbers from 1 on, the
 // next one's those behind them.
@@ -18,7 +19,7 @@ fn commits_of(alloc: Global, counts: &[u32]) -> Result<Vec<Vec<Job>>, Fail> {
     let mut work = Vec::new(alloc);
     let mut first = 1u32;
     for count in counts {
-        work.push(commits(alloc, first, *count)?)?;
+        work.push(commits(alloc, CommitKind::Hard, first, *count)?)?;
         first = first.wrapping_add(*count);
     }
     Ok(work)
@@ -75,8 +76,61 @@ fn a_record_longer_than_the_ring_goes_in_beside_commits(rt: HostRuntime) -> Resu
     jobs.push(Job::of(LogCall::Commit(Insertion::of(transaction(alloc, 2)?))))?;
     let mut work = Vec::new(alloc);
     work.push(jobs)?;
-    work.push(commits(alloc, 3, 5)?)?;
+    work.push(commits(alloc, CommitKind::Hard, 3, 5)?)?;
     are_read_back(&rt, alloc, work, 7, 60_000 + 6 * 40)
+}
+
+// Three backends insert records of 60,000 bytes, each longer than the ring, and switch segments
+// beside each other, and then commit. All of them end, and a reader finds what they were told, in
+// order.
+#[test]
+fn switches_go_in_beside_long_records(rt: HostRuntime) -> Result<(), Fail> {
+    let alloc = rt.alloc();
+    for _ in 0..10 {
+        let mut work = Vec::new(alloc);
+        for _ in 0..3 {
+            work.push(long_records_and_switches(alloc)?)?;
+        }
+        let setup = Setup {
+            cap_segments: 4,
+            ..SETUP
+        };
+        let Ended { work, closed } = filled(&rt, alloc, setup, Vec::new(alloc), work, 3)?;
+        assert_eq!(&rt; closed.down, None);
+        let mut disk = closed.disk;
+        let found = records_on(alloc, &mut disk)?;
+        let mut starts = Vec::new(alloc);
+        for record in &found {
+            starts.push(record.start)?;
+        }
+        assert_eq!(&rt; starts, starts_told(alloc, &work)?);
+    }
+    Ok(())
+}
+
+fn long_records_and_switches(alloc: Global) -> Result<Vec<Job>, Fail> {
+    let mut jobs = Vec::new(alloc);
+    for call in [1, 2, 3] {
+        let long = Insertion::of(record(alloc, call, 59_971)?);
+        jobs.push(Job::of(LogCall::Insert(long)))?;
+        if call == 1 {
+            jobs.push(Job::of(LogCall::Switch(SegmentEnd::new(alloc))))?;
+        }
+    }
+    jobs.push(Job::of(LogCall::Commit(Insertion::of(transaction(alloc, 4)?))))?;
+    Ok(jobs)
+}
+
+// Where the records start that backends were told of, sorted.
+fn starts_told(alloc: Global, work: &[Vec<Job>]) -> Result<Vec<u64>, Fail> {
+    let mut starts = Vec::new(alloc);
+    for jobs in work {
+        for start in jobs.iter().filter_map(start_told) {
+            starts.push(start.0)?;
+        }
+    }
+    starts.sort()?;
+    Ok(starts)
 }
 
 // Three backends commit on a disk whose fifth counted call fails. What a crash leaves has each

@@ -1,10 +1,10 @@
 //! Calls with what they have to be told.
 
 use crate::records::record;
-use log_workers::{Insertion, Job, LogAnswer, LogCall};
+use log_workers::{Insertion, Job, LogAnswer, LogCall, SegmentEnd};
 use std::alloc::Global;
 use std::test::Fail;
-use wal_log::{CommitErr, FlushErr, Hard, InsertErr, Receipt, Sealed};
+use wal_log::{CommitErr, FlushErr, Hard, InsertErr, Receipt, Sealed, Switch, SwitchErr};
 use wal_types::Lsn;
 
 /// A call, and what it has to be told.
@@ -14,6 +14,7 @@ pub enum Step {
     /// Of a record that takes up 40 bytes.
     Commit(Result<Sealed, CommitErr>),
     Flush(Lsn, Result<Hard, FlushErr>),
+    Switch(Result<Switch, SwitchErr>),
 }
 
 impl Step {
@@ -25,18 +26,19 @@ impl Step {
         }
     }
 
-    // The call with its record, which a flush does not need.
-    fn call(&self, record: Insertion) -> LogCall {
+    // The call with its record, which a flush and a switch do not need.
+    fn call(&self, alloc: Global, record: Insertion) -> LogCall {
         match self {
             Step::Insert(..) => LogCall::Insert(record),
             Step::Commit(_) => LogCall::Commit(record),
             Step::Flush(upto, _) => LogCall::Flush(*upto),
+            Step::Switch(_) => LogCall::Switch(SegmentEnd::new(alloc)),
         }
     }
 
     fn job(&self, alloc: Global) -> Result<Job, Fail> {
         let body = record(alloc, 1, self.len())?;
-        Ok(Job::of(self.call(Insertion::of(body))))
+        Ok(Job::of(self.call(alloc, Insertion::of(body))))
     }
 
     /// What its call has to be told.
@@ -45,6 +47,7 @@ impl Step {
             Step::Insert(_, told) => LogAnswer::Inserted(*told),
             Step::Commit(told) => LogAnswer::Committed(*told),
             Step::Flush(_, told) => LogAnswer::Flushed(*told),
+            Step::Switch(told) => LogAnswer::Switched(*told),
         }
     }
 }

@@ -4,15 +4,19 @@ use crate::reading::Found;
 use log_workers::{Job, LogAnswer};
 use std::alloc::Global;
 use std::test::Fail;
-use wal_log::{Cause, CommitErr};
+use wal_log::{Cause, CommitErr, Switch};
 use wal_types::Lsn;
 
-// Where the record of a job starts that was inserted, or told to be durable.
-fn start_told(job: &Job) -> Option<Lsn> {
+/// Where the record of a job starts that was inserted, told to be durable, or a segment switch.
+pub fn start_told(job: &Job) -> Option<Lsn> {
     match job.told? {
         LogAnswer::Inserted(told) => told.ok().map(|receipt| receipt.start),
         LogAnswer::Committed(told) => told.ok().map(|sealed| sealed.start),
-        LogAnswer::Flushed(_) => None,
+        LogAnswer::Switched(told) => match told {
+            Ok(Switch::Done { start, .. }) => Some(start),
+            _ => None,
+        },
+        _ => None,
     }
 }
 

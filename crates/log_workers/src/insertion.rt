@@ -1,9 +1,12 @@
-// The records that jobs insert. A segment switch is none: it closes its segment under all insertion
-// locks, by a call of its own. So a list of jobs needs no clause on its records.
+// The records that jobs insert, and that of a segment switch, which is none of them: it closes its
+// segment under all insertion locks, by a call of its own. So a list of jobs needs no clause on its
+// records.
 ghost use Rattle.std.specs.Prelude.{◌≡◌, false};
-ghost use Rattle.record_spelling.specs.Spelling.{is_assembled_switch};
+ghost use Rattle.record_spelling.specs.Record.{switch_record};
+ghost use Rattle.record_spelling.specs.Spelling.{assembled, is_assembled_switch};
 
 use record_spelling::Body;
+use std::alloc::Global;
 use std::marker::Model;
 
 /// A record that is no segment switch.
@@ -34,6 +37,38 @@ impl Insertion {
     pub(crate) fn body(&self) -> &Body
         ensures body { result.now ≡ self.now }
         ensures inserted { is_assembled_switch result.now ≡ false }
+    {
+        &self.body
+    }
+}
+
+/// A segment switch's record.
+#[derive(Drop)]
+pub struct SegmentEnd {
+    body: Body,
+}
+
+impl Model for SegmentEnd {
+    ghost use Rattle.std.specs.Prelude.{◌≡◌};
+    ghost use Rattle.record_spelling.specs.Record.{switch_record};
+    ghost use Rattle.record_spelling.specs.Spelling.{Assembled, assembled};
+
+    ghost Value = { Assembled };
+
+    ghost view = { λ e. e.body };
+
+    ghost invariant = { λ e. e.body ≡ assembled switch_record };
+}
+
+impl SegmentEnd {
+    pub fn new(alloc: Global) -> SegmentEnd {
+        SegmentEnd {
+            body: Body::switch(alloc),
+        }
+    }
+
+    pub(crate) fn body(&self) -> &Body
+        ensures { result.now ≡ assembled switch_record }
     {
         &self.body
     }

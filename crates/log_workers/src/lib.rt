@@ -7,7 +7,7 @@ mod records;
 mod worker;
 mod workers;
 
-pub use insertion::Insertion;
-pub use records::{commits, transaction};
+pub use insertion::{Insertion, SegmentEnd};
+pub use records::{CommitKind, commits, transaction};
 pub use worker::{Job, LogAnswer, LogCall, Worker};
 pub use workers::work_side_by_side;

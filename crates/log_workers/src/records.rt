@@ -25,14 +25,27 @@ pub fn transaction(alloc: Global, xid: u32) -> Result<Body, BodyErr>
     Body::assemble(alloc, &record)
 }
 
+/// When a commit is answered.
+#[derive(Clone, Copy, Debug, PartialEq, Eq)]
+pub enum CommitKind {
+    /// Once it is durable.
+    Hard,
+    /// Ahead of the disk.
+    Async,
+}
+
 /// The commits of so many transactions, with the numbers from `first` on.
-pub fn commits(alloc: Global, first: u32, count: u32) -> Result<Vec<Job>, BodyErr>
+pub fn commits(alloc: Global, kind: CommitKind, first: u32, count: u32) -> Result<Vec<Job>, BodyErr>
     ensures { IfOk result (λ commits. vec_len commits ≡ count) }
 {
     let mut commits = Vec::with_capacity(alloc, count as usize)?;
     for number in 0..count {
-        let body = transaction(alloc, first.wrapping_add(number))?;
-        commits.push(Job::of(LogCall::Commit(Insertion::of(body))))?;
+        let record = Insertion::of(transaction(alloc, first.wrapping_add(number))?);
+        let call = match kind {
+            CommitKind::Hard => LogCall::Commit(record),
+            CommitKind::Async => LogCall::CommitAsync(record),
+        };
+        commits.push(Job::of(call))?;
     }
     Ok(commits)
 }

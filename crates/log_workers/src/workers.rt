@@ -14,6 +14,7 @@ use crate::worker::{Job, Worker};
 use segment_disk::Disk;
 use std::alloc::{AllocError, Global};
 use std::sync::Wait;
+use std::sync::atomic::AtomicU64;
 use std::thread;
 use std::thread::Threads;
 use wal_log::numbers::calls_keep_numbers;
@@ -85,11 +86,12 @@ fn run_workers<D: Disk + Send, R: Threads + Wait + Sync>(
     ensures workers { AreWorkersOf log.now workers.new }
     ensures each { KeepPasses workers.old workers.new }
 {
+    let working = AtomicU64::new(workers.len() as u64);
     thread::for_each_mut(
         rt,
         workers,
         threads.max(1),
-        &|_, worker| worker.work(rt, log),
+        &|_, worker| worker.work(rt, log, &working),
     );
 }
 

@@ -3,8 +3,9 @@
 use Rattle.std.proofs.Common.{◌≡◌, ◌≢◌, ℕ, ◌<◌, ◌≤◌, true, List, [], ◌∷◌, ◌++◌, map, max, set, refl, sym, subst, ⊎_elim, arith}
 use mathlib.Core.Option.{Option}
 use Rattle.wal_core.specs.Words.{Opening, position_word, prev_word, written_word, flushed_word, down_word, async_word, end_form}
-use Rattle.wal_core.specs.Views.{HasAt, Flight, Plain, Reserving, View, Writing, reserving_of, flight_of, writing_of}
+use Rattle.wal_core.specs.Views.{HasAt, Flight, Plain, Reserving, View, Writing, reserving_of, flight_of, working_of, writing_of}
 use Rattle.wal_core.specs.Ordered.{OrderHolds}
+use Rattle.wal_core.specs.Locked.{SwitchesStandAlone}
 use Rattle.wal_core.specs.Positioned.{PositionsHold}
 use Rattle.wal_core.specs.Moves.{after_split, split_off, after_join, spent, without_work, orphan_of}
 use Rattle.wal_core.specs.Steps.{State, Splits, IsResting, Joins, IsStranded, GivesUp}
@@ -17,6 +18,7 @@ use Rattle.machine_laws.proofs.OrderKept as order
 use Rattle.machine_laws.specs.LocksBehind.{WorksHold, TurnsHold}
 use Rattle.machine_laws.proofs.SoundLockSteps.{works_now, turns_now}
 use Rattle.machine_laws.proofs.LockPassSteps.{one_changes, two_change, works_split, works_give_up, works_join, turns_split, turns_give_up, turns_join}
+use Rattle.machine_laws.proofs.AloneBehind.{split_alone, give_up_alone, join_alone}
 use Rattle.machine_laws.specs.RingBehind.{HasRingWith, HasPagesWith}
 use Rattle.machine_laws.proofs.RingPassSteps.{ring-split, ring-taken_in, ring-given_up, pages-split, pages-taken_in, pages-given_up}
 use Rattle.machine_laws.specs.PositionParts.{Positions, HasPositions}
@@ -70,6 +72,7 @@ module _ {first : DiskState} (words : List ℕ) (home : Option Plain) (views : L
         → (rs : List Reserving) → map reserving_of changed ≡ rs → HasOrderWith rs
         → WorksHold (v.opening).setup k.order words changed
         → TurnsHold words home k.stage k.writer changed
+        → SwitchesStandAlone ((v.opening).setup).segment_size (map working_of changed)
         → HasRingWith v.opening words home views k changed
         → HasPagesWith v.opening words home views k changed
         → (fs : List Flight) → map flight_of changed ≡ fs
@@ -80,7 +83,7 @@ module _ {first : DiskState} (words : List ℕ) (home : Option Plain) (views : L
         → ((j : ℕ) (u : View) → HasAt changed j u → LearnsAligned u)
         → FaultIsKnown (down_word words) changed
         → IsSound first v.opening words home changed
-    changed_sound grounded rs are_reserving reserved works turns ring pages fs are_flights ws
+    changed_sound grounded rs are_reserving reserved works turns alone ring pages fs are_flights ws
         are_writing positions durable counts learn failed = record {
           order = k.order;
           memory = k.memory;
@@ -97,6 +100,7 @@ module _ {first : DiskState} (words : List ℕ) (home : Option Plain) (views : L
             writing = turns.writing;
           };
           progress = works.told;
+          alone = alone;
           ring = ring;
           pages = pages;
           positions = subst (λ (x : List Flight × List Writing). HasPositionsWith x.0 x.1)
@@ -178,6 +182,7 @@ module _ {first : DiskState} (words : List ℕ) (home : Option Plain) (views : L
       (works_now v.opening words home views k))
       (turns_split words home k.stage k.writer views id v here
       (turns_now v.opening words home views k))
+      (split_alone words home views id v k here)
       (ring-split v.opening words home views k id v here)
       (pages-split v.opening words home views k id v here)
       _ (one_changes flight_of views id v here (after_split v) (split_off v))
@@ -202,6 +207,7 @@ module _ {first : DiskState} (words : List ℕ) (home : Option Plain) (views : L
       (works_now v.opening words home views k))
       (turns_give_up words home k.stage k.writer views id v here
       (turns_now v.opening words home views k))
+      (give_up_alone words home views id v k here)
       (ring-given_up v.opening words home views k id v here)
       (pages-given_up v.opening words home views k id v here)
       _ (one_changes flight_of views id v here (without_work v) (orphan_of v))
@@ -232,6 +238,7 @@ module _ {first : DiskState} (words : List ℕ) (home : Option Plain) (views : L
       (works_now v.opening words home views k) other w there apart rests)
       (turns_join words home k.stage k.writer views id v here
       (turns_now v.opening words home views k) other w there rests)
+      (join_alone words home views id v k here other w)
       (ring-taken_in v.opening words home views k id v here other w there rests)
       (pages-taken_in v.opening words home views k id v here other w there)
       _ (two_change flight_of views id v here other (after_join v w) (spent w))

@@ -17,6 +17,50 @@ use Rattle.machine_laws.specs.RingBehind.{met_by, words_behind, HasPages, HasRin
 use Rattle.machine_laws.specs.RingLeft.{LeavesCopies, LeavesPages}
 use Rattle.segment_disk.specs.Tape.{DiskState}
 
+-- what holds of each kind of step that leaves the copies, and of the three others
+module _ (P : StepKind → Type 0) (left : (e : StepKind) → LeavesCopies e → P e)
+    (put : (locks : List ℕ) (value : Record) → P (store_position locks value))
+    (given : (lock : ℕ) → P (release lock)) (stored : P store_ring_word) where
+  pub by_copies : (e : StepKind) → P e
+  by_copies load_position = left load_position tt
+  by_copies take_write_turn = left take_write_turn tt
+  by_copies slot_out = left slot_out tt
+  by_copies slot_in = left slot_in tt
+  by_copies release_write_turn = left release_write_turn tt
+  by_copies (lock_position expected) = left (lock_position expected) tt
+  by_copies load_prev = left load_prev tt
+  by_copies store_prev = left store_prev tt
+  by_copies (store_position locks value) = put locks value
+  by_copies (give_position_back value) = left (give_position_back value) tt
+  by_copies stay = left stay tt
+  by_copies (load_lock lock limit) = left (load_lock lock limit) tt
+  by_copies (take_lock lock) = left (take_lock lock) tt
+  by_copies (advance lock upto) = left (advance lock upto) tt
+  by_copies (release lock) = given lock
+  by_copies (load_buffer_end buffer) = left (load_buffer_end buffer) tt
+  by_copies store_ring_word = stored
+  by_copies (load_ring_word n) = left (load_ring_word n) tt
+  by_copies load_written = left load_written tt
+  by_copies load_flushed = left load_flushed tt
+  by_copies load_moment = left load_moment tt
+  by_copies load_down = left load_down tt
+  by_copies store_written = left store_written tt
+  by_copies store_moment = left store_moment tt
+  by_copies store_flushed = left store_flushed tt
+  by_copies set_down = left set_down tt
+  by_copies load_async = left load_async tt
+  by_copies (raise_async expected upto) = left (raise_async expected upto) tt
+  by_copies take_mapping_turn = left take_mapping_turn tt
+  by_copies load_initialised_end = left load_initialised_end tt
+  by_copies clear_end = left clear_end tt
+  by_copies zero_ring_word = left zero_ring_word tt
+  by_copies publish_end = left publish_end tt
+  by_copies publish_initialised_end = left publish_initialised_end tt
+  by_copies release_mapping_turn = left release_mapping_turn tt
+  by_copies (create segment outcome) = left (create segment outcome) tt
+  by_copies (write segment page upto bytes outcome) = left (write segment page upto bytes outcome) tt
+  by_copies (sync segment outcome) = left (sync segment outcome) tt
+
 -- ---- a part that is neither of what a view reserves nor of what it writes
 
 module _ {W : Type 0} (f : View → W) (v : View)

@@ -54,6 +54,7 @@ mod PositionsBehind
 mod AlignedBehind
 mod AsyncBehind
 mod FaultBehind
+mod AloneBehind
 pub mod WholeInvariant
 pub mod EveryPassStep
 pub mod EveryStep

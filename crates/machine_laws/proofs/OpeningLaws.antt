@@ -24,11 +24,12 @@ use Rattle.wal_core.specs.Words.{Opening, position_word, prev_word, lock_word, m
 use Rattle.wal_core.specs.Views.{HasAt, Plain, Away, Landed, Copying, AreSomeOf, View, mapper_of, receipts_of, writer_of}
 use Rattle.wal_core.specs.Opened.{AreFirstWords, IsFirstWriter, IsOpenable, first_view}
 use Rattle.wal_core.specs.Ordered.{HasLive, IsUnused, entries_under, is_pass, OrderHolds, Role, active, spare, ended, unborn}
-use Rattle.wal_core.specs.Locked.{LocksHold, ProgressHolds, most_told}
+use Rattle.wal_core.specs.Locked.{LocksHold, ProgressHolds, StandsAlone, SwitchesStandAlone, most_told}
 use Rattle.wal_core.specs.Ringed.{RingHolds, IsOfOrder, log_word_of}
 use Rattle.wal_core.specs.Paged.{PagesHold}
 use Rattle.wal_core.specs.Watched.{IsCopiedToBound, WatchHolds}
 use Rattle.wal_core.specs.Positioned.{PositionsHold}
+use Rattle.machine_laws.proofs.AloneBehind.{landed_alone}
 use Rattle.machine_laws.proofs.Buffers.{one_page}
 use Rattle.wal_core.specs.Durable.{DurabilityHolds, one_if_some, IsToldRightly, IsLawfulAt, IsLogBelow}
 use Rattle.segment_disk.specs.DiskImage.{image_as_read, word_of}
@@ -189,6 +190,10 @@ module _ (opening : Opening) (words : List ℕ) (writer : Plain) (log : IsOpenab
       ≤ most_told setup.segment_size end i
       u.flight)
       (λ has. let none = has.1 in absurd (omega arith)) id w at
+
+  alone_begins : SwitchesStandAlone setup.segment_size (view.working ∷ [])
+  alone_begins = only_one view.working (λ j u. StandsAlone setup.segment_size u.flight)
+      (landed_alone setup.segment_size)
 
   -- how many pages lie below the one in which the log that was found ends, and the first page
   -- behind the ring's
@@ -522,6 +527,7 @@ logs_begin first opening words writer log zeroed begins = record {
   reserved = order_begins opening words writer log zeroed begins;
   locks = locks_begin opening words writer log zeroed begins;
   progress = progress_begins opening words writer log zeroed begins;
+  alone = alone_begins opening words writer log zeroed begins;
   ring = ring_begins opening words writer log zeroed begins;
   pages = pages_begin opening words writer log zeroed begins;
   positions = positions_begin opening words writer log zeroed begins first;

@@ -1,22 +1,25 @@
--- A segment switch is reserved while nothing is in flight, and the ring is zeros behind it.
-use Rattle.std.proofs.Common.{◌≡◌, ℕ, ◌*◌, ◌/◌, ◌<◌, Contains, List, refl, sym, ap, ◌∙◌, subst, ⊎_elim, arith}
+-- A segment switch is reserved while nothing is in flight, and nothing else comes in flight before
+-- its last word is copied; the ring is zeros behind it.
+use Rattle.std.proofs.Common.{◌≡◌, ◌≢◌, ℕ, ◌+◌, ◌*◌, ◌/◌, ◌<◌, ◌≤◌, Bool, Contains, IsTrue, List, cond, refl, sym, ap, ◌∙◌, subst, ⊎_elim, arith}
 use mathlib.Core.Option.{Option}
 use Rattle.segment_disk.specs.Tape.{DiskState}
 use Rattle.wal_types.specs.declared.record.Record.{Record}
-use Rattle.record_spelling.specs.Record.{switch_record}
+use Rattle.record_spelling.specs.Record.{is_switch, switch_record}
 use Rattle.record_spelling.proofs.SwitchLaws.{told_switched}
-use Rattle.wal_page.specs.Order.{Entry, IsChained}
+use Rattle.wal_page.specs.EntryWords.{address_of_word, words_owned}
+use Rattle.wal_page.specs.Order.{Entry, IsChained, end_position}
 use Rattle.wal_page.proofs.LogWordLaws.{log_word-behind_switch}
-use Rattle.wal_core.specs.Words.{Opening, word_of_ring}
+use Rattle.wal_core.specs.Words.{Opening, end_form, lock_word, word_of_ring}
 use Rattle.wal_core.specs.Views.{HasAt, Copy, Flight, Landed, Copying, Plain, View, working_of}
+use Rattle.wal_core.specs.Locked.{most_told}
 use Rattle.wal_core.specs.Ringed.{log_word_of}
 use Rattle.wal_core.specs.Steps.{MayStep, ring_place, store_position}
 use Rattle.wal_core.specs.Sound.{IsSound}
 use Rattle.wal_core.specs.Shown.{IsPresent}
-use Rattle.wal_core.proofs.Landing.{lock_of, none_lands}
+use Rattle.wal_core.proofs.Landing.{is_among_them, lock_of, none_lands}
 use Rattle.wal_core.proofs.Lists.{at_same, part_at}
 use Rattle.machine_laws.specs.SoundLocks.{HoldsLock}
-use Rattle.machine_laws.specs.Switches.{IsBehindSwitch}
+use Rattle.machine_laws.specs.Switches.{CopiesBehindAllLocks, IsBehindSwitch}
 use Rattle.machine_laws.proofs.HolderLaws.{locks_have_holders}
 use Rattle.machine_laws.proofs.ShownLaws.{words_are_logs}
 
@@ -47,6 +50,34 @@ module _ {first : DiskState} (opening : Opening) (words : List ℕ) (home : Opti
       let one = holders.by_one under.0 id other v w here there mine under.2 in
       let same = at_same views v w other (subst (λ (j : ℕ). HasAt views j v) one here) there in
       none_lands c (sym may.6 ∙ ap (λ (u : View). (u.working).flight) same ∙ copies))
+
+  pub stands_alone : (id : ℕ) (v : View) (c : Copy) → IsSound first opening words home views
+      → HasAt views id v → (v.working).flight ≡ Copying c → IsTrue (is_switch (c.entry).value)
+      → c.copied < words_owned (opening.setup).segment_size c.entry
+      → CopiesBehindAllLocks (opening.setup).segment_size words views id v c
+  stands_alone id v c k here copies switches left =
+      let size = (opening.setup).segment_size in
+      let end = end_form opening.setup (end_position size k.order) in
+      let mine = part_at working_of views id v here in
+      let under : (lock : ℕ) → lock < 8 → Contains c.locks lock =
+      k.alone id v.working mine c copies switches left in
+      let holds : (lock : ℕ) → lock < 8 → HoldsLock lock v =
+      λ lock low. (((k.locks).locks).under id v.working c mine copies).1 lock (under lock low) in
+      let holders = locks_have_holders opening words home views k in
+      record {
+        holds = holds;
+        tells = λ lock low. subst (λ (among : Bool). lock_word words lock
+            ≤ cond among (address_of_word size c.entry c.copied + 1) (end + 1))
+            (is_among_them c.locks lock (under lock low))
+            (subst (λ (f : Flight). lock_word words lock ≤ most_told size end lock f) copies
+            (k.progress id lock v.working mine (holds lock low)));
+        alone = λ other w there apart. no_copy (w.working).flight (λ d flies.
+            let its = lock_of d.locks (w.working).locks
+            (((k.locks).locks).under other w.working d (part_at working_of views other w there)
+            flies) in
+            let low = holders.eight other its.0 w there its.2 in
+            apart (holders.by_one its.0 other id w v there here its.2 (holds its.0 low)));
+      }
 
   pub zeros_behind : (s : IsSound first opening words home views) (k : ℕ)
       → IsBehindSwitch (opening.setup).segment_size s.order (8 * k)

@@ -23,6 +23,7 @@ use Rattle.machine_laws.proofs.GroundBehind.{grounded_behind, down_stays}
 use Rattle.machine_laws.proofs.OrderBehind.{order_holds}
 use Rattle.machine_laws.proofs.PositionsBehind.{positions_hold}
 use Rattle.machine_laws.proofs.AlignedBehind.{aligned_behind}
+use Rattle.machine_laws.proofs.AloneBehind.{alone_behind}
 use Rattle.machine_laws.proofs.AsyncBehind.{async_behind}
 use Rattle.machine_laws.proofs.FaultBehind.{failed_behind}
 use Rattle.segment_disk.specs.Tape.{DiskState}
@@ -238,6 +239,7 @@ module _ {first : DiskState} (words : List ℕ) (home : Option Plain) (views : L
           writing = (behind.1).writing;
         };
         progress = (behind.0).told;
+        alone = alone_behind words home views id v k here e may;
         ring = ring_holds e may;
         pages = pages_hold e may;
         positions = positions_hold words home views id v k here live e may;

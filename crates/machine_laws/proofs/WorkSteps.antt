@@ -184,7 +184,7 @@ module _ (setup : Setup) (order : List Entry) (words : List ℕ) (home : Option 
       (v.working).flight) s.setup_is may.1 in
       let least = most_told_later setup.segment_size (end_form setup (v.reserving).seen) end lock
       (v.working).flight up in
-      words_only (set words (2 + lock) n) (after_advance upto v) refl refl
+      words_only (set words (2 + lock) n) (after_advance lock upto v) refl refl
       (held_told (lock_word words) parts k.held id v.working mine later lock may.0
       (λ j below ne. lock_else words lock n j ne) (λ z. let no = sym is ∙ z in omega arith))
       (told_advanced setup.segment_size end (lock_word words) parts k.told k.held id v.working mine

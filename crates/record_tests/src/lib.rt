@@ -1,9 +1,11 @@
-//! Tests of a log's values, records, positions and pages, of its reader, of a listing, and of
-//! redo.
+//! Tests of a log's values, records, positions and pages, of its reader, of logs that
+//! are found, of a listing, and of redo.
 #![tactic(auto)]
 
 #[cfg(test)]
 mod decoding;
+#[cfg(test)]
+mod finding;
 #[cfg(test)]
 mod listing;
 #[cfg(test)]

@@ -10,7 +10,7 @@ use wal_page::{Placed, header_word};
 use wal_record::Body;
 use wal_types::Lsn;
 
-const SYSTEM_ID: u64 = 0x0123_4567_89ab_cdef;
+pub(crate) const SYSTEM_ID: u64 = 0x0123_4567_89ab_cdef;
 
 // The byte position of segment 1's first record, where segments have 1 MiB.
 const FIRST: u64 = 128 * 8168 - 16;

@@ -125,6 +125,24 @@ const CRC: Told = Told::Failed(ReadErr::Stopped(Stopped::Damaged {
     kind: DamageKind::Crc,
 }));
 
+// A page of zeros behind a record that goes on is damage.
+pub(crate) const TORN: Scene = Scene {
+    records: &[(
+        RecordRow {
+            main: Filled(b"", 0x5a, 8124),
+            ..RECORD
+        },
+        0,
+        0,
+    )],
+    pages: 1,
+    told: &[Told::Failed(ReadErr::Stopped(Stopped::Damaged {
+        at: Lsn(0x10_2000),
+        kind: DamageKind::Page(PageErr::Magic { found: 0 }),
+    }))],
+    ..TWO_COMMITS
+};
+
 static SCENES: &[Scene] = &[
     TWO_COMMITS,
     // Records before the start and from the end on are not given.
@@ -155,23 +173,7 @@ static SCENES: &[Scene] = &[
         told: &[CRC, CRC],
         ..TWO_COMMITS
     },
-    // A page of zeros behind a record that goes on is damage.
-    Scene {
-        records: &[(
-            RecordRow {
-                main: Filled(b"", 0x5a, 8124),
-                ..RECORD
-            },
-            0,
-            0,
-        )],
-        pages: 1,
-        told: &[Told::Failed(ReadErr::Stopped(Stopped::Damaged {
-            at: Lsn(0x10_2000),
-            kind: DamageKind::Page(PageErr::Magic { found: 0 }),
-        }))],
-        ..TWO_COMMITS
-    },
+    TORN,
     // There is no segment.
     Scene {
         pages: 0,
@@ -201,7 +203,7 @@ fn pages_of(alloc: Global, scene: &Scene) -> Result<TwoPages, Fail> {
 
 pub(crate) fn disk_of(alloc: Global, scene: &Scene) -> Result<MemDisk, Fail> {
     let pages = pages_of(alloc, scene)?;
-    let mut disk = MemDisk::new(alloc, 1, 3, Vec::new(alloc), scene.failing.to_vec(alloc)?)?;
+    let mut disk = MemDisk::new(alloc, 1, 6, Vec::new(alloc), scene.failing.to_vec(alloc)?)?;
     if scene.pages > 0 {
         disk.create(smallest(), 1)?;
         disk.write_page(smallest(), 1, 0, &pages.first)?;

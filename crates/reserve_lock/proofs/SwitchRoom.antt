@@ -1,17 +1,17 @@
 -- A segment switch fits wherever its own 24 bytes do, since the log ends with a segment; and what it leaves of a view.
 use Rattle.std.specs.Prelude.{Contains, zero, suc}
-use Rattle.std.proofs.Common.{◌≡◌, ℕ, ◌+◌, ◌-◌, ◌*◌, ◌/◌, ◌%◌, ◌<◌, ◌≤◌, true, refl, inl, inr, arith}
+use Rattle.std.proofs.Common.{◌≡◌, ◌≢◌, ℕ, ◌+◌, ◌-◌, ◌*◌, ◌/◌, ◌%◌, ◌<◌, ◌≤◌, true, refl, ap, ◌∙◌, inl, inr, arith}
 use Rattle.std.proofs.lemmas.Bool.{cases_lt}
-use Rattle.std.proofs.Math.Nat.{lt_of_mul-lt-mul_left, mul-div-le, mul-le-mul_left}
+use Rattle.std.proofs.Math.Nat.{lt_of_mul-lt-mul_left, mul-div-le, mul-le-mul_left, mul-mod_right}
 use Rattle.byte_position.specs.Geometry.{IsSegmentSize}
-use Rattle.byte_position.specs.Position.{address_of, position_of}
+use Rattle.byte_position.specs.Position.{address_of, end_address_of, position_of}
 use Rattle.byte_position.proofs.Rising.{address_of-lt, position_of-mono}
-use Rattle.byte_position.proofs.Segments.{first_position-usable, position_of-segment}
+use Rattle.byte_position.proofs.Segments.{end_address_of-segment_start, first_position-usable, position_of-segment}
 use Rattle.record_spelling.specs.Spelling.{Assembled, assembled_size, is_assembled_switch}
 use Rattle.wal_page.specs.Order.{assembled_room_at, next_segment}
 use Rattle.wal_page.proofs.PaddingLaws.{position_behind_switch}
 use Rattle.wal_core.specs.declared.setup.Setup.{Setup}
-use Rattle.wal_core.specs.Words.{log_limit}
+use Rattle.wal_core.specs.Words.{end_form, log_limit}
 use Rattle.reserve_lock.specs.Reserved.{every_lock}
 
 -- the log ends with a segment
@@ -48,6 +48,30 @@ few_left setup valid at free body whole switches size within free_is short =
           omega (arith, fits, free_is, short, within)
           )
     ]
+
+-- the log's end is a segment's start
+limit_starts : (setup : Setup) → IsSegmentSize setup.segment_size
+    → end_form setup (log_limit setup) % setup.segment_size ≡ 0
+limit_starts setup valid =
+    let size : ℕ = setup.segment_size in
+    let cap = setup.cap_segments + 1 in
+    ap (λ (n : ℕ). end_address_of size n % size)
+    (limit_is setup valid ∙ position_of-segment size valid cap)
+    ∙ ap (λ (n : ℕ). n % size) (end_address_of-segment_start size valid cap)
+    ∙ mul-mod_right size cap
+
+-- so where the log does not stand at a segment's start, some bytes are left
+pub some_left : (setup : Setup) → IsSegmentSize setup.segment_size → (at free : ℕ)
+    → at ≤ log_limit setup → free ≡ log_limit setup - at
+    → end_form setup at % setup.segment_size ≢ 0 → 1 ≤ free
+some_left setup valid at free within free_is inside = elim (cases_lt 0 free) [
+  | inl some ↦ omega (arith, some)
+  | inr none ↦ (
+      let last : at ≡ log_limit setup = omega (arith, none, within, free_is) in
+      absurd (inside (ap (λ (n : ℕ). end_form setup n % setup.segment_size) last
+      ∙ limit_starts setup valid))
+      )
+]
 
 -- ---- all locks
 

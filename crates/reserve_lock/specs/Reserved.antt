@@ -154,18 +154,18 @@ pub record StaysAtStart (setup : Setup) (end : ℕ) (old new : View) : Type 0 wh
   pub new_is : new ≡ stayed_view at (seen_view at old)
 
 -- what a switch comes to where the position was locked and the log not full
-abbrev pub AnswersSwitch : Setup → Assembled → View → View → SwitchTry → Type 0
-AnswersSwitch setup body old new (Switched r) =
+abbrev pub AnswersSwitchTry : Setup → Assembled → View → View → SwitchTry → Type 0
+AnswersSwitchTry setup body old new (Switched r) =
     IsSwitchReserved setup body old new r.start.0 r.placed × (r.end.0 ≡ placed_end r.placed)
-AnswersSwitch setup body old new (Stayed end) = StaysAtStart setup end.0 old new
+AnswersSwitchTry setup body old new (Stayed end) = StaysAtStart setup end.0 old new
 
 -- why nothing was reserved
 abbrev pub TellsWhy : Setup → Assembled → View → View → ReserveErr → Type 0
 TellsWhy setup body old new (Busy seen) = IsPositionBusy seen old new
 TellsWhy setup body old new (Full free) = IsLogFull setup body free old new
 
--- a switch finds the log full just where fewer bytes are left than its record's own 24: the rest of
--- the segment fits, since the log ends with one
+-- a switch finds the log full just where fewer bytes are left than its record's own 24, and not
+-- none: the rest of the segment fits, since the log ends with one, and at the log's end it stays
 abbrev pub LeavesNoSwitch : ReserveErr → Type 0
 LeavesNoSwitch (Busy seen) = Unit {0}
-LeavesNoSwitch (Full free) = free < 24
+LeavesNoSwitch (Full free) = (1 ≤ free) × (free < 24)

@@ -7,7 +7,7 @@ ghost use Rattle.record_spelling.specs.Record.{switch_record};
 ghost use Rattle.record_spelling.specs.Spelling.{assembled};
 ghost use Rattle.wal_core.specs.Views.{Free, Landed};
 ghost use Rattle.wal_rule.specs.SeatedPasses.{StaysSeated, setup_of, view_of};
-ghost use Rattle.reserve_lock.specs.Reserved.{AnswersSwitch, LeavesNoSwitch, TellsWhy, every_lock};
+ghost use Rattle.reserve_lock.specs.Reserved.{AnswersSwitchTry, LeavesNoSwitch, TellsWhy, every_lock};
 
 use crate::locking::lock_seen;
 use crate::places::stay_there;
@@ -41,7 +41,7 @@ pub fn try_reserve_switch<'a, 'p, D: Disk>(
     requires place { (view_of seated.old).reserving.place ≡ Free }
     // The switch stands behind all that the pass had seen and is in flight under the locks, or the
     // log stands at a segment's start.
-    ensures answers { IfOk result (λ t. AnswersSwitch (setup_of seated.old) body.now
+    ensures answers { IfOk result (λ t. AnswersSwitchTry (setup_of seated.old) body.now
         (view_of seated.old) (view_of seated.new) t) }
     // Nothing was reserved, and the pass has the position locked no longer.
     ensures why { IfErr result (λ e. TellsWhy (setup_of seated.old) body.now (view_of seated.old)

@@ -3,11 +3,11 @@
 -- end of each of its commits that were answered ahead.
 use Rattle.std.proofs.Common.{◌≡◌, ℕ, ◌+◌, ◌≤◌, All, List, [], ◌∷◌, length, max, subst, arith}
 use Rattle.std.proofs.lemmas.List.Elements.{All-head}
-use Rattle.wal_script.specs.Asked.{Asked, AskedLine, Insert, Commit, Flush, CommitAsync, WriteBehind}
+use Rattle.wal_script.specs.Asked.{Asked, AskedLine, Insert, Commit, Flush, CommitAsync, WriteBehind, Switch}
 use Rattle.wal_core.specs.Words.{Opening, log_limit}
 use Rattle.wal_core.specs.Views.{FlushPromise, View}
 use Rattle.told_lines.specs.declared.told.Told.{Told}
-use Rattle.told_lines.specs.declared.told.Told.TheVariants.{Wrote, Hard, Flushed, Async, Idle, Refused}
+use Rattle.told_lines.specs.declared.told.Told.TheVariants.{Wrote, Hard, Flushed, Async, Idle, Switched, Stayed, Refused}
 use Rattle.told_lines.specs.CatchingUp.{AllCatchUp, CatchesUp, EachCatchesUp, ahead_told, hard_told}
 use Rattle.told_lines.proofs.AllLaws.{parts_all}
 use Rattle.wal_core.specs.PassLogs.{PassLog, log_with_promise}
@@ -40,6 +40,8 @@ module _ (size limit pass : ℕ) where
   told_low asked (Wrote start end) before after l = λ address all. omega arith
   told_low asked (Async start end) before after l = λ address all. omega arith
   told_low asked (Idle upto) before after l = λ address all. omega arith
+  told_low asked (Switched start end) before after l = λ address all. omega arith
+  told_low asked (Stayed end) before after l = λ address all. omega arith
   told_low asked (Refused cause reserved) before after l = λ address all. omega arith
   told_low (Insert value) (Hard start end moment) before after l = absurd l
   told_low (Commit value) (Hard start end moment) before after l = λ address all.
@@ -51,6 +53,7 @@ module _ (size limit pass : ℕ) where
   told_low Flush (Hard start end moment) before after l = absurd l
   told_low (CommitAsync value) (Hard start end moment) before after l = absurd l
   told_low WriteBehind (Hard start end moment) before after l = absurd l
+  told_low Switch (Hard start end moment) before after l = absurd l
   told_low (Insert value) (Flushed upto moment) before after l = absurd l
   told_low (Commit value) (Flushed upto moment) before after l = absurd l
   told_low Flush (Flushed upto moment) before after l = λ address all.
@@ -58,6 +61,7 @@ module _ (size limit pass : ℕ) where
   told_low (CommitAsync value) (Flushed upto moment) before after l = absurd l
   told_low WriteBehind (Flushed upto moment) before after l = λ address all.
       newest_low upto.0 moment address before.log after.log l.log_is all
+  told_low Switch (Flushed upto moment) before after l = absurd l
 
   told_met : (asked : Asked) (told : Told) (before after : PassState)
       → Leaves size limit pass asked told before after → ahead_told told ≤ after.async_met
@@ -65,12 +69,15 @@ module _ (size limit pass : ℕ) where
   told_met asked (Hard start end moment) before after l = omega arith
   told_met asked (Flushed upto moment) before after l = omega arith
   told_met asked (Idle upto) before after l = omega arith
+  told_met asked (Switched start end) before after l = omega arith
+  told_met asked (Stayed end) before after l = omega arith
   told_met asked (Refused cause reserved) before after l = omega arith
   told_met (Insert value) (Async start end) before after l = absurd l
   told_met (Commit value) (Async start end) before after l = absurd l
   told_met Flush (Async start end) before after l = absurd l
   told_met (CommitAsync value) (Async start end) before after l = l.counted
   told_met WriteBehind (Async start end) before after l = absurd l
+  told_met Switch (Async start end) before after l = absurd l
 
   catches : (hard ahead : ℕ) (asked : Asked) (told : Told) (before after : PassState)
       → Leaves size limit pass asked told before after → before.async_met ≤ after.async_met
@@ -86,7 +93,10 @@ module _ (size limit pass : ℕ) where
   catches hard ahead WriteBehind (Async start end) before after l rises promised met = tt
   catches hard ahead WriteBehind (Idle upto) before after l rises promised met =
       (promised upto.0 (l.behind).furthest, omega (arith, rises, met, l.ahead))
+  catches hard ahead WriteBehind (Switched start end) before after l rises promised met = tt
+  catches hard ahead WriteBehind (Stayed end) before after l rises promised met = tt
   catches hard ahead WriteBehind (Refused cause reserved) before after l rises promised met = tt
+  catches hard ahead Switch told before after l rises promised met = tt
 
   all_catch_up : (hard ahead : ℕ) (lines : List AskedLine) (told : List Told)
       (before after : PassState) → PlaysLines size limit pass before lines told after

@@ -2,11 +2,11 @@
 use Rattle.std.proofs.Common.{◌≡◌, ℕ, suc, ◌+◌, cond, Bool, true, false, leb, List, [], ◌∷◌, length, length-append, Some, None, option_to_list, refl, sym, ap, ◌∙◌, arith}
 use Rattle.wal_types.specs.declared.answers.Cause.TheVariants.{Full, Disk, Down}
 use Rattle.wal_page.specs.Order.{Entry}
-use Rattle.wal_script.specs.Asked.{Asked, AskedLine, Insert, Commit, Flush, CommitAsync, WriteBehind}
+use Rattle.wal_script.specs.Asked.{Asked, AskedLine, Insert, Commit, Flush, CommitAsync, WriteBehind, Switch}
 use Rattle.wal_core.specs.Words.{Opening, log_limit}
 use Rattle.wal_core.specs.Views.{View}
 use Rattle.told_lines.specs.declared.told.Told.{Told}
-use Rattle.told_lines.specs.declared.told.Told.TheVariants.{Wrote, Hard, Flushed, Async, Idle, Refused}
+use Rattle.told_lines.specs.declared.told.Told.TheVariants.{Wrote, Hard, Flushed, Async, Idle, Switched, Stayed, Refused}
 use Rattle.told_lines.specs.Told.{entries_from, entries_of, entry_of, insert_by_start, sorted_by_start}
 use Rattle.told_lines.specs.Counts.{is_reserved, reserved_count}
 use Rattle.run_laws.specs.Counted.{all_reserved_count}
@@ -23,6 +23,8 @@ module _ (size limit pass : ℕ) where
   line_counted (Insert value) (Flushed upto moment) before after l = refl
   line_counted (Insert value) (Async start end) before after l = refl
   line_counted (Insert value) (Idle upto) before after l = refl
+  line_counted (Insert value) (Switched start end) before after l = refl
+  line_counted (Insert value) (Stayed end) before after l = refl
   line_counted (Insert value) (Refused cause None) before after l = refl
   line_counted (Insert value) (Refused cause (Some start)) before after l = refl
   line_counted (Commit value) (Wrote start end) before after l = refl
@@ -30,6 +32,8 @@ module _ (size limit pass : ℕ) where
   line_counted (Commit value) (Flushed upto moment) before after l = refl
   line_counted (Commit value) (Async start end) before after l = refl
   line_counted (Commit value) (Idle upto) before after l = refl
+  line_counted (Commit value) (Switched start end) before after l = refl
+  line_counted (Commit value) (Stayed end) before after l = refl
   line_counted (Commit value) (Refused cause None) before after l = refl
   line_counted (Commit value) (Refused cause (Some start)) before after l = refl
   line_counted Flush (Wrote start end) before after l = absurd l
@@ -37,6 +41,8 @@ module _ (size limit pass : ℕ) where
   line_counted Flush (Flushed upto moment) before after l = refl
   line_counted Flush (Async start end) before after l = absurd l
   line_counted Flush (Idle upto) before after l = refl
+  line_counted Flush (Switched start end) before after l = absurd l
+  line_counted Flush (Stayed end) before after l = refl
   line_counted Flush (Refused cause None) before after l = refl
   line_counted Flush (Refused (Full free) (Some start)) before after l = absurd l
   line_counted Flush (Refused (Disk faults) (Some start)) before after l = absurd l
@@ -46,6 +52,8 @@ module _ (size limit pass : ℕ) where
   line_counted (CommitAsync value) (Flushed upto moment) before after l = refl
   line_counted (CommitAsync value) (Async start end) before after l = refl
   line_counted (CommitAsync value) (Idle upto) before after l = refl
+  line_counted (CommitAsync value) (Switched start end) before after l = refl
+  line_counted (CommitAsync value) (Stayed end) before after l = refl
   line_counted (CommitAsync value) (Refused cause None) before after l = refl
   line_counted (CommitAsync value) (Refused cause (Some start)) before after l = refl
   line_counted WriteBehind (Wrote start end) before after l = absurd l
@@ -53,10 +61,21 @@ module _ (size limit pass : ℕ) where
   line_counted WriteBehind (Flushed upto moment) before after l = refl
   line_counted WriteBehind (Async start end) before after l = absurd l
   line_counted WriteBehind (Idle upto) before after l = refl
+  line_counted WriteBehind (Switched start end) before after l = absurd l
+  line_counted WriteBehind (Stayed end) before after l = refl
   line_counted WriteBehind (Refused cause None) before after l = refl
   line_counted WriteBehind (Refused (Full free) (Some start)) before after l = absurd l
   line_counted WriteBehind (Refused (Disk faults) (Some start)) before after l = absurd l
   line_counted WriteBehind (Refused (Down faults) (Some start)) before after l = absurd l
+  line_counted Switch (Wrote start end) before after l = refl
+  line_counted Switch (Hard start end moment) before after l = refl
+  line_counted Switch (Flushed upto moment) before after l = refl
+  line_counted Switch (Async start end) before after l = refl
+  line_counted Switch (Idle upto) before after l = refl
+  line_counted Switch (Switched start end) before after l = refl
+  line_counted Switch (Stayed end) before after l = refl
+  line_counted Switch (Refused cause None) before after l = refl
+  line_counted Switch (Refused cause (Some start)) before after l = refl
 
   pub lines_counted : (lines : List AskedLine) (told : List Told) (before after : PassState)
       → PlaysLines size limit pass before lines told after

@@ -1,17 +1,18 @@
--- Where a line found the log full, too few bytes were left behind a front of the order.
+-- Where a line found the log full, too few bytes were left behind a front of the order; where it
+-- found the log at a segment's start, such a front ends there.
 use Rattle.std.proofs.Common.{◌≡◌, ℕ, ◌+◌, ◌<◌, ◌≤◌, All, List, [], ◌∷◌, ◌++◌, length, length-append, take, sym, ap, ◌∙◌, subst, arith}
 use Rattle.std.proofs.Math.Seq.{take-append_seam}
 use Rattle.std.proofs.lemmas.List.Elements.{All-head}
-use Rattle.byte_position.specs.Position.{first_position}
+use Rattle.byte_position.specs.Position.{end_address_of, first_position}
 use Rattle.wal_types.specs.declared.record.Record.{Record}
 use Rattle.wal_page.specs.Order.{Entry, IsChained, end_position, room_at}
 use Rattle.wal_page.proofs.OrderLaws.{FollowsFrom-parts}
-use Rattle.wal_core.specs.Views.{LogFull, Stop}
+use Rattle.wal_core.specs.Views.{AtSegmentStart, LogFull, Stop, StopCause}
 use Rattle.wal_core.specs.Ordered.{entries_under, FrontEndsAt}
-use Rattle.told_lines.specs.Told.{Logged, MayBeFull}
+use Rattle.told_lines.specs.Told.{Logged, MayBeFull, MayStay}
 use Rattle.told_lines.proofs.AllLaws.{parts_all}
-use Rattle.wal_core.specs.PassLogs.{PassLog}
-use Rattle.run_laws.specs.Played.{AddsFull, behind_last_own}
+use Rattle.wal_core.specs.PassLogs.{PassLog, log_with_stop}
+use Rattle.run_laws.specs.Played.{AddsFull, AddsStay, behind_last_own}
 use Rattle.run_laws.proofs.OwnEnds.{StartsBelow, ends_within, own_starts_below}
 
 module _ (logged : Logged) (limit pass : ℕ) (chained : IsChained logged.size logged.order)
@@ -24,14 +25,18 @@ module _ (logged : Logged) (limit pass : ℕ) (chained : IsChained logged.size l
   IsBelow own e = StartsBelow pass
       (behind_last_own logged.size (first_position logged.size) own) e
 
-  -- a front of the order ends where the log was full, and has these entries of the pass
-  cause : (value : Record) (free at : ℕ) (own : List Entry) (front back : List Entry)
-      → logged.order ≡ front ++ back → at ≡ end_position logged.size front
-      → entries_under pass front ≡ own → free + at ≡ limit
-      → free < room_at logged.size at value
-      → MayBeFull logged pass (behind_last_own logged.size (first_position logged.size) own) value
-      free
-  cause value free at own front back parts end mine left short =
+  -- a front of the order ends at a byte position, and has these entries of the pass
+  record FrontHas (at : ℕ) (own : List Entry) : Type 0 where
+    front : ℕ
+    within : front ≤ length logged.order
+    earlier : behind_last_own logged.size (first_position logged.size) own
+        ≤ end_position logged.size (take front logged.order)
+    no_later : All (IsBelow own) (take front logged.order)
+    ends : end_position logged.size (take front logged.order) ≡ at
+
+  front_has : (at : ℕ) (own front back : List Entry) → logged.order ≡ front ++ back
+      → at ≡ end_position logged.size front → entries_under pass front ≡ own → FrontHas at own
+  front_has at own front back parts end mine =
       let same : take (length front) logged.order ≡ front =
       ap (take (length front)) parts ∙ take-append_seam front back in
       let ends : end_position size (take (length front) logged.order) ≡ at =
@@ -48,9 +53,22 @@ module _ (logged : Logged) (limit pass : ℕ) (chained : IsChained logged.size l
         within = omega (arith, ap length parts, length-append front back);
         earlier = omega (arith, ends, end, own_within);
         no_later = subst (All (IsBelow own)) (sym same) own_below;
-        left = omega (arith, ends, left, limited);
-        short = subst (λ (p : ℕ). free < room_at size p value) (sym ends) short;
+        ends = ends;
       }
+
+  -- where a pass stopped, such a front ends
+  stopped : (stop : StopCause) (at : ℕ) (before after : PassLog)
+      → after ≡ log_with_stop stop at before
+      → All (FrontEndsAt logged.size pass found logged.order all) after.stops
+      → take (length before.entries) all ≡ before.entries → FrontHas at before.entries
+  stopped stop at before after log_is ends own =
+      let here : Stop =
+      record { cause = stop; position = at; entries = length before.entries } in
+      let Ends = FrontEndsAt size pass found logged.order all in
+      let all_ends = subst (All Ends) (ap (λ (l : PassLog). l.stops) log_is) ends in
+      let end : FrontEndsAt size pass found logged.order all here =
+      All-head Ends here [] (parts_all Ends before.stops (here ∷ []) all_ends).1 in
+      front_has at before.entries end.front end.back end.are end.end (end.own ∙ own)
 
   pub full_cause : (value : Record) (free : ℕ) (before after : PassLog)
       → AddsFull logged.size limit pass value free before after
@@ -59,14 +77,29 @@ module _ (logged : Logged) (limit pass : ℕ) (chained : IsChained logged.size l
       → MayBeFull logged pass
       (behind_last_own logged.size (first_position logged.size) before.entries) value free
   full_cause value free before after full ends own =
-      let here : Stop = record {
-        cause = LogFull;
-        position = full.at;
-        entries = length before.entries;
-      } in
-      let Ends = FrontEndsAt size pass found logged.order all in
-      let all_ends = subst (All Ends) (ap (λ (l : PassLog). l.stops) full.log_is) ends in
-      let end : FrontEndsAt size pass found logged.order all here =
-      All-head Ends here [] (parts_all Ends before.stops (here ∷ []) all_ends).1 in
-      cause value free full.at before.entries end.front end.back end.are end.end (end.own ∙ own)
-      full.free_is full.short
+      let f = stopped LogFull full.at before after full.log_is ends own in
+      record {
+        front = f.front;
+        within = f.within;
+        earlier = f.earlier;
+        no_later = f.no_later;
+        left = omega (arith, f.ends, full.free_is, limited);
+        short = subst (λ (p : ℕ). free < room_at size p value) (sym f.ends) full.short;
+      }
+
+  pub stay_cause : (end : ℕ) (before after : PassLog)
+      → AddsStay logged.size limit pass end before after
+      → All (FrontEndsAt logged.size pass found logged.order all) after.stops
+      → take (length before.entries) all ≡ before.entries
+      → MayStay logged pass
+      (behind_last_own logged.size (first_position logged.size) before.entries) end
+  stay_cause end before after stay ends own =
+      let f = stopped AtSegmentStart stay.at before after stay.log_is ends own in
+      record {
+        front = f.front;
+        within = f.within;
+        earlier = f.earlier;
+        no_later = f.no_later;
+        end_is = stay.end_is ∙ ap (end_address_of size) (sym f.ends);
+        at_start = stay.starts;
+      }

@@ -9,7 +9,7 @@ use Rattle.byte_position.proofs.EndAddresses.{end_address_of-le}
 use Rattle.wal_types.specs.declared.answers.Cause.TheVariants.{Full, Disk, Down}
 use Rattle.wal_page.specs.Order.{Entry, FollowsFrom, end_position, finish_of, position_behind, rooms_of}
 use Rattle.wal_page.proofs.OrderLaws.{rooms_of_cons}
-use Rattle.wal_script.specs.Asked.{Asked, AskedLine, Insert, Commit, Flush, CommitAsync, WriteBehind}
+use Rattle.wal_script.specs.Asked.{Asked, AskedLine, Insert, Commit, Flush, CommitAsync, WriteBehind, Switch}
 use Rattle.wal_core.specs.Words.{Opening, flushed_word, moment_word}
 use Rattle.wal_core.specs.Suited.{BeganSuited, tape_from}
 use Rattle.wal_core.specs.Views.{FlushPromise, View}
@@ -18,7 +18,7 @@ use Rattle.closed_log.specs.Closed.{IsClosedOn}
 use Rattle.closed_log.proofs.Promises.{told_rightly}
 use Rattle.closed_log.proofs.ReadWhole.{whole}
 use Rattle.told_lines.specs.declared.told.Told.{Told}
-use Rattle.told_lines.specs.declared.told.Told.TheVariants.{Wrote, Hard, Flushed, Async, Idle, Refused}
+use Rattle.told_lines.specs.declared.told.Told.TheVariants.{Wrote, Hard, Flushed, Async, Idle, Switched, Stayed, Refused}
 use Rattle.told_lines.specs.Told.{FitsLine, Logged, TellsAll, TellsFrom, behind_or, entries_from, entries_of, entry_of, insert_by_start, sorted_by_start}
 use Rattle.told_lines.specs.Whole.{IsWhole}
 use Rattle.run_laws.specs.Ended.{HasTakenIn, IsClosedLog, logged_at_end}
@@ -72,6 +72,8 @@ module _ (logged : Logged) (up : logged.last ≡ 0) (address : ℕ) where
   line_ends pass behind (Insert value) (Flushed upto moment) fits by = absurd fits
   line_ends pass behind (Insert value) (Async start end) fits by = absurd fits
   line_ends pass behind (Insert value) (Idle upto) fits by = absurd fits
+  line_ends pass behind (Insert value) (Switched start end) fits by = absurd fits
+  line_ends pass behind (Insert value) (Stayed end) fits by = absurd fits
   line_ends pass behind (Insert value) (Refused cause None) fits by = All-nil Ends
   line_ends pass behind (Insert value) (Refused (Full free) (Some start)) fits by = absurd fits
   line_ends pass behind (Insert value) (Refused (Disk faults) (Some start)) fits by =
@@ -84,6 +86,8 @@ module _ (logged : Logged) (up : logged.last ≡ 0) (address : ℕ) where
   line_ends pass behind (Commit value) (Flushed upto moment) fits by = absurd fits
   line_ends pass behind (Commit value) (Async start end) fits by = absurd fits
   line_ends pass behind (Commit value) (Idle upto) fits by = absurd fits
+  line_ends pass behind (Commit value) (Switched start end) fits by = absurd fits
+  line_ends pass behind (Commit value) (Stayed end) fits by = absurd fits
   line_ends pass behind (Commit value) (Refused cause None) fits by = All-nil Ends
   line_ends pass behind (Commit value) (Refused (Full free) (Some start)) fits by = absurd fits
   line_ends pass behind (Commit value) (Refused (Disk faults) (Some start)) fits by =
@@ -97,6 +101,8 @@ module _ (logged : Logged) (up : logged.last ≡ 0) (address : ℕ) where
   line_ends pass behind (CommitAsync value) (Async start end) fits by =
       All-cons Ends _ [] (omega (arith, by, fits.ends)) (All-nil Ends)
   line_ends pass behind (CommitAsync value) (Idle upto) fits by = absurd fits
+  line_ends pass behind (CommitAsync value) (Switched start end) fits by = absurd fits
+  line_ends pass behind (CommitAsync value) (Stayed end) fits by = absurd fits
   line_ends pass behind (CommitAsync value) (Refused cause None) fits by = All-nil Ends
   line_ends pass behind (CommitAsync value) (Refused (Full free) (Some start)) fits by = absurd fits
   line_ends pass behind (CommitAsync value) (Refused (Disk faults) (Some start)) fits by =
@@ -104,6 +110,20 @@ module _ (logged : Logged) (up : logged.last ≡ 0) (address : ℕ) where
   line_ends pass behind (CommitAsync value) (Refused (Down faults) (Some start)) fits by =
       absurd (no_fault logged up faults fits.0)
   line_ends pass behind WriteBehind told fits by = All-nil Ends
+  line_ends pass behind Switch (Wrote start end) fits by = absurd fits
+  line_ends pass behind Switch (Hard start end moment) fits by = absurd fits
+  line_ends pass behind Switch (Flushed upto moment) fits by = absurd fits
+  line_ends pass behind Switch (Async start end) fits by = absurd fits
+  line_ends pass behind Switch (Idle upto) fits by = absurd fits
+  line_ends pass behind Switch (Switched start end) fits by =
+      All-cons Ends _ [] (omega (arith, by, fits.ends)) (All-nil Ends)
+  line_ends pass behind Switch (Stayed end) fits by = All-nil Ends
+  line_ends pass behind Switch (Refused cause None) fits by = All-nil Ends
+  line_ends pass behind Switch (Refused (Full free) (Some start)) fits by = absurd fits.0
+  line_ends pass behind Switch (Refused (Disk faults) (Some start)) fits by =
+      absurd (no_fault logged up faults (fits.0).0)
+  line_ends pass behind Switch (Refused (Down faults) (Some start)) fits by =
+      absurd (no_fault logged up faults (fits.0).0)
 
   lines_end : (pass behind : ℕ) (lines : List AskedLine) (told : List Told)
       → TellsFrom logged pass behind lines told → All (EndsBy address) told

@@ -8,7 +8,7 @@ use Rattle.wal_page.specs.Order.{Entry}
 use Rattle.wal_script.specs.Asked.{AskedLine}
 use Rattle.wal_core.specs.Words.{Opening}
 use Rattle.told_lines.specs.declared.told.Told.{Told}
-use Rattle.told_lines.specs.declared.told.Told.TheVariants.{Wrote, Hard, Flushed, Async, Idle, Refused}
+use Rattle.told_lines.specs.declared.told.Told.TheVariants.{Wrote, Hard, Flushed, Async, Idle, Switched, Stayed, Refused}
 use Rattle.told_lines.specs.Crash.{IsBefore, NoneIsLate, WritesNone, moment_told}
 use Rattle.told_lines.specs.Told.{entries_of}
 use Rattle.closed_log.specs.Timely.{IsTimely}
@@ -58,6 +58,8 @@ module _ (opening : Opening) (order : List Entry) (t : Tape) (limit pass : ℕ)
     answer_before (Flushed upto moment) is = told_before upto.0 moment is
     answer_before (Async start end) is = tt
     answer_before (Idle upto) is = tt
+    answer_before (Switched start end) is = tt
+    answer_before (Stayed end) is = tt
     answer_before (Refused cause reserved) is = tt
 
   pub none_late : (lines : List AskedLine) (told : List Told) (before after : PassState)

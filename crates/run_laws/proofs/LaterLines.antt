@@ -1,15 +1,18 @@
 -- What a line adds to its pass's log, and what its pass knows then, stays behind later lines.
-use Rattle.std.proofs.Common.{◌≡◌, ℕ, ◌≤◌, All, List, [], ◌∷◌, Some, None, ap, subst, sym, arith}
+use Rattle.std.proofs.Common.{◌≡◌, ℕ, ◌≤◌, All, List, [], ◌∷◌, Option, Some, None, ap, subst, sym, arith}
+use Rattle.record_spelling.specs.Record.{switch_record}
+use Rattle.wal_types.specs.declared.answers.Cause.{Cause}
 use Rattle.wal_types.specs.declared.answers.Cause.TheVariants.{Full, Disk, Down}
+use Rattle.wal_types.specs.declared.lsn.Lsn.{Lsn}
 use Rattle.wal_types.specs.declared.record.Record.{Record}
-use Rattle.wal_script.specs.Asked.{Asked, AskedLine, Insert, Commit, Flush, CommitAsync, WriteBehind}
-use Rattle.wal_core.specs.Views.{Stop, FlushPromise}
+use Rattle.wal_script.specs.Asked.{Asked, AskedLine, Insert, Commit, Flush, CommitAsync, WriteBehind, Switch}
+use Rattle.wal_core.specs.Views.{AtSegmentStart, FlushPromise, LogFull, Stop, StopCause}
 use Rattle.told_lines.specs.declared.told.Told.{Told}
-use Rattle.told_lines.specs.declared.told.Told.TheVariants.{Wrote, Hard, Flushed, Async, Idle, Refused}
+use Rattle.told_lines.specs.declared.told.Told.TheVariants.{Wrote, Hard, Flushed, Async, Idle, Switched, Stayed, Refused}
 use Rattle.told_lines.proofs.AllLaws.{parts_all}
-use Rattle.wal_core.specs.PassLogs.{PassLog, log_with_promise}
-use Rattle.run_laws.specs.Played.{AddsFull, KnowsFault, Leaves, PassState, PlaysLines, Reserves}
-use Rattle.run_laws.proofs.LineFaults.{down_known}
+use Rattle.wal_core.specs.PassLogs.{PassLog, log_with_promise, log_with_stop}
+use Rattle.run_laws.specs.Played.{KnowsFault, Leaves, PassState, PlaysLines, RefusesRecordLine, Reserves}
+use Rattle.run_laws.proofs.LineFaults.{down_known, refused_as_record}
 
 module _ (size limit pass : ℕ) where
   pub lines_know : (faults : ℕ) (lines : List AskedLine) (told : List Told)
@@ -33,7 +36,7 @@ module _ (size limit pass : ℕ) where
       omega (arith, (plays.1).sees, lines_see lines told plays.0 after plays.2)
 
   module _ (P : Stop → Type 0) (Q : FlushPromise → Type 0) where
-    -- this holds of each place at which the log was full, and that of each promise
+    -- this holds of each place at which the pass stopped, and that of each promise
     abbrev pub Held : PassLog → Type 0
     Held l = All P l.stops × All Q l.promises
 
@@ -41,10 +44,10 @@ module _ (size limit pass : ℕ) where
         → Reserves size limit pass value start before after → Held after → Held before
     held_reserving value start before after r held = subst Held r.log_is held
 
-    held_full : (value : Record) (free : ℕ) (before after : PassLog)
-        → AddsFull size limit pass value free before after → Held after → Held before
-    held_full value free before after f held =
-        let h = subst Held f.log_is held in
+    held_stopping : (stop : StopCause) (at : ℕ) (before after : PassLog)
+        → after ≡ log_with_stop stop at before → Held after → Held before
+    held_stopping stop at before after log_is held =
+        let h = subst Held log_is held in
         ((parts_all P before.stops _ h.0).0, h.1)
 
     held_promising : (upto moment : ℕ) (before after : PassLog)
@@ -52,6 +55,20 @@ module _ (size limit pass : ℕ) where
     held_promising upto moment before after log_is held =
         let h = subst Held log_is held in
         (h.0, (parts_all Q before.promises _ h.1).0)
+
+    held_refused : (value : Record) (cause : Cause) (reserved : Option Lsn)
+        (before after : PassState)
+        → RefusesRecordLine size limit pass value cause reserved before after
+        → Held after.log → Held before.log
+    held_refused value (Full free) None before after l held =
+        held_stopping LogFull l.at before.log after.log l.log_is held
+    held_refused value (Full free) (Some start) before after l held = absurd l
+    held_refused value (Disk faults) None before after l held = absurd l
+    held_refused value (Disk faults) (Some start) before after l held =
+        held_reserving value start.0 before.log after.log l.0 held
+    held_refused value (Down faults) None before after l held = subst Held l.0 held
+    held_refused value (Down faults) (Some start) before after l held =
+        held_reserving value start.0 before.log after.log l.0 held
 
     pub line_held : (asked : Asked) (told : Told) (before after : PassState)
         → Leaves size limit pass asked told before after → Held after.log → Held before.log
@@ -61,16 +78,10 @@ module _ (size limit pass : ℕ) where
     line_held (Insert value) (Flushed upto moment) before after l held = absurd l
     line_held (Insert value) (Async start end) before after l held = absurd l
     line_held (Insert value) (Idle upto) before after l held = absurd l
-    line_held (Insert value) (Refused (Full free) None) before after l held =
-        held_full value free before.log after.log l held
-    line_held (Insert value) (Refused (Full free) (Some start)) before after l held = absurd l
-    line_held (Insert value) (Refused (Disk faults) None) before after l held = absurd l
-    line_held (Insert value) (Refused (Disk faults) (Some start)) before after l held =
-        held_reserving value start.0 before.log after.log l.0 held
-    line_held (Insert value) (Refused (Down faults) None) before after l held =
-        subst Held l.0 held
-    line_held (Insert value) (Refused (Down faults) (Some start)) before after l held =
-        held_reserving value start.0 before.log after.log l.0 held
+    line_held (Insert value) (Switched start end) before after l held = absurd l
+    line_held (Insert value) (Stayed end) before after l held = absurd l
+    line_held (Insert value) (Refused cause reserved) before after l held =
+        held_refused value cause reserved before after l held
     line_held (Commit value) (Wrote start end) before after l held = absurd l
     line_held (Commit value) (Hard start end moment) before after l held =
         held_reserving value start.0 before.log l.between (l.reserved).reserved
@@ -78,22 +89,18 @@ module _ (size limit pass : ℕ) where
     line_held (Commit value) (Flushed upto moment) before after l held = absurd l
     line_held (Commit value) (Async start end) before after l held = absurd l
     line_held (Commit value) (Idle upto) before after l held = absurd l
-    line_held (Commit value) (Refused (Full free) None) before after l held =
-        held_full value free before.log after.log l held
-    line_held (Commit value) (Refused (Full free) (Some start)) before after l held = absurd l
-    line_held (Commit value) (Refused (Disk faults) None) before after l held = absurd l
-    line_held (Commit value) (Refused (Disk faults) (Some start)) before after l held =
-        held_reserving value start.0 before.log after.log l.0 held
-    line_held (Commit value) (Refused (Down faults) None) before after l held =
-        subst Held l.0 held
-    line_held (Commit value) (Refused (Down faults) (Some start)) before after l held =
-        held_reserving value start.0 before.log after.log l.0 held
+    line_held (Commit value) (Switched start end) before after l held = absurd l
+    line_held (Commit value) (Stayed end) before after l held = absurd l
+    line_held (Commit value) (Refused cause reserved) before after l held =
+        held_refused value cause reserved before after l held
     line_held Flush (Wrote start end) before after l held = absurd l
     line_held Flush (Hard start end moment) before after l held = absurd l
     line_held Flush (Flushed upto moment) before after l held =
         held_promising upto.0 moment before.log after.log l.log_is held
     line_held Flush (Async start end) before after l held = absurd l
     line_held Flush (Idle upto) before after l held = absurd l
+    line_held Flush (Switched start end) before after l held = absurd l
+    line_held Flush (Stayed end) before after l held = absurd l
     line_held Flush (Refused (Full free) reserved) before after l held = absurd l
     line_held Flush (Refused (Disk faults) None) before after l held = subst Held l.0 held
     line_held Flush (Refused (Disk faults) (Some start)) before after l held = absurd l
@@ -105,27 +112,35 @@ module _ (size limit pass : ℕ) where
     line_held (CommitAsync value) (Async start end) before after l held =
         held_reserving value start.0 before.log after.log (l.reserved).reserved held
     line_held (CommitAsync value) (Idle upto) before after l held = absurd l
-    line_held (CommitAsync value) (Refused (Full free) None) before after l held =
-        held_full value free before.log after.log l held
-    line_held (CommitAsync value) (Refused (Full free) (Some start)) before after l held = absurd l
-    line_held (CommitAsync value) (Refused (Disk faults) None) before after l held = absurd l
-    line_held (CommitAsync value) (Refused (Disk faults) (Some start)) before after l held =
-        held_reserving value start.0 before.log after.log l.0 held
-    line_held (CommitAsync value) (Refused (Down faults) None) before after l held =
-        subst Held l.0 held
-    line_held (CommitAsync value) (Refused (Down faults) (Some start)) before after l held =
-        held_reserving value start.0 before.log after.log l.0 held
+    line_held (CommitAsync value) (Switched start end) before after l held = absurd l
+    line_held (CommitAsync value) (Stayed end) before after l held = absurd l
+    line_held (CommitAsync value) (Refused cause reserved) before after l held =
+        held_refused value cause reserved before after l held
     line_held WriteBehind (Wrote start end) before after l held = absurd l
     line_held WriteBehind (Hard start end moment) before after l held = absurd l
     line_held WriteBehind (Flushed upto moment) before after l held =
         held_promising upto.0 moment before.log after.log l.log_is held
     line_held WriteBehind (Async start end) before after l held = absurd l
     line_held WriteBehind (Idle upto) before after l held = subst Held l.log_is held
+    line_held WriteBehind (Switched start end) before after l held = absurd l
+    line_held WriteBehind (Stayed end) before after l held = absurd l
     line_held WriteBehind (Refused (Full free) reserved) before after l held = absurd l
     line_held WriteBehind (Refused (Disk faults) None) before after l held = subst Held l.0 held
     line_held WriteBehind (Refused (Disk faults) (Some start)) before after l held = absurd l
     line_held WriteBehind (Refused (Down faults) None) before after l held = subst Held l.0 held
     line_held WriteBehind (Refused (Down faults) (Some start)) before after l held = absurd l
+    line_held Switch (Wrote start end) before after l held = absurd l
+    line_held Switch (Hard start end moment) before after l held = absurd l
+    line_held Switch (Flushed upto moment) before after l held = absurd l
+    line_held Switch (Async start end) before after l held = absurd l
+    line_held Switch (Idle upto) before after l held = absurd l
+    line_held Switch (Switched start end) before after l held =
+        held_reserving switch_record start.0 before.log after.log l.reserved held
+    line_held Switch (Stayed end) before after l held =
+        held_stopping AtSegmentStart l.at before.log after.log l.log_is held
+    line_held Switch (Refused cause reserved) before after l held =
+        held_refused switch_record cause reserved before after
+        (refused_as_record size limit pass cause reserved before after l) held
 
     pub lines_held : (lines : List AskedLine) (told : List Told) (before after : PassState)
         → PlaysLines size limit pass before lines told after → Held after.log → Held before.log

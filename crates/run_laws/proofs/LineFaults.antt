@@ -1,16 +1,30 @@
 -- Once a pass knows that the disk failed, each line is told so.
-use Rattle.std.proofs.Common.{ℕ, ◌+◌, List, [], ◌∷◌, Some, None, subst}
+use Rattle.std.proofs.Common.{ℕ, ◌+◌, List, [], ◌∷◌, Option, Some, None, subst}
+use Rattle.record_spelling.specs.Record.{switch_record}
+use Rattle.wal_types.specs.declared.answers.Cause.{Cause}
 use Rattle.wal_types.specs.declared.answers.Cause.TheVariants.{Full, Disk, Down}
-use Rattle.wal_script.specs.Asked.{Asked, AskedLine, Insert, Commit, Flush, CommitAsync, WriteBehind}
+use Rattle.wal_types.specs.declared.lsn.Lsn.{Lsn}
+use Rattle.wal_script.specs.Asked.{Asked, AskedLine, Insert, Commit, Flush, CommitAsync, WriteBehind, Switch}
 use Rattle.told_lines.specs.declared.told.Told.{Told}
-use Rattle.told_lines.specs.declared.told.Told.TheVariants.{Wrote, Hard, Flushed, Async, Idle, Refused}
+use Rattle.told_lines.specs.declared.told.Told.TheVariants.{Wrote, Hard, Flushed, Async, Idle, Switched, Stayed, Refused}
 use Rattle.told_lines.specs.Told.{AllDown, EachStaysDown, StaysDown}
 use Rattle.wal_core.specs.Words.{Opening, log_limit}
 use Rattle.wal_core.specs.Views.{View}
-use Rattle.run_laws.specs.Played.{KnowsFault, Leaves, PassState, PlaysLines, state_at_first, pass_state_of}
+use Rattle.run_laws.specs.Played.{KnowsFault, Leaves, PassState, PlaysLines, RefusesRecordLine, RefusesSwitchLine, state_at_first, pass_state_of}
 use Rattle.run_laws.specs.Ended.{HasTakenIn, PlayedAll}
 
 module _ (size limit pass : ℕ) where
+  -- a segment switch is refused as a record is
+  pub refused_as_record : (cause : Cause) (reserved : Option Lsn) (before after : PassState)
+      → RefusesSwitchLine size limit pass cause reserved before after
+      → RefusesRecordLine size limit pass switch_record cause reserved before after
+  refused_as_record (Full free) None before after l = l.full
+  refused_as_record (Full free) (Some start) before after l = absurd l
+  refused_as_record (Disk faults) None before after l = absurd l
+  refused_as_record (Disk faults) (Some start) before after l = l
+  refused_as_record (Down faults) None before after l = l
+  refused_as_record (Down faults) (Some start) before after l = l
+
   -- a line that is told of a failed disk leaves its pass knowing it
   pub down_known : (asked : Asked) (faults : ℕ) (before after : PassState)
       → Leaves size limit pass asked (Refused (Down faults) None) before after
@@ -20,6 +34,7 @@ module _ (size limit pass : ℕ) where
   down_known Flush faults before after l = l.1
   down_known (CommitAsync value) faults before after l = l.1
   down_known WriteBehind faults before after l = l.1
+  down_known Switch faults before after l = l.1
 
   pub lines_down : (faults : ℕ) (lines : List AskedLine) (told : List Told)
       (before after : PassState) → PlaysLines size limit pass before lines told after
@@ -45,6 +60,8 @@ module _ (size limit pass : ℕ) where
   stays_behind asked (Flushed upto moment) others before mid l stays down = stays
   stays_behind asked (Async start end) others before mid l stays down = stays
   stays_behind asked (Idle upto) others before mid l stays down = stays
+  stays_behind asked (Switched start end) others before mid l stays down = stays
+  stays_behind asked (Stayed end) others before mid l stays down = stays
   stays_behind asked (Refused (Full free) reserved) others before mid l stays down = stays
   stays_behind (Insert value) (Refused (Disk faults) None) others before mid l stays down =
       absurd l
@@ -78,6 +95,12 @@ module _ (size limit pass : ℕ) where
   stays_behind WriteBehind (Refused (Disk faults) (Some start)) others before mid l stays down = absurd l
   stays_behind WriteBehind (Refused (Down faults) None) others before mid l stays down = down faults l.1
   stays_behind WriteBehind (Refused (Down faults) (Some start)) others before mid l stays down = absurd l
+  stays_behind Switch (Refused (Disk faults) None) others before mid l stays down = absurd l
+  stays_behind Switch (Refused (Disk faults) (Some start)) others before mid l stays down =
+      down faults l.1
+  stays_behind Switch (Refused (Down faults) None) others before mid l stays down = down faults l.1
+  stays_behind Switch (Refused (Down faults) (Some start)) others before mid l stays down =
+      down faults l.1
 
   pub lines_stay_down : (lines : List AskedLine) (told : List Told) (before after : PassState)
       → PlaysLines size limit pass before lines told after → StaysDown told

@@ -1,18 +1,20 @@
 -- What a line adds to its pass's log, by what it is told.
 use Rattle.std.proofs.Common.{◌≡◌, ℕ, ◌≤◌, List, [], ◌∷◌, ◌++◌, Option, Some, None, false, true≢false, sym, ap, ◌∙◌, append_assoc, append-nil, arith}
+use Rattle.record_spelling.specs.Record.{switch_record}
 use Rattle.wal_types.specs.declared.answers.Cause.{Cause}
 use Rattle.wal_types.specs.declared.answers.Cause.TheVariants.{Full, Disk, Down}
 use Rattle.wal_types.specs.declared.lsn.Lsn.{Lsn}
 use Rattle.wal_types.specs.declared.record.Record.{Record}
 use Rattle.wal_page.specs.Order.{Entry, finish_of}
-use Rattle.wal_script.specs.Asked.{Asked, AskedLine, Insert, Commit, Flush, CommitAsync, WriteBehind}
+use Rattle.wal_script.specs.Asked.{Asked, AskedLine, Insert, Commit, Flush, CommitAsync, WriteBehind, Switch}
 use Rattle.wal_core.specs.Views.{FlushPromise}
 use Rattle.wal_core.specs.Moves.{entry_reserved}
 use Rattle.told_lines.specs.declared.told.Told.{Told}
-use Rattle.told_lines.specs.declared.told.Told.TheVariants.{Wrote, Hard, Flushed, Async, Idle, Refused}
+use Rattle.told_lines.specs.declared.told.Told.TheVariants.{Wrote, Hard, Flushed, Async, Idle, Switched, Stayed, Refused}
 use Rattle.told_lines.specs.Moments.{may_repeat}
 use Rattle.wal_core.specs.PassLogs.{PassLog, log_with_entry, log_with_promise}
 use Rattle.run_laws.specs.Played.{Leaves, PassState, PlaysLines, RefusesFlushLine, RefusesRecordLine, Reserves, end_of_own}
+use Rattle.run_laws.proofs.LineFaults.{refused_as_record}
 
 -- entries may be added, but no promise
 pub record AddsNoPromise (before after : PassLog) : Type 0 where
@@ -45,6 +47,9 @@ Grows size asked (Flushed upto moment) before after =
 Grows size asked (Async start end) before after =
     (e : Entry) × (after ≡ log_with_entry e before)
 Grows size asked (Idle upto) before after = after ≡ before
+Grows size asked (Switched start end) before after =
+    (e : Entry) × (after ≡ log_with_entry e before)
+Grows size asked (Stayed end) before after = AddsNoPromise before after
 Grows size asked (Refused cause reserved) before after = AddsNoPromise before after
 
 nothing_added : (before after : PassLog) → after.entries ≡ before.entries
@@ -99,6 +104,8 @@ module _ (size limit pass : ℕ) where
   line_grows (Insert value) (Flushed upto moment) before after l = absurd l
   line_grows (Insert value) (Async start end) before after l = absurd l
   line_grows (Insert value) (Idle upto) before after l = absurd l
+  line_grows (Insert value) (Switched start end) before after l = absurd l
+  line_grows (Insert value) (Stayed end) before after l = absurd l
   line_grows (Insert value) (Refused cause reserved) before after l =
       record_refused value cause reserved before after l
   line_grows (Commit value) (Wrote start end) before after l = absurd l
@@ -112,6 +119,8 @@ module _ (size limit pass : ℕ) where
   line_grows (Commit value) (Flushed upto moment) before after l = absurd l
   line_grows (Commit value) (Async start end) before after l = absurd l
   line_grows (Commit value) (Idle upto) before after l = absurd l
+  line_grows (Commit value) (Switched start end) before after l = absurd l
+  line_grows (Commit value) (Stayed end) before after l = absurd l
   line_grows (Commit value) (Refused cause reserved) before after l =
       record_refused value cause reserved before after l
   line_grows Flush (Wrote start end) before after l = absurd l
@@ -119,6 +128,8 @@ module _ (size limit pass : ℕ) where
   line_grows Flush (Flushed upto moment) before after l = ((λ covers. l.reached), l.log_is)
   line_grows Flush (Async start end) before after l = absurd l
   line_grows Flush (Idle upto) before after l = absurd l
+  line_grows Flush (Switched start end) before after l = absurd l
+  line_grows Flush (Stayed end) before after l = absurd l
   line_grows Flush (Refused cause reserved) before after l =
       flush_refused cause reserved before after l
   line_grows (CommitAsync value) (Wrote start end) before after l = absurd l
@@ -127,6 +138,8 @@ module _ (size limit pass : ℕ) where
   line_grows (CommitAsync value) (Async start end) before after l =
       (entry_reserved pass ((l.reserved).reserved).at value, ((l.reserved).reserved).log_is)
   line_grows (CommitAsync value) (Idle upto) before after l = absurd l
+  line_grows (CommitAsync value) (Switched start end) before after l = absurd l
+  line_grows (CommitAsync value) (Stayed end) before after l = absurd l
   line_grows (CommitAsync value) (Refused cause reserved) before after l =
       record_refused value cause reserved before after l
   line_grows WriteBehind (Wrote start end) before after l = absurd l
@@ -135,8 +148,22 @@ module _ (size limit pass : ℕ) where
       ((λ covers. absurd (true≢false covers)), l.log_is)
   line_grows WriteBehind (Async start end) before after l = absurd l
   line_grows WriteBehind (Idle upto) before after l = l.log_is
+  line_grows WriteBehind (Switched start end) before after l = absurd l
+  line_grows WriteBehind (Stayed end) before after l = absurd l
   line_grows WriteBehind (Refused cause reserved) before after l =
       flush_refused cause reserved before after l
+  line_grows Switch (Wrote start end) before after l = absurd l
+  line_grows Switch (Hard start end moment) before after l = absurd l
+  line_grows Switch (Flushed upto moment) before after l = absurd l
+  line_grows Switch (Async start end) before after l = absurd l
+  line_grows Switch (Idle upto) before after l = absurd l
+  line_grows Switch (Switched start end) before after l =
+      (entry_reserved pass (l.reserved).at switch_record, (l.reserved).log_is)
+  line_grows Switch (Stayed end) before after l = nothing_added before.log after.log
+      (ap (λ (l : PassLog). l.entries) l.log_is) (ap (λ (l : PassLog). l.promises) l.log_is)
+  line_grows Switch (Refused cause reserved) before after l =
+      record_refused switch_record cause reserved before after
+      (refused_as_record size limit pass cause reserved before after l)
 
   grown : (asked : Asked) (told : Told) (before after : PassLog)
       → Grows size asked told before after → Extends before after
@@ -169,6 +196,18 @@ module _ (size limit pass : ℕ) where
     promises = [];
     entries_are = ap (λ (l : PassLog). l.entries) g ∙ sym (append-nil before.entries);
     promises_are = ap (λ (l : PassLog). l.promises) g ∙ sym (append-nil before.promises);
+  }
+  grown asked (Switched start end) before after g = record {
+    entries = g.0 ∷ [];
+    promises = [];
+    entries_are = ap (λ (l : PassLog). l.entries) g.1;
+    promises_are = ap (λ (l : PassLog). l.promises) g.1 ∙ sym (append-nil before.promises);
+  }
+  grown asked (Stayed end) before after g = record {
+    entries = g.entries;
+    promises = [];
+    entries_are = g.entries_are;
+    promises_are = g.promises_are ∙ sym (append-nil before.promises);
   }
   grown asked (Refused cause reserved) before after g = record {
     entries = g.entries;

@@ -1,10 +1,10 @@
 -- What a line tells to be durable is a promise of its pass's log.
 use Rattle.std.proofs.Common.{◌≡◌, ℕ, ◌≤◌, All, List, [], ◌∷◌, inl, inr, length, refl, sym, ap, subst, arith}
 use Rattle.std.proofs.lemmas.List.Elements.{All-head}
-use Rattle.wal_script.specs.Asked.{Asked, AskedLine, Insert, Commit, Flush, CommitAsync, WriteBehind}
+use Rattle.wal_script.specs.Asked.{Asked, AskedLine, Insert, Commit, Flush, CommitAsync, WriteBehind, Switch}
 use Rattle.wal_core.specs.Views.{Stop, FlushPromise}
 use Rattle.told_lines.specs.declared.told.Told.{Told}
-use Rattle.told_lines.specs.declared.told.Told.TheVariants.{Wrote, Hard, Flushed, Async, Idle, Refused}
+use Rattle.told_lines.specs.declared.told.Told.TheVariants.{Wrote, Hard, Flushed, Async, Idle, Switched, Stayed, Refused}
 use Rattle.told_lines.specs.Crash.{SaysDurable}
 use Rattle.told_lines.specs.Told.{SomeAnswer}
 use Rattle.told_lines.proofs.AllLaws.{parts_all}
@@ -33,6 +33,8 @@ module _ (Q : FlushPromise → Type 0) where
   Promised (Flushed upto moment) count = IsPromisedSo upto.0 moment count
   Promised (Async start end) count = Unit {0}
   Promised (Idle upto) count = Unit {0}
+  Promised (Switched start end) count = Unit {0}
+  Promised (Stayed end) count = Unit {0}
   Promised (Refused cause reserved) count = Unit {0}
 
   -- one told by a moment, of all below an address
@@ -49,6 +51,8 @@ module _ (Q : FlushPromise → Type 0) where
       (is.promise, is.holds, omega (arith, is.moment_is, says.0), omega (arith, is.reached, says.1))
   answer_promised moment address count (Async start end) is says = absurd says
   answer_promised moment address count (Idle upto) is says = absurd says
+  answer_promised moment address count (Switched start end) is says = absurd says
+  answer_promised moment address count (Stayed end) is says = absurd says
   answer_promised moment address count (Refused cause reserved) is says = absurd says
 
   module _ (size limit pass : ℕ) where
@@ -73,6 +77,8 @@ module _ (Q : FlushPromise → Type 0) where
     line_promised asked (Wrote start end) before after l all = tt
     line_promised asked (Async start end) before after l all = tt
     line_promised asked (Idle upto) before after l all = tt
+    line_promised asked (Switched start end) before after l all = tt
+    line_promised asked (Stayed end) before after l all = tt
     line_promised asked (Refused cause reserved) before after l all = tt
     line_promised (Insert value) (Hard start end moment) before after l all = absurd l
     line_promised (Commit value) (Hard start end moment) before after l all =
@@ -80,6 +86,7 @@ module _ (Q : FlushPromise → Type 0) where
     line_promised Flush (Hard start end moment) before after l all = absurd l
     line_promised (CommitAsync value) (Hard start end moment) before after l all = absurd l
     line_promised WriteBehind (Hard start end moment) before after l all = absurd l
+    line_promised Switch (Hard start end moment) before after l all = absurd l
     line_promised (Insert value) (Flushed upto moment) before after l all = absurd l
     line_promised (Commit value) (Flushed upto moment) before after l all = absurd l
     line_promised Flush (Flushed upto moment) before after l all =
@@ -87,6 +94,7 @@ module _ (Q : FlushPromise → Type 0) where
     line_promised (CommitAsync value) (Flushed upto moment) before after l all = absurd l
     line_promised WriteBehind (Flushed upto moment) before after l all =
         newest upto.0 upto.0 moment (omega arith) before.log after.log l.log_is all
+    line_promised Switch (Flushed upto moment) before after l all = absurd l
 
     -- the promises behind a line are among those in the end
     pub promises_held : (lines : List AskedLine) (told : List Told) (before after : PassState)

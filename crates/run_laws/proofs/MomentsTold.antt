@@ -5,12 +5,12 @@ use Rattle.std.proofs.lemmas.List.Elements.{All-cons, All-head, All-tail}
 use Rattle.std.specs.Prelude.{slice_get, Some}
 use Rattle.byte_position.specs.Position.{end_address_of, first_position}
 use Rattle.wal_page.specs.Order.{Entry, finish_of, position_behind}
-use Rattle.wal_script.specs.Asked.{Asked, AskedLine, Insert, Commit, Flush, CommitAsync, WriteBehind}
+use Rattle.wal_script.specs.Asked.{Asked, AskedLine, Insert, Commit, Flush, CommitAsync, WriteBehind, Switch}
 use Rattle.wal_core.specs.Words.{Opening, log_limit}
 use Rattle.wal_core.specs.Views.{FlushPromise, Joined, View}
 use Rattle.wal_core.specs.Moves.{joined_of}
 use Rattle.told_lines.specs.declared.told.Told.{Told}
-use Rattle.told_lines.specs.declared.told.Told.TheVariants.{Wrote, Hard, Flushed, Async, Idle, Refused}
+use Rattle.told_lines.specs.declared.told.Told.TheVariants.{Wrote, Hard, Flushed, Async, Idle, Switched, Stayed, Refused}
 use Rattle.told_lines.specs.Moments.{EachRises, FlushMoment, LastTold, MomentStep, MomentsReach, may_repeat}
 use Rattle.told_lines.proofs.AllLaws.{parts_all}
 use Rattle.machine_laws.specs.RisingMoments.{LogsRise, PromisesRise, Rises, RisesAbove, promised_of, with_opening}
@@ -18,7 +18,7 @@ use Rattle.wal_core.specs.PassLogs.{PassLog, log_with_entry, log_with_promise}
 use Rattle.run_laws.specs.Played.{PassState, PlaysLines, behind_last_own, end_of_own, state_at_first, pass_state_of}
 use Rattle.run_laws.specs.Ended.{HasTakenIn, PlayedAll}
 use Rattle.run_laws.specs.Latest.{NoneIsLater}
-use Rattle.run_laws.proofs.LineGrowth.{Extends, Grows, line_grows, lines_extend}
+use Rattle.run_laws.proofs.LineGrowth.{AddsNoPromise, Extends, Grows, line_grows, lines_extend}
 
 -- where a flush may not tell the last moment again, its backend wrote since
 written_since : (asked : Asked) (is_latest : Bool) → may_repeat asked is_latest ≡ false
@@ -28,6 +28,7 @@ written_since (Commit value) is_latest is = (is, refl)
 written_since Flush is_latest is = (is, refl)
 written_since (CommitAsync value) is_latest is = (is, refl)
 written_since WriteBehind is_latest is = absurd (true≢false is)
+written_since Switch is_latest is = (is, refl)
 
 -- of two that follow each other in a list, what holds of each pair
 pair_at : {X : Type 0} (R : X → X → Type 0) (front behind : List X) (x y : X)
@@ -198,6 +199,21 @@ module _ (opening : Opening) where
               (tracks_promise between wrote s upto moment),
         )
 
+    -- where no promise is made, what was told last stays so
+    tracks_on : AddsNoPromise before after → Tracks after last
+    tracks_on g =
+        let more : length after.entries ≡ length before.entries + length g.entries =
+        ap (λ (es : List Entry). length es) g.entries_are
+        ∙ length-append before.entries g.entries in
+        record {
+          older = t.older;
+          newest = t.newest;
+          promises = ap (with_opening opening) g.promises_are ∙ t.promises;
+          moment_is = t.moment_is;
+          counted = omega (arith, t.counted, more);
+          behind = λ no. let old = t.behind no in omega (arith, old, more);
+        }
+
     answer_steps : (asked : Asked) (told : Told)
         → Grows (opening.setup).segment_size asked told before after
         → Steps last asked told after
@@ -228,21 +244,14 @@ module _ (opening : Opening) where
     )
     answer_steps asked (Idle upto) g =
         (last, refl, subst (λ (l : PassLog). Tracks l last) (sym g) t)
-    answer_steps asked (Refused cause reserved) g =
-        let more : length after.entries ≡ length before.entries + length g.entries =
-        ap (λ (es : List Entry). length es) g.entries_are
-        ∙ length-append before.entries g.entries in (
-          last,
-          refl,
-          record {
-            older = t.older;
-            newest = t.newest;
-            promises = ap (with_opening opening) g.promises_are ∙ t.promises;
-            moment_is = t.moment_is;
-            counted = omega (arith, t.counted, more);
-            behind = λ no. let old = t.behind no in omega (arith, old, more);
-          },
-        )
+    answer_steps asked (Switched start end) g = (
+      record { moment = last.moment; is_latest = false },
+      refl,
+      subst (λ (l : PassLog). Tracks l (record { moment = last.moment; is_latest = false }))
+          (sym g.1) (tracks_entry before last t g.0),
+    )
+    answer_steps asked (Stayed end) g = (last, refl, tracks_on g)
+    answer_steps asked (Refused cause reserved) g = (last, refl, tracks_on g)
 
   module _ (limit top : ℕ) where
     abbrev IsUpto : FlushPromise → Type 0

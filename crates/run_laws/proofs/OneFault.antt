@@ -2,9 +2,9 @@
 use Rattle.std.proofs.Common.{◌≡◌, ◌≢◌, ℕ, ◌+◌, ◌≤◌, ◌==◌, cond, Bool, true, false, ne_eqb, All, List, [], ◌∷◌, map, Some, None, inl, inr, refl, sym, ap, ◌∙◌, subst, arith}
 use Rattle.std.proofs.lemmas.List.Elements.{All-head, All-tail}
 use Rattle.wal_types.specs.declared.answers.Cause.TheVariants.{Full, Disk, Down}
-use Rattle.wal_script.specs.Asked.{Asked, AskedLine, Insert, Commit, Flush, CommitAsync, WriteBehind}
+use Rattle.wal_script.specs.Asked.{Asked, AskedLine, Insert, Commit, Flush, CommitAsync, WriteBehind, Switch}
 use Rattle.told_lines.specs.declared.told.Told.{Told}
-use Rattle.told_lines.specs.declared.told.Told.TheVariants.{Wrote, Hard, Flushed, Async, Idle, Refused}
+use Rattle.told_lines.specs.declared.told.Told.TheVariants.{Wrote, Hard, Flushed, Async, Idle, Switched, Stayed, Refused}
 use Rattle.told_lines.specs.Told.{AllDown, IsDownAnswer, SomeAnswer, SomeTold}
 use Rattle.told_lines.specs.Counts.{TellsOneFault, all_own_faults_of, is_own_fault, own_faults_of}
 use Rattle.wal_page.specs.Order.{Entry}
@@ -50,6 +50,8 @@ module _ (size limit pass : ℕ) where
   refused_knows_disk (CommitAsync value) faults (Some start) before after l = l.1
   refused_knows_disk WriteBehind faults None before after l = l.1
   refused_knows_disk WriteBehind faults (Some start) before after l = absurd l
+  refused_knows_disk Switch faults None before after l = absurd l
+  refused_knows_disk Switch faults (Some start) before after l = l.1
 
   refused_knows_down : (asked : Asked) (faults : ℕ) (reserved : _) (before after : PassState)
       → Leaves size limit pass asked (Refused (Down faults) reserved) before after
@@ -64,6 +66,8 @@ module _ (size limit pass : ℕ) where
   refused_knows_down (CommitAsync value) faults (Some start) before after l = l.1
   refused_knows_down WriteBehind faults None before after l = l.1
   refused_knows_down WriteBehind faults (Some start) before after l = absurd l
+  refused_knows_down Switch faults None before after l = l.1
+  refused_knows_down Switch faults (Some start) before after l = l.1
 
   -- where the pass knew a fault, its lines set none
   lines_set_none : (faults : ℕ) (lines : List AskedLine) (told : List Told)
@@ -97,6 +101,10 @@ module _ (size limit pass : ℕ) where
   own_faults_behind asked (Async start end) lines told before mid after l cause none plays more =
       let same = more cause.1 in omega (arith, same)
   own_faults_behind asked (Idle upto) lines told before mid after l cause none plays more =
+      let same = more cause.1 in omega (arith, same)
+  own_faults_behind asked (Switched start end) lines told before mid after l cause none plays
+      more = let same = more cause.1 in omega (arith, same)
+  own_faults_behind asked (Stayed end) lines told before mid after l cause none plays more =
       let same = more cause.1 in omega (arith, same)
   own_faults_behind asked (Refused (Full free) reserved) lines told before mid after l cause none
       plays more = let same = more cause.1 in omega (arith, same)
@@ -132,6 +140,8 @@ module _ (size limit pass : ℕ) where
   down_line_knows asked (Flushed upto moment) before after l down = absurd down
   down_line_knows asked (Async start end) before after l down = absurd down
   down_line_knows asked (Idle upto) before after l down = absurd down
+  down_line_knows asked (Switched start end) before after l down = absurd down
+  down_line_knows asked (Stayed end) before after l down = absurd down
   down_line_knows asked (Refused (Full free) reserved) before after l down = absurd down
   down_line_knows asked (Refused (Disk faults) reserved) before after l down = absurd down
   down_line_knows asked (Refused (Down faults) reserved) before after l down =

@@ -4,11 +4,11 @@ use mathlib.Core.Option.{Option, none, some}
 use Rattle.byte_position.specs.Position.{first_position}
 use Rattle.wal_types.specs.declared.answers.Cause.TheVariants.{Full, Disk, Down}
 use Rattle.wal_page.specs.Order.{Entry}
-use Rattle.wal_script.specs.Asked.{Asked, AskedLine, Insert, Commit, Flush, CommitAsync, WriteBehind}
+use Rattle.wal_script.specs.Asked.{Asked, AskedLine, Insert, Commit, Flush, CommitAsync, WriteBehind, Switch}
 use Rattle.wal_core.specs.Words.{Opening}
 use Rattle.wal_core.specs.Views.{View}
 use Rattle.told_lines.specs.declared.told.Told.{Told}
-use Rattle.told_lines.specs.declared.told.Told.TheVariants.{Wrote, Hard, Flushed, Async, Idle, Refused}
+use Rattle.told_lines.specs.declared.told.Told.TheVariants.{Wrote, Hard, Flushed, Async, Idle, Switched, Stayed, Refused}
 use Rattle.told_lines.specs.Told.{FitsLine, IsFault, IsFullAnswer, IsRefused, Logged, SomeAnswer, SomeTold, TellsAll, TellsFrom, behind_or, entry_of}
 use Rattle.run_laws.specs.Ended.{HasTakenIn, IsClosedLog, logged_at_end}
 use Rattle.run_laws.proofs.RunTells.{run_tells}
@@ -33,6 +33,8 @@ module _ (logged : Logged) (up : logged.last ≡ 0) where
   full_line pass behind asked (Flushed upto moment) fits refused = absurd refused
   full_line pass behind asked (Async start end) fits refused = absurd refused
   full_line pass behind asked (Idle upto) fits refused = absurd refused
+  full_line pass behind asked (Switched start end) fits refused = absurd refused
+  full_line pass behind asked (Stayed end) fits refused = absurd refused
   full_line pass behind asked (Refused (Full free) reserved) fits refused = tt
   full_line pass behind (Insert value) (Refused (Disk faults) None) fits refused = absurd fits
   full_line pass behind (Insert value) (Refused (Disk faults) (Some start)) fits refused =
@@ -63,6 +65,13 @@ module _ (logged : Logged) (up : logged.last ≡ 0) where
       absurd (no_fault faults fits.0)
   full_line pass behind WriteBehind (Refused (Down faults) reserved) fits refused =
       absurd (no_fault faults fits.0)
+  full_line pass behind Switch (Refused (Disk faults) None) fits refused = absurd fits.0
+  full_line pass behind Switch (Refused (Disk faults) (Some start)) fits refused =
+      absurd (no_fault faults (fits.0).0)
+  full_line pass behind Switch (Refused (Down faults) None) fits refused =
+      absurd (no_fault faults fits.0)
+  full_line pass behind Switch (Refused (Down faults) (Some start)) fits refused =
+      absurd (no_fault faults (fits.0).0)
 
   full_lines : (pass behind : ℕ) (lines : List AskedLine) (told : List Told)
       → TellsFrom logged pass behind lines told → SomeAnswer IsRefused told

@@ -6,22 +6,24 @@ use Rattle.byte_position.specs.Geometry.{IsSegmentSize}
 use Rattle.byte_position.specs.Position.{position_of, address_of, end_address_of, first_position}
 use Rattle.byte_position.proofs.EndAddresses.{end_address_of-mono}
 use Rattle.byte_position.proofs.PositionLaws.{position_of-address_of}
+use Rattle.record_spelling.specs.Record.{switch_record}
 use Rattle.wal_types.specs.declared.answers.Cause.{Cause}
 use Rattle.wal_types.specs.declared.answers.Cause.TheVariants.{Full, Disk, Down}
 use Rattle.wal_types.specs.declared.lsn.Lsn.{Lsn}
 use Rattle.wal_types.specs.declared.record.Record.{Record}
 use Rattle.wal_page.specs.Order.{Entry, IsChained, end_position, position_behind, room_at}
-use Rattle.wal_script.specs.Asked.{Asked, AskedLine, Insert, Commit, Flush, CommitAsync, WriteBehind}
+use Rattle.wal_script.specs.Asked.{Asked, AskedLine, Insert, Commit, Flush, CommitAsync, WriteBehind, Switch}
 use Rattle.wal_core.specs.Views.{Stop, FlushPromise}
 use Rattle.wal_core.specs.Ordered.{FrontEndsAt}
 use Rattle.told_lines.specs.declared.told.Told.{Told}
-use Rattle.told_lines.specs.declared.told.Told.TheVariants.{Wrote, Hard, Flushed, Async, Idle, Refused}
-use Rattle.told_lines.specs.Told.{FitsLine, IsFault, IsPlaced, Logged, MayRefuseFlush, MayRefuseRecord, TellsFrom, behind_or, entries_of, entry_of}
+use Rattle.told_lines.specs.declared.told.Told.TheVariants.{Wrote, Hard, Flushed, Async, Idle, Switched, Stayed, Refused}
+use Rattle.told_lines.specs.Told.{FitsLine, IsFault, IsPlaced, LeavesFew, Logged, MayRefuseFlush, MayRefuseRecord, TellsFrom, behind_or, entries_of, entry_of}
 use Rattle.told_lines.proofs.AllLaws.{parts_all}
 use Rattle.wal_core.specs.PassLogs.{PassLog, log_with_promise}
-use Rattle.run_laws.specs.Played.{KnowsFault, Leaves, PassState, PlaysLines, RefusesFlushLine, RefusesRecordLine, Reserves, ReservesUpto, behind_last_own}
-use Rattle.run_laws.proofs.FullLines.{full_cause}
+use Rattle.run_laws.specs.Played.{KnowsFault, Leaves, PassState, PlaysLines, RefusesFlushLine, RefusesRecordLine, RefusesSwitchLine, Reserves, ReservesUpto, behind_last_own}
+use Rattle.run_laws.proofs.FullLines.{full_cause, stay_cause}
 use Rattle.run_laws.proofs.LineEntries.{line_entries, lines_entries}
+use Rattle.run_laws.proofs.LineFaults.{refused_as_record}
 use Rattle.run_laws.proofs.LaterLines.{Held, lines_held, lines_know, lines_see}
 
 -- the position behind some entries and one more, or none more
@@ -111,6 +113,13 @@ module _ (logged : Logged) (limit pass : ℕ) (valid : IsSegmentSize logged.size
     refuses_flush (Down faults) None l = (faulty faults l.1, refl)
     refuses_flush (Down faults) (Some start) l = absurd l
 
+    leaves_few : (cause : Cause) (reserved : Option Lsn)
+        → RefusesSwitchLine logged.size limit pass cause reserved before after → LeavesFew cause
+    leaves_few (Full free) None l = (l.some, l.few)
+    leaves_few (Full free) (Some start) l = absurd l
+    leaves_few (Disk faults) reserved l = tt
+    leaves_few (Down faults) reserved l = tt
+
     fits : (asked : Asked) (told : Told) → Leaves logged.size limit pass asked told before after
         → FitsLine logged pass behind asked told
     fits (Insert value) (Wrote start end) l = placed value start end before.log after.log l
@@ -118,6 +127,8 @@ module _ (logged : Logged) (limit pass : ℕ) (valid : IsSegmentSize logged.size
     fits (Insert value) (Flushed upto moment) l = absurd l
     fits (Insert value) (Async start end) l = absurd l
     fits (Insert value) (Idle upto) l = absurd l
+    fits (Insert value) (Switched start end) l = absurd l
+    fits (Insert value) (Stayed end) l = absurd l
     fits (Insert value) (Refused cause reserved) l = refuses value cause reserved l
     fits (Commit value) (Wrote start end) l = absurd l
     fits (Commit value) (Hard start end moment) l =
@@ -125,6 +136,8 @@ module _ (logged : Logged) (limit pass : ℕ) (valid : IsSegmentSize logged.size
     fits (Commit value) (Flushed upto moment) l = absurd l
     fits (Commit value) (Async start end) l = absurd l
     fits (Commit value) (Idle upto) l = absurd l
+    fits (Commit value) (Switched start end) l = absurd l
+    fits (Commit value) (Stayed end) l = absurd l
     fits (Commit value) (Refused cause reserved) l = refuses value cause reserved l
     fits Flush (Wrote start end) l = absurd l
     fits Flush (Hard start end moment) l = absurd l
@@ -132,6 +145,8 @@ module _ (logged : Logged) (limit pass : ℕ) (valid : IsSegmentSize logged.size
         (l.reached, promised upto.0 moment before.log after.log l.log_is held)
     fits Flush (Async start end) l = absurd l
     fits Flush (Idle upto) l = absurd l
+    fits Flush (Switched start end) l = absurd l
+    fits Flush (Stayed end) l = absurd l
     fits Flush (Refused cause reserved) l = refuses_flush cause reserved l
     fits (CommitAsync value) (Wrote start end) l = absurd l
     fits (CommitAsync value) (Hard start end moment) l = absurd l
@@ -139,6 +154,8 @@ module _ (logged : Logged) (limit pass : ℕ) (valid : IsSegmentSize logged.size
     fits (CommitAsync value) (Async start end) l =
         placed value start end before.log after.log l.reserved
     fits (CommitAsync value) (Idle upto) l = absurd l
+    fits (CommitAsync value) (Switched start end) l = absurd l
+    fits (CommitAsync value) (Stayed end) l = absurd l
     fits (CommitAsync value) (Refused cause reserved) l = refuses value cause reserved l
     fits WriteBehind (Wrote start end) l = absurd l
     fits WriteBehind (Hard start end moment) l = absurd l
@@ -153,7 +170,23 @@ module _ (logged : Logged) (limit pass : ℕ) (valid : IsSegmentSize logged.size
           (end_position size logged.order) seen_low in
           omega (arith, l.reserved, further));
     }
+    fits WriteBehind (Switched start end) l = absurd l
+    fits WriteBehind (Stayed end) l = absurd l
     fits WriteBehind (Refused cause reserved) l = refuses_flush cause reserved l
+    fits Switch (Wrote start end) l = absurd l
+    fits Switch (Hard start end moment) l = absurd l
+    fits Switch (Flushed upto moment) l = absurd l
+    fits Switch (Async start end) l = absurd l
+    fits Switch (Idle upto) l = absurd l
+    fits Switch (Switched start end) l = placed switch_record start end before.log after.log l
+    fits Switch (Stayed end) l =
+        stay_cause logged limit pass chained limited found all end.0 before.log after.log l held.0
+        own
+    fits Switch (Refused cause reserved) l = (
+      refuses switch_record cause reserved
+          (refused_as_record logged.size limit pass cause reserved before after l),
+      leaves_few cause reserved l,
+    )
 
   pub tells : (lines : List AskedLine) (told : List Told) (before after : PassState)
       → PlaysLines logged.size limit pass before lines told after → (after.log).entries ≡ all

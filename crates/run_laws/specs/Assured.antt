@@ -81,4 +81,4 @@ pub record RunAssures (opening : Opening) (began now : Option Tape) (moment faul
       (order_told opening script lists) t 1 script lists)
   pub full : SomeTold IsFullAnswer lists
       → capacity_of (opening.setup).segment_size (opening.setup).cap_segments
-      < all_rooms_asked script
+      < all_rooms_asked (opening.setup).segment_size script

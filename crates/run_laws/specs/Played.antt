@@ -1,19 +1,20 @@
 -- What a line leaves of its pass, by what it is told. Everywhere `size` is the size of a segment in
 -- bytes, `limit` the byte position at which the log is full, and `pass` the pass's number.
-use Rattle.std.specs.Prelude.{◌≡◌, ◌≢◌, ◌⊎◌, ℕ, ◌+◌, ◌*◌, ◌/◌, ◌<◌, ◌≤◌, All, List, [], ◌∷◌, Option, Some, None}
+use Rattle.std.specs.Prelude.{◌≡◌, ◌≢◌, ◌⊎◌, ℕ, ◌+◌, ◌*◌, ◌/◌, ◌%◌, ◌<◌, ◌≤◌, All, List, [], ◌∷◌, Option, Some, None}
 use Rattle.wal_types.specs.declared.lsn.Lsn.{Lsn}
 use Rattle.wal_types.specs.declared.record.Record.{Record}
+use Rattle.record_spelling.specs.Record.{switch_record}
 use Rattle.wal_types.specs.declared.answers.Cause.{Cause}
 use Rattle.wal_types.specs.declared.answers.Cause.TheVariants.{Full, Disk, Down}
 use Rattle.byte_position.specs.Position.{end_address_of, first_position}
 use Rattle.wal_page.specs.Order.{Entry, finish_of, position_behind, room_at, start_of}
-use Rattle.wal_script.specs.Asked.{Asked, AskedLine, Insert, Commit, Flush, CommitAsync, WriteBehind}
+use Rattle.wal_script.specs.Asked.{Asked, AskedLine, Insert, Commit, Flush, CommitAsync, WriteBehind, Switch}
 use Rattle.wal_script.specs.Writable.{AsksWritable}
 use Rattle.told_lines.specs.declared.told.Told.{Told}
-use Rattle.told_lines.specs.declared.told.Told.TheVariants.{Wrote, Hard, Flushed, Async, Idle, Refused}
+use Rattle.told_lines.specs.declared.told.Told.TheVariants.{Wrote, Hard, Flushed, Async, Idle, Switched, Stayed, Refused}
 use Rattle.wal_core.specs.Views.{FlushPromise, View}
 use Rattle.wal_core.specs.Moves.{entry_reserved}
-use Rattle.wal_core.specs.PassLogs.{PassLog, log_of_view, log_with_entry, log_with_full, log_with_promise}
+use Rattle.wal_core.specs.PassLogs.{PassLog, log_of_view, log_with_entry, log_with_full, log_with_promise, log_with_stay}
 
 -- what a pass has between two lines: its log, the down values that it met and set, 0 for none, the
 -- highest async address that it met, and the byte position up to which it saw records reserved
@@ -65,6 +66,8 @@ TellsCause (Hard start end moment) before after = (after.met ≡ 0) × (after.se
 TellsCause (Flushed upto moment) before after = (after.met ≡ 0) × (after.set ≡ 0)
 TellsCause (Async start end) before after = (after.met ≡ 0) × (after.set ≡ 0)
 TellsCause (Idle upto) before after = (after.met ≡ 0) × (after.set ≡ 0)
+TellsCause (Switched start end) before after = (after.met ≡ 0) × (after.set ≡ 0)
+TellsCause (Stayed end) before after = (after.met ≡ 0) × (after.set ≡ 0)
 TellsCause (Refused (Full free) reserved) before after = (after.met ≡ 0) × (after.set ≡ 0)
 TellsCause (Refused (Disk faults) reserved) before after = after.set ≡ faults
 TellsCause (Refused (Down faults) reserved) before after =
@@ -88,6 +91,13 @@ module _ (size limit pass : ℕ) where
     pub free_is : free + at ≡ limit
     pub short : free < room_at size at value
     pub log_is : after ≡ log_with_full at before
+
+  -- the log stood at this address, a segment's start
+  pub record AddsStay (end : ℕ) (before after : PassLog) : Type 0 where
+    pub at : ℕ
+    pub end_is : end ≡ end_address_of size at
+    pub starts : end % size ≡ 0
+    pub log_is : after ≡ log_with_stay at before
 
   -- all below an address, no less than the one asked for, was promised from a moment on
   pub record AddsPromise (asked upto moment : ℕ) (before after : PassLog) : Type 0 where
@@ -146,6 +156,24 @@ module _ (size limit pass : ℕ) where
   RefusesRecordLine value (Down faults) (Some start) before after =
       FailsBehind value start.0 faults before after
 
+  -- the log was found full for a segment switch: some bytes were free, fewer than its own 24
+  pub record AddsFullForSwitch (free : ℕ) (before after : PassLog) : Type 0 where
+    pub full : AddsFull switch_record free before after
+    pub some : 1 ≤ free
+    pub few : free < 24
+
+  -- a segment switch is refused
+  abbrev pub RefusesSwitchLine : Cause → Option Lsn → PassState → PassState → Type 0
+  RefusesSwitchLine (Full free) None before after =
+      AddsFullForSwitch free before.log after.log
+  RefusesSwitchLine (Full free) (Some start) before after = ⊥
+  RefusesSwitchLine (Disk faults) None before after = ⊥
+  RefusesSwitchLine (Disk faults) (Some start) before after =
+      FailsBehind switch_record start.0 faults before after
+  RefusesSwitchLine (Down faults) None before after = FindsDown faults before after
+  RefusesSwitchLine (Down faults) (Some start) before after =
+      FailsBehind switch_record start.0 faults before after
+
   -- a flush is refused
   abbrev pub RefusesFlushLine : Cause → Option Lsn → PassState → PassState → Type 0
   RefusesFlushLine (Full free) reserved before after = ⊥
@@ -162,6 +190,8 @@ module _ (size limit pass : ℕ) where
   Leaves (Insert value) (Flushed upto moment) before after = ⊥
   Leaves (Insert value) (Async start end) before after = ⊥
   Leaves (Insert value) (Idle upto) before after = ⊥
+  Leaves (Insert value) (Switched start end) before after = ⊥
+  Leaves (Insert value) (Stayed end) before after = ⊥
   Leaves (Insert value) (Refused cause reserved) before after =
       RefusesRecordLine value cause reserved before after
   Leaves (Commit value) (Wrote start end) before after = ⊥
@@ -170,6 +200,8 @@ module _ (size limit pass : ℕ) where
   Leaves (Commit value) (Flushed upto moment) before after = ⊥
   Leaves (Commit value) (Async start end) before after = ⊥
   Leaves (Commit value) (Idle upto) before after = ⊥
+  Leaves (Commit value) (Switched start end) before after = ⊥
+  Leaves (Commit value) (Stayed end) before after = ⊥
   Leaves (Commit value) (Refused cause reserved) before after =
       RefusesRecordLine value cause reserved before after
   Leaves Flush (Wrote start end) before after = ⊥
@@ -178,6 +210,8 @@ module _ (size limit pass : ℕ) where
       AddsPromise (end_of_own size (before.log).entries) upto.0 moment before.log after.log
   Leaves Flush (Async start end) before after = ⊥
   Leaves Flush (Idle upto) before after = ⊥
+  Leaves Flush (Switched start end) before after = ⊥
+  Leaves Flush (Stayed end) before after = ⊥
   Leaves Flush (Refused cause reserved) before after = RefusesFlushLine cause reserved before after
   Leaves (CommitAsync value) (Wrote start end) before after = ⊥
   Leaves (CommitAsync value) (Hard start end moment) before after = ⊥
@@ -185,6 +219,8 @@ module _ (size limit pass : ℕ) where
   Leaves (CommitAsync value) (Async start end) before after =
       ReservesAhead value start.0 end.0 before after
   Leaves (CommitAsync value) (Idle upto) before after = ⊥
+  Leaves (CommitAsync value) (Switched start end) before after = ⊥
+  Leaves (CommitAsync value) (Stayed end) before after = ⊥
   Leaves (CommitAsync value) (Refused cause reserved) before after =
       RefusesRecordLine value cause reserved before after
   Leaves WriteBehind (Wrote start end) before after = ⊥
@@ -193,8 +229,20 @@ module _ (size limit pass : ℕ) where
       AddsBehind upto.0 moment before.log after.log
   Leaves WriteBehind (Async start end) before after = ⊥
   Leaves WriteBehind (Idle upto) before after = FindsIdle upto.0 before after
+  Leaves WriteBehind (Switched start end) before after = ⊥
+  Leaves WriteBehind (Stayed end) before after = ⊥
   Leaves WriteBehind (Refused cause reserved) before after =
       RefusesFlushLine cause reserved before after
+  Leaves Switch (Wrote start end) before after = ⊥
+  Leaves Switch (Hard start end moment) before after = ⊥
+  Leaves Switch (Flushed upto moment) before after = ⊥
+  Leaves Switch (Async start end) before after = ⊥
+  Leaves Switch (Idle upto) before after = ⊥
+  Leaves Switch (Switched start end) before after =
+      ReservesUpto switch_record start.0 end.0 before.log after.log
+  Leaves Switch (Stayed end) before after = AddsStay end.0 before.log after.log
+  Leaves Switch (Refused cause reserved) before after =
+      RefusesSwitchLine cause reserved before after
 
   -- the record asked for can be inserted; the async address that the pass met does not fall, nor
   -- what it saw reserved; and where the pass knew a fault, it is told again and nothing else

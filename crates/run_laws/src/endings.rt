@@ -32,7 +32,7 @@ pub fn full_logs_have_too_much_asked_of_them()
         (lists : List (List Told)) → HasTakenIn opening v script lists
         → SomeTold IsFullAnswer lists
         → capacity_of (opening.setup).segment_size (opening.setup).cap_segments
-        < all_rooms_asked script }
+        < all_rooms_asked (opening.setup).segment_size script }
 {}
 
 /// Where the disk did not fail, a promise to the first pass of all that the lines were told of is

@@ -13,6 +13,7 @@ fn letter(action: &Action) -> u8 {
         Action::Flush => b'F',
         Action::CommitAsync(_) => b'A',
         Action::WriteBehind => b'L',
+        Action::Switch(_) => b'W',
     }
 }
 
@@ -39,11 +40,25 @@ fn a_script_of_one_backend_is_read(rt: HostRuntime) -> Result<(), Fail> {
 
 #[test]
 fn the_script_of_a_run_is_read(rt: HostRuntime) -> Result<(), Fail> {
-    let backends = parse_run(rt.alloc(), b"C 1 0\nB\nC 2 0", None)?;
+    let backends = parse_run(rt.alloc(), b"C 1 0\nW\nB\nC 2 0", None)?;
     assert_eq!(rt; backends.len(), 2);
-    has_lines(&rt, &backends[0], &[(1, b'C')]);
-    has_lines(&rt, &backends[1], &[(3, b'C')]);
+    has_lines(&rt, &backends[0], &[(1, b'C'), (2, b'W')]);
+    has_lines(&rt, &backends[1], &[(4, b'C')]);
     Ok(())
+}
+
+#[test]
+fn a_segment_switch_has_no_field_and_is_of_runs_alone(rt: HostRuntime) {
+    let count = Err(ParseError::Refused(Refusal {
+        line: 2,
+        fault: ScriptFault::Count,
+    }));
+    assert!(rt; parse_run(rt.alloc(), b"W\nW 1", None).map(|_| ()) == count);
+    let word = Err(ParseError::Refused(Refusal {
+        line: 2,
+        fault: ScriptFault::Word,
+    }));
+    assert!(rt; parse_replay(rt.alloc(), b"F\nW").map(|_| ()) == word);
 }
 
 #[test]

@@ -2,7 +2,7 @@
 use Rattle.std.proofs.Common.{◌≡◌, ℕ, ◌+◌, ◌<◌, ◌≤◌, List, [], ◌∷◌, ◌++◌, length, get_or, take, Some, None, ap, ◌∙◌, arith}
 use Rattle.std.proofs.lemmas.List.{take_more}
 use Rattle.told_lines.specs.declared.told.Told.{Told}
-use Rattle.told_lines.specs.declared.told.Told.TheVariants.{Wrote, Hard, Flushed, Async, Idle, Refused}
+use Rattle.told_lines.specs.declared.told.Told.TheVariants.{Wrote, Hard, Flushed, Async, Idle, Switched, Stayed, Refused}
 use Rattle.told_lines.specs.Counts.{is_hard, commits_of, is_reserved, reserved_count}
 
 pub reserved_count_push : (told : List Told) (answer : Told) → reserved_count (told ++ answer ∷ []) ≡ reserved_count told + is_reserved answer
@@ -19,6 +19,8 @@ is_reserved-le (Hard start end moment) = omega arith
 is_reserved-le (Flushed upto moment) = omega arith
 is_reserved-le (Async start end) = omega arith
 is_reserved-le (Idle upto) = omega arith
+is_reserved-le (Switched start end) = omega arith
+is_reserved-le (Stayed end) = omega arith
 is_reserved-le (Refused cause None) = omega arith
 is_reserved-le (Refused cause (Some start)) = omega arith
 
@@ -28,6 +30,8 @@ is_hard-le (Hard start end moment) = omega arith
 is_hard-le (Flushed upto moment) = omega arith
 is_hard-le (Async start end) = omega arith
 is_hard-le (Idle upto) = omega arith
+is_hard-le (Switched start end) = omega arith
+is_hard-le (Stayed end) = omega arith
 is_hard-le (Refused cause reserved) = omega arith
 
 -- no more than there are answers

@@ -5,7 +5,7 @@ use Rattle.std.specs.List.{Any}
 use Rattle.std.specs.Option.{is_some}
 use Rattle.std.proofs.lemmas.List.{take_more}
 use Rattle.told_lines.specs.declared.told.Told.{Told}
-use Rattle.told_lines.specs.declared.told.Told.TheVariants.{Wrote, Hard, Flushed, Async, Idle, Refused}
+use Rattle.told_lines.specs.declared.told.Told.TheVariants.{Wrote, Hard, Flushed, Async, Idle, Switched, Stayed, Refused}
 use Rattle.told_lines.specs.Told.{SomeAnswer, SomeTold, reserved_by}
 use Rattle.told_lines.specs.Counts.{is_reserved, reserved_count, is_hard, commits_of}
 use Rattle.told_lines.proofs.AnswerCounts.{reserved_count-take, commits_of-take}
@@ -16,6 +16,8 @@ is_reserved-some (Hard start end moment) some = refl
 is_reserved-some (Flushed upto moment) some = absurd (let no : ⊥ = cc in no)
 is_reserved-some (Async start end) some = refl
 is_reserved-some (Idle upto) some = absurd (let no : ⊥ = cc in no)
+is_reserved-some (Switched start end) some = refl
+is_reserved-some (Stayed end) some = absurd (let no : ⊥ = cc in no)
 is_reserved-some (Refused cause None) some = absurd (let no : ⊥ = cc in no)
 is_reserved-some (Refused cause (Some start)) some = refl
 
@@ -25,6 +27,8 @@ is_reserved-none (Hard start end moment) none = absurd (let no : ⊥ = cc in no)
 is_reserved-none (Flushed upto moment) none = refl
 is_reserved-none (Async start end) none = absurd (let no : ⊥ = cc in no)
 is_reserved-none (Idle upto) none = refl
+is_reserved-none (Switched start end) none = absurd (let no : ⊥ = cc in no)
+is_reserved-none (Stayed end) none = refl
 is_reserved-none (Refused cause None) none = refl
 is_reserved-none (Refused cause (Some start)) none = absurd (let no : ⊥ = cc in no)
 

@@ -3,7 +3,7 @@
 use Rattle.std.specs.Prelude.{ℕ, ◌≤◌, List, [], ◌∷◌, max}
 use Rattle.wal_script.specs.Asked.{Asked, AskedLine, WriteBehind}
 use Rattle.told_lines.specs.declared.told.Told.{Told}
-use Rattle.told_lines.specs.declared.told.Told.TheVariants.{Wrote, Hard, Flushed, Async, Idle, Refused}
+use Rattle.told_lines.specs.declared.told.Told.TheVariants.{Wrote, Hard, Flushed, Async, Idle, Switched, Stayed, Refused}
 
 -- up to where an answer says that all is durable from a moment on; 0 where it does not
 abbrev pub hard_told : Told → ℕ
@@ -12,6 +12,8 @@ hard_told (Hard start end moment) = end.0
 hard_told (Flushed upto moment) = upto.0
 hard_told (Async start end) = 0
 hard_told (Idle upto) = 0
+hard_told (Switched start end) = 0
+hard_told (Stayed end) = 0
 hard_told (Refused cause reserved) = 0
 
 -- where a commit ends that is answered ahead; 0 where none is
@@ -21,10 +23,12 @@ ahead_told (Hard start end moment) = 0
 ahead_told (Flushed upto moment) = 0
 ahead_told (Async start end) = end.0
 ahead_told (Idle upto) = 0
+ahead_told (Switched start end) = 0
+ahead_told (Stayed end) = 0
 ahead_told (Refused cause reserved) = 0
 
--- a flush behind tells no less than a receipt or a flush told the backend before (`hard`), and one that
--- finds nothing to do no less than where its commits end that were answered ahead (`ahead`)
+-- a flush behind tells no less than a receipt or a flush told the backend before (`hard`), and one
+-- that finds nothing to do no less than where its commits end that were answered ahead (`ahead`)
 abbrev pub CatchesUp : (hard ahead : ℕ) → Asked → Told → Type 0
 CatchesUp hard ahead WriteBehind (Flushed upto moment) = hard ≤ upto.0
 CatchesUp hard ahead WriteBehind (Idle upto) = (hard ≤ upto.0) × (ahead ≤ upto.0)

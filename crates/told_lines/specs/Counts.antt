@@ -2,7 +2,7 @@
 use Rattle.std.specs.Prelude.{◌≡◌, ℕ, ◌+◌, ◌≤◌, List, [], ◌∷◌, Some, None}
 use Rattle.wal_types.specs.declared.answers.Cause.TheVariants.{Full, Disk, Down}
 use Rattle.told_lines.specs.declared.told.Told.{Told}
-use Rattle.told_lines.specs.declared.told.Told.TheVariants.{Wrote, Hard, Flushed, Async, Idle, Refused}
+use Rattle.told_lines.specs.declared.told.Told.TheVariants.{Wrote, Hard, Flushed, Async, Idle, Switched, Stayed, Refused}
 use Rattle.told_lines.specs.Told.{IsDownAnswer, SomeTold}
 
 -- how many answers say that a commit is durable
@@ -12,6 +12,8 @@ is_hard (Hard start end moment) = 1
 is_hard (Flushed upto moment) = 0
 is_hard (Async start end) = 0
 is_hard (Idle upto) = 0
+is_hard (Switched start end) = 0
+is_hard (Stayed end) = 0
 is_hard (Refused cause reserved) = 0
 
 abbrev pub commits_of : List Told → ℕ
@@ -29,6 +31,8 @@ is_reserved (Hard start end moment) = 1
 is_reserved (Flushed upto moment) = 0
 is_reserved (Async start end) = 1
 is_reserved (Idle upto) = 0
+is_reserved (Switched start end) = 1
+is_reserved (Stayed end) = 0
 is_reserved (Refused cause None) = 0
 is_reserved (Refused cause (Some start)) = 1
 
@@ -43,6 +47,8 @@ is_own_fault (Hard start end moment) = 0
 is_own_fault (Flushed upto moment) = 0
 is_own_fault (Async start end) = 0
 is_own_fault (Idle upto) = 0
+is_own_fault (Switched start end) = 0
+is_own_fault (Stayed end) = 0
 is_own_fault (Refused (Full free) reserved) = 0
 is_own_fault (Refused (Disk faults) reserved) = 1
 is_own_fault (Refused (Down faults) reserved) = 0

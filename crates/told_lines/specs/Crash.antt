@@ -18,20 +18,23 @@ use Rattle.written_log.specs.Torn.{NoTornPass}
 use Rattle.written_log.specs.Written.{found_from}
 use Rattle.wal_script.specs.Asked.{AskedLine}
 use Rattle.told_lines.specs.declared.told.Told.{Told}
-use Rattle.told_lines.specs.declared.told.Told.TheVariants.{Wrote, Hard, Flushed, Async, Idle, Refused}
+use Rattle.told_lines.specs.declared.told.Told.TheVariants.{Wrote, Hard, Flushed, Async, Idle, Switched, Stayed, Refused}
 use Rattle.told_lines.specs.Told.{entries_of}
 
 -- ---- what was told is there
 
 -- an answer says that by a moment all below an address is durable: a commit up to its record's end,
 -- a flush, one behind too, up to the address that it names; a commit that is answered ahead says
--- nothing of it, nor does a flush behind that found nothing to do: it names no moment
+-- nothing of it, and neither does a segment switch, nor a flush behind that found nothing to do: it
+-- names no moment
 abbrev pub SaysDurable : ℕ → ℕ → Told → Type 0
 SaysDurable moment address (Wrote start end) = ⊥
 SaysDurable moment address (Hard start end told) = (told ≤ moment) × (address ≤ end.0)
 SaysDurable moment address (Flushed upto told) = (told ≤ moment) × (address ≤ upto.0)
 SaysDurable moment address (Async start end) = ⊥
 SaysDurable moment address (Idle upto) = ⊥
+SaysDurable moment address (Switched start end) = ⊥
+SaysDurable moment address (Stayed end) = ⊥
 SaysDurable moment address (Refused cause reserved) = ⊥
 
 -- records that were found are a front of the order, each whole, and in it is each entry that a
@@ -63,6 +66,8 @@ moment_told (Hard start end moment) = Some moment
 moment_told (Flushed upto moment) = Some moment
 moment_told (Async start end) = None
 moment_told (Idle upto) = None
+moment_told (Switched start end) = None
+moment_told (Stayed end) = None
 moment_told (Refused cause reserved) = None
 
 -- a call of this kind to a segment writes no word of an entry: a page that it writes holds 0

@@ -1,9 +1,9 @@
 -- The moments that receipts name, as they follow each other. That what they promise survives each
 -- crash from then on, and that none is late, is said in specs/Crash.antt.
 use Rattle.std.specs.Prelude.{◌≡◌, ℕ, ◌<◌, ◌≤◌, Bool, true, false, List, [], ◌∷◌}
-use Rattle.wal_script.specs.Asked.{Asked, AskedLine, Insert, Commit, Flush, CommitAsync, WriteBehind}
+use Rattle.wal_script.specs.Asked.{Asked, AskedLine, Insert, Commit, Flush, CommitAsync, WriteBehind, Switch}
 use Rattle.told_lines.specs.declared.told.Told.{Told}
-use Rattle.told_lines.specs.declared.told.Told.TheVariants.{Wrote, Hard, Flushed, Async, Idle, Refused}
+use Rattle.told_lines.specs.declared.told.Told.TheVariants.{Wrote, Hard, Flushed, Async, Idle, Switched, Stayed, Refused}
 
 -- the moment told last (the opening's at first), and whether the backend has written nothing since
 pub record LastTold : Type 0 where
@@ -24,6 +24,7 @@ may_repeat (Commit value) is_latest = is_latest
 may_repeat Flush is_latest = is_latest
 may_repeat (CommitAsync value) is_latest = is_latest
 may_repeat WriteBehind is_latest = true
+may_repeat Switch is_latest = is_latest
 
 -- one line's answer, between what was told last before it and after it
 abbrev pub MomentStep : LastTold → Asked → Told → LastTold → Type 0
@@ -37,6 +38,9 @@ MomentStep before asked (Flushed upto moment) after =
 MomentStep before asked (Async start end) after =
     after ≡ record { moment = before.moment; is_latest = false }
 MomentStep before asked (Idle upto) after = after ≡ before
+MomentStep before asked (Switched start end) after =
+    after ≡ record { moment = before.moment; is_latest = false }
+MomentStep before asked (Stayed end) after = after ≡ before
 MomentStep before asked (Refused cause reserved) after = after ≡ before
 
 -- the answers of lines, in order

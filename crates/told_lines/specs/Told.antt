@@ -1,15 +1,16 @@
 -- What lines are told, and the order that it makes.
-use Rattle.std.specs.Prelude.{◌≡◌, ℕ, ◌+◌, ◌*◌, ◌/◌, ◌<◌, ◌≤◌, ◌⊎◌, All, List, [], ◌∷◌, ◌++◌, length, take, Option, Some, None, option_to_list, nat_le, if◌then◌else◌}
+use Rattle.std.specs.Prelude.{◌≡◌, ℕ, ◌+◌, ◌*◌, ◌/◌, ◌%◌, ◌<◌, ◌≤◌, ◌⊎◌, All, List, [], ◌∷◌, ◌++◌, length, take, Option, Some, None, option_to_list, nat_le, if◌then◌else◌}
 use Rattle.segment_disk.specs.Cause.{Rose}
 use Rattle.wal_types.specs.declared.lsn.Lsn.{Lsn}
 use Rattle.wal_types.specs.declared.record.Record.{Record}
+use Rattle.record_spelling.specs.Record.{switch_record}
 use Rattle.byte_position.specs.Position.{position_of, address_of, end_address_of, first_position}
 use Rattle.wal_page.specs.Order.{Entry, position_behind, rooms_of, end_position, room_at, room_behind}
 use Rattle.wal_script.specs.Asked.{AskedLine}
 use Rattle.wal_script.specs.Asked.{Asked}
-use Rattle.wal_script.specs.Asked.{Insert, Commit, Flush, CommitAsync, WriteBehind}
+use Rattle.wal_script.specs.Asked.{Insert, Commit, Flush, CommitAsync, WriteBehind, Switch}
 use Rattle.told_lines.specs.declared.told.Told.{Told}
-use Rattle.told_lines.specs.declared.told.Told.TheVariants.{Wrote, Hard, Flushed, Async, Idle, Refused}
+use Rattle.told_lines.specs.declared.told.Told.TheVariants.{Wrote, Hard, Flushed, Async, Idle, Switched, Stayed, Refused}
 use Rattle.wal_types.specs.declared.answers.Cause.{Cause}
 use Rattle.wal_types.specs.declared.answers.Cause.TheVariants.{Full, Disk, Down}
 
@@ -20,6 +21,8 @@ reserved_by (Hard start end moment) = Some start
 reserved_by (Flushed upto moment) = None
 reserved_by (Async start end) = Some start
 reserved_by (Idle upto) = None
+reserved_by (Switched start end) = Some start
+reserved_by (Stayed end) = None
 reserved_by (Refused cause reserved) = reserved
 
 -- the entry that a line made, where it reserved one; `size` is that of a segment
@@ -34,6 +37,7 @@ entry_of size pass (Commit value) told = entry_at size pass value (reserved_by t
 entry_of size pass Flush told = None
 entry_of size pass (CommitAsync value) told = entry_at size pass value (reserved_by told)
 entry_of size pass WriteBehind told = None
+entry_of size pass Switch told = entry_at size pass switch_record (reserved_by told)
 
 -- a backend's entries, in the order of its lines
 abbrev pub entries_of : ℕ → ℕ → List AskedLine → List Told → List Entry
@@ -113,6 +117,23 @@ MayRefuseRecord logged pass behind value (Down faults) None = IsFault logged fau
 MayRefuseRecord logged pass behind value (Down faults) (Some start) =
     IsFault logged faults × (start.0 ≡ address_of logged.size (position_of logged.size start.0))
 
+-- the log stood at this address, a segment's start, behind some front of the order, which has the
+-- backend's earlier entries and none of its later ones
+pub record MayStay (logged : Logged) (pass behind end : ℕ) : Type 0 where
+  pub front : ℕ
+  pub within : front ≤ length logged.order
+  pub earlier : behind ≤ end_position logged.size (take front logged.order)
+  pub no_later : All (λ e. e.pass ≡ Some pass → e.start < behind) (take front logged.order)
+  pub end_is : end ≡ end_address_of logged.size (end_position logged.size (take front logged.order))
+  pub at_start : end % logged.size ≡ 0
+
+-- a log that is full for a segment switch has some bytes left, and fewer than the record's own 24:
+-- with more the switch would end the segment, with none there is nothing to end
+abbrev pub LeavesFew : Cause → Type 0
+LeavesFew (Full free) = (1 ≤ free) × (free < 24)
+LeavesFew (Disk faults) = Unit {0}
+LeavesFew (Down faults) = Unit {0}
+
 -- why a flush may be refused: it reserves nothing, and needs no room
 abbrev pub MayRefuseFlush : Logged → Cause → Option Lsn → Type 0
 MayRefuseFlush logged (Full free) reserved = ⊥
@@ -128,7 +149,8 @@ pub record ReachesPage (logged : Logged) (behind upto : ℕ) : Type 0 where
 -- what a line of a pass may be told, where its backend's earlier entries end at byte position
 -- `behind`: an insert that its record is written, a commit that it is durable, a flush that all is
 -- up to there at least and no further than the log goes; a commit that is answered ahead that its
--- record is written, a flush behind that all is durable up to some address, or that it was already
+-- record is written, a flush behind that all is durable up to some address, or that it was already;
+-- a segment switch that its record is written, or that the log stood at a segment's start
 abbrev pub FitsLine : Logged → (pass behind : ℕ) → Asked → Told → Type 0
 FitsLine logged pass behind (Insert value) (Wrote start end) =
     IsPlaced logged.size value start.0 end.0
@@ -136,6 +158,8 @@ FitsLine logged pass behind (Insert value) (Hard start end moment) = ⊥
 FitsLine logged pass behind (Insert value) (Flushed upto moment) = ⊥
 FitsLine logged pass behind (Insert value) (Async start end) = ⊥
 FitsLine logged pass behind (Insert value) (Idle upto) = ⊥
+FitsLine logged pass behind (Insert value) (Switched start end) = ⊥
+FitsLine logged pass behind (Insert value) (Stayed end) = ⊥
 FitsLine logged pass behind (Insert value) (Refused cause reserved) =
     MayRefuseRecord logged pass behind value cause reserved
 FitsLine logged pass behind (Commit value) (Wrote start end) = ⊥
@@ -144,6 +168,8 @@ FitsLine logged pass behind (Commit value) (Hard start end moment) =
 FitsLine logged pass behind (Commit value) (Flushed upto moment) = ⊥
 FitsLine logged pass behind (Commit value) (Async start end) = ⊥
 FitsLine logged pass behind (Commit value) (Idle upto) = ⊥
+FitsLine logged pass behind (Commit value) (Switched start end) = ⊥
+FitsLine logged pass behind (Commit value) (Stayed end) = ⊥
 FitsLine logged pass behind (Commit value) (Refused cause reserved) =
     MayRefuseRecord logged pass behind value cause reserved
 FitsLine logged pass behind Flush (Wrote start end) = ⊥
@@ -153,6 +179,8 @@ FitsLine logged pass behind Flush (Flushed upto moment) =
     × (upto.0 ≤ end_address_of logged.size (end_position logged.size logged.order))
 FitsLine logged pass behind Flush (Async start end) = ⊥
 FitsLine logged pass behind Flush (Idle upto) = ⊥
+FitsLine logged pass behind Flush (Switched start end) = ⊥
+FitsLine logged pass behind Flush (Stayed end) = ⊥
 FitsLine logged pass behind Flush (Refused cause reserved) = MayRefuseFlush logged cause reserved
 FitsLine logged pass behind (CommitAsync value) (Wrote start end) = ⊥
 FitsLine logged pass behind (CommitAsync value) (Hard start end moment) = ⊥
@@ -160,6 +188,8 @@ FitsLine logged pass behind (CommitAsync value) (Flushed upto moment) = ⊥
 FitsLine logged pass behind (CommitAsync value) (Async start end) =
     IsPlaced logged.size value start.0 end.0
 FitsLine logged pass behind (CommitAsync value) (Idle upto) = ⊥
+FitsLine logged pass behind (CommitAsync value) (Switched start end) = ⊥
+FitsLine logged pass behind (CommitAsync value) (Stayed end) = ⊥
 FitsLine logged pass behind (CommitAsync value) (Refused cause reserved) =
     MayRefuseRecord logged pass behind value cause reserved
 FitsLine logged pass behind WriteBehind (Wrote start end) = ⊥
@@ -167,8 +197,20 @@ FitsLine logged pass behind WriteBehind (Hard start end moment) = ⊥
 FitsLine logged pass behind WriteBehind (Flushed upto moment) = ReachesPage logged behind upto.0
 FitsLine logged pass behind WriteBehind (Async start end) = ⊥
 FitsLine logged pass behind WriteBehind (Idle upto) = ReachesPage logged behind upto.0
+FitsLine logged pass behind WriteBehind (Switched start end) = ⊥
+FitsLine logged pass behind WriteBehind (Stayed end) = ⊥
 FitsLine logged pass behind WriteBehind (Refused cause reserved) =
     MayRefuseFlush logged cause reserved
+FitsLine logged pass behind Switch (Wrote start end) = ⊥
+FitsLine logged pass behind Switch (Hard start end moment) = ⊥
+FitsLine logged pass behind Switch (Flushed upto moment) = ⊥
+FitsLine logged pass behind Switch (Async start end) = ⊥
+FitsLine logged pass behind Switch (Idle upto) = ⊥
+FitsLine logged pass behind Switch (Switched start end) =
+    IsPlaced logged.size switch_record start.0 end.0
+FitsLine logged pass behind Switch (Stayed end) = MayStay logged pass behind end.0
+FitsLine logged pass behind Switch (Refused cause reserved) =
+    MayRefuseRecord logged pass behind switch_record cause reserved × LeavesFew cause
 
 -- the byte position at which a backend's entries end after one more line
 abbrev pub behind_or : ℕ → ℕ → Option Entry → ℕ
@@ -209,6 +251,8 @@ IsFullAnswer (Hard start end moment) = ⊥
 IsFullAnswer (Flushed upto moment) = ⊥
 IsFullAnswer (Async start end) = ⊥
 IsFullAnswer (Idle upto) = ⊥
+IsFullAnswer (Switched start end) = ⊥
+IsFullAnswer (Stayed end) = ⊥
 IsFullAnswer (Refused (Full free) reserved) = Unit {0}
 IsFullAnswer (Refused (Disk faults) reserved) = ⊥
 IsFullAnswer (Refused (Down faults) reserved) = ⊥
@@ -219,6 +263,8 @@ IsDownAnswer (Hard start end moment) = ⊥
 IsDownAnswer (Flushed upto moment) = ⊥
 IsDownAnswer (Async start end) = ⊥
 IsDownAnswer (Idle upto) = ⊥
+IsDownAnswer (Switched start end) = ⊥
+IsDownAnswer (Stayed end) = ⊥
 IsDownAnswer (Refused (Full free) reserved) = ⊥
 IsDownAnswer (Refused (Disk faults) reserved) = ⊥
 IsDownAnswer (Refused (Down faults) reserved) = Unit {0}
@@ -229,6 +275,8 @@ IsRefused (Hard start end moment) = ⊥
 IsRefused (Flushed upto moment) = ⊥
 IsRefused (Async start end) = ⊥
 IsRefused (Idle upto) = ⊥
+IsRefused (Switched start end) = ⊥
+IsRefused (Stayed end) = ⊥
 IsRefused (Refused cause reserved) = Unit {0}
 
 -- the fact holds of some answer of some backend
@@ -253,6 +301,8 @@ StaysDown (Hard start end moment ∷ others) = StaysDown others
 StaysDown (Flushed upto moment ∷ others) = StaysDown others
 StaysDown (Async start end ∷ others) = StaysDown others
 StaysDown (Idle upto ∷ others) = StaysDown others
+StaysDown (Switched start end ∷ others) = StaysDown others
+StaysDown (Stayed end ∷ others) = StaysDown others
 StaysDown (Refused (Full free) reserved ∷ others) = StaysDown others
 StaysDown (Refused (Disk faults) reserved ∷ others) = AllDown faults others
 StaysDown (Refused (Down faults) reserved ∷ others) = AllDown faults others

@@ -18,6 +18,10 @@ pub enum Told {
     Async { start: Lsn, end: Lsn },
     /// A flush behind found nothing to flush: all below an address was durable already.
     Idle { upto: Lsn },
+    /// A segment switch was written: the segment ends here. It may not be durable.
+    Switched { start: Lsn, end: Lsn },
+    /// A segment switch had nothing to do: the log stood at a segment's start, here.
+    Stayed { end: Lsn },
     /// Nothing is told to be durable; where a record was reserved all the same, its start.
     Refused { cause: Cause, reserved: Option<Lsn> },
 }
@@ -63,7 +67,8 @@ impl Told {
         }
     }
 
-    fn of_refusal(refused: Refused) -> Told
+    /// The same of what was refused.
+    pub fn of_refusal(refused: Refused) -> Told
         ensures { result ≡ Told.Refused refused.cause refused.reserved }
     {
         Told::Refused {
@@ -77,10 +82,11 @@ impl Told {
         ensures { result ≡ reserved_by self.now }
     {
         match self {
-            Told::Wrote { start, .. } | Told::Hard { start, .. } | Told::Async { start, .. } => {
-                Some(*start)
-            }
-            Told::Flushed { .. } | Told::Idle { .. } => None,
+            Told::Wrote { start, .. }
+            | Told::Hard { start, .. }
+            | Told::Async { start, .. }
+            | Told::Switched { start, .. } => Some(*start),
+            Told::Flushed { .. } | Told::Idle { .. } | Told::Stayed { .. } => None,
             Told::Refused { reserved, .. } => *reserved,
         }
     }
@@ -95,6 +101,8 @@ impl Told {
             | Told::Flushed { .. }
             | Told::Async { .. }
             | Told::Idle { .. }
+            | Told::Switched { .. }
+            | Told::Stayed { .. }
             | Told::Refused { .. } => false,
         }
     }
@@ -112,7 +120,9 @@ impl Told {
             | Told::Hard { .. }
             | Told::Flushed { .. }
             | Told::Async { .. }
-            | Told::Idle { .. } => false,
+            | Told::Idle { .. }
+            | Told::Switched { .. }
+            | Told::Stayed { .. } => false,
         }
     }
 }

@@ -3,11 +3,13 @@
 -- WALInsertLockUpdateInsertingAt; WALBufMappingLock and WALWriteLock). A lock or a turn is taken by
 -- one exchange of a word that is 0, and only its holder stores into the word: so none has two
 -- holders. A lock's word may tell less than is copied, and never more, and of a holder that has no
--- record yet an address that its record will not begin below: on that a watcher rests. The
--- writer is at home, or in the hand of the one that has the turn to write.
-use Rattle.std.specs.Prelude.{◌≡◌, ◌≢◌, ℕ, ◌+◌, ◌<◌, ◌≤◌, List, Contains, if◌then◌else◌}
+-- record yet an address that its record will not begin below: on that a watcher rests. A segment
+-- switch is copied under all eight, so no other record comes in flight beside it. The writer is at
+-- home, or in the hand of the one that has the turn to write.
+use Rattle.std.specs.Prelude.{◌≡◌, ◌≢◌, ℕ, ◌+◌, ◌<◌, ◌≤◌, IsTrue, List, Contains, if◌then◌else◌}
 use mathlib.Core.Option.{Option, none, some}
-use Rattle.wal_page.specs.EntryWords.{address_of_word}
+use Rattle.record_spelling.specs.Record.{is_switch}
+use Rattle.wal_page.specs.EntryWords.{address_of_word, words_owned}
 use Rattle.wal_core.specs.Views.{HasAt, Copy, Flight, Landed, Copying, Working, is_among, AreSomeOf, Stage, Away, Taken, Looked, Ready, Zeroing, Published, Plain, Hold, Idle, Turned, Out}
 
 -- ---- the insertion locks
@@ -36,6 +38,15 @@ abbrev pub ProgressHolds : (size end : ℕ) → (ℕ → ℕ) → List Working �
 ProgressHolds size end lock parts =
     (id i : ℕ) (w : Working) → HasAt parts id w → Contains w.locks i
     → lock i ≤ most_told size end i w.flight
+
+-- a segment switch of which a word is still to be copied stands under all eight locks
+abbrev pub StandsAlone : (size : ℕ) → Flight → Type 0
+StandsAlone size flight = (c : Copy) → flight ≡ Copying c → IsTrue (is_switch (c.entry).value)
+    → c.copied < words_owned size c.entry → (lock : ℕ) → lock < 8 → Contains c.locks lock
+
+abbrev pub SwitchesStandAlone : (size : ℕ) → List Working → Type 0
+SwitchesStandAlone size parts = (id : ℕ) (w : Working) → HasAt parts id w
+    → StandsAlone size w.flight
 
 -- ---- the turn to map a page
 

@@ -34,6 +34,10 @@ with_confirmed end v =
 abbrev pub with_stage : Stage → View → View
 with_stage stage v = record v { mapping = record v.mapping { stage = stage } }
 
+-- this is told last, under these locks
+abbrev pub with_told : ℕ → List ℕ → View → View
+with_told upto under v = record v { told = upto; told_under = under }
+
 abbrev pub with_writing : Writing → View → View
 with_writing x v = record v { writing = x }
 
@@ -114,6 +118,7 @@ fresh_view opening number spare spare_end seen = record {
   mapping = record { confirmed = 0; stage = Away };
   writing = no_writing;
   told = 0;
+  told_under = [];
   async_met = 0;
 }
 
@@ -280,8 +285,11 @@ abbrev pub after_take_lock : ℕ → ℕ → View → View
 after_take_lock lock met v =
     if met == 0 then with_working ((v.working).locks ++ lock ∷ []) (v.working).flight v else v
 
-abbrev pub after_advance : ℕ → View → View
-after_advance upto v = record v { told = upto }
+-- what is told again, under one more lock, is told under those before too; what is new, under this
+-- one alone
+abbrev pub after_advance : (lock upto : ℕ) → View → View
+after_advance lock upto v =
+    with_told upto ((if v.told == upto then v.told_under else []) ++ lock ∷ []) v
 
 abbrev pub without_lock : ℕ → List ℕ → List ℕ
 without_lock lock locks = filter (λ one. not (one == lock)) locks

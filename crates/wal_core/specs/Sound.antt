@@ -11,7 +11,7 @@ use Rattle.wal_core.specs.declared.setup.Setup.{Setup}
 use Rattle.wal_core.specs.Words.{Opening, position_word, prev_word, lock_word, mapping_turn, write_turn, initialised_word, written_word, flushed_word, moment_word, down_word, end_word, word_of_ring, word_count, async_word, end_form}
 use Rattle.wal_core.specs.Views.{HasAt, Landed, Away, Idle, Plain, View, Stage, reserving_of, working_of, flight_of, watching_of, mapper_of, confirmed_of, writer_of, writing_of, receipts_of, async_met_of}
 use Rattle.wal_core.specs.Ordered.{OrderHolds}
-use Rattle.wal_core.specs.Locked.{LocksHold, ProgressHolds}
+use Rattle.wal_core.specs.Locked.{LocksHold, ProgressHolds, SwitchesStandAlone}
 use Rattle.wal_core.specs.Ringed.{RingHolds}
 use Rattle.wal_core.specs.Paged.{PagesHold}
 use Rattle.wal_core.specs.Watched.{WatchHolds}
@@ -72,6 +72,8 @@ pub record IsSound (first : DiskState) (opening : Opening) (words : List ℕ) (h
   pub progress : ProgressHolds opening.setup.segment_size
       (end_form opening.setup (end_position opening.setup.segment_size order))
       (lock_word words) (map working_of views)
+  -- a segment switch in flight stands under all eight locks, until its last word is copied
+  pub alone : SwitchesStandAlone opening.setup.segment_size (map working_of views)
   -- each word in memory is the log's, or 0 and still to be copied
   pub ring : RingHolds opening.setup order reach memory (map flight_of views)
   -- the buffers hold a window of pages with these words; what was given up is written

@@ -399,7 +399,7 @@ module _ (v : View) where
   view_behind stay met home = after_stop AtSegmentStart v
   view_behind (load_lock lock limit) met home = after_load_lock lock limit met v
   view_behind (take_lock lock) met home = after_take_lock lock met v
-  view_behind (advance lock upto) met home = after_advance upto v
+  view_behind (advance lock upto) met home = after_advance lock upto v
   view_behind (release lock) met home = after_release lock v
   view_behind (load_buffer_end buffer) met home = with_confirmed met v
   view_behind store_ring_word met home = after_store_word v

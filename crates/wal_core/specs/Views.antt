@@ -163,10 +163,10 @@ pub record Writing : Type 0 where
 
 -- ---- the whole
 
--- beside the parts, what the pass told last of a lock that it holds (no other step changes it), and
--- the highest async address that it met or stored: up to there its own entries count as those of
--- commits that were told ahead of the disk, those of plain inserts too, since they then lie before
--- such a commit
+-- beside the parts, what the pass told last of a lock that it holds, and under which locks it told
+-- just that (no other step changes either), and the highest async address that it met or stored: up
+-- to there its own entries count as those of commits that were told ahead of the disk, those of
+-- plain inserts too, since they then lie before such a commit
 pub record View : Type 0 where
   pub opening : Opening
   pub reserving : Reserving
@@ -175,6 +175,7 @@ pub record View : Type 0 where
   pub mapping : Mapping
   pub writing : Writing
   pub told : ℕ
+  pub told_under : List ℕ
   pub async_met : ℕ
 
 abbrev pub reserving_of : View → Reserving

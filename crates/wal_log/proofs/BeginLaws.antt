@@ -11,7 +11,7 @@ use Rattle.wal_core.specs.declared.setup.Setup.{Setup}
 use Rattle.wal_core.specs.Moves.{entry_reserved, unlocked}
 use Rattle.wal_core.specs.Steps.{load_down, IsResting, view_behind}
 use Rattle.wal_rule.specs.Downs.{KnowsDown}
-use Rattle.wal_core.specs.Views.{Copy, Copying, Flight, View, Working}
+use Rattle.wal_core.specs.Views.{Copy, Copying, Flight, LogFull, StopCause, View, Working}
 use Rattle.wal_rule.specs.declared.seated.SeatedPass.{SeatedPass}
 use Rattle.wal_rule.specs.SeatedPasses.{HasView, StandsAtRest, Steps, view_of}
 use Rattle.insert_locks.proofs.Runs.{one_lock}
@@ -19,12 +19,12 @@ use Rattle.reserve_lock.specs.declared.reserving.ReserveErr.{ReserveErr}
 use Rattle.reserve_lock.specs.declared.reserving.ReserveErr.TheVariants.{Busy, Full}
 use Rattle.insert_locks.specs.Taking.{with_lock}
 use Rattle.insert_locks.specs.Watching.{with_sight}
-use Rattle.reserve_lock.specs.Reserved.{IsInsertReserved, IsPlaceReserved, IsPositionBusy, TellsWhy, full_view, placed_first, reserved_view, seen_view}
+use Rattle.reserve_lock.specs.Reserved.{IsInsertReserved, IsLogFull, IsPlaceReserved, IsPositionBusy, TellsWhy, placed_first, reserved_view, seen_view, stopped_view}
 use Rattle.word_ring.specs.Copied.{rest_of}
 use Rattle.wal_log.specs.declared.beginning.Begun.{Begun}
 use Rattle.wal_log.specs.declared.beginning.TryErr.{TryErr}
 use Rattle.wal_log.specs.declared.beginning.TryErr.TheVariants as tries
-use Rattle.wal_log.specs.Beginning.{AnswersBeginTry, IsFoundBusy, IsPlaceBegun, TellsBeginTry, TriesInVain, try_err_of_reserve}
+use Rattle.wal_log.specs.Beginning.{AnswersBeginTry, IsBegunUnder, IsFoundBusy, IsPlaceBegun, TellsBeginTry, TriesInVain, try_err_of_reserve}
 use Rattle.wal_log.specs.Downs.{KnowsNoFault}
 use Rattle.wal_log.specs.Inserting.{FindsLogFull, HasReserved}
 use Rattle.wal_log.specs.PassLogs.{log_of_pass, log_with_entry, log_with_full}
@@ -60,55 +60,55 @@ module _ (setup : Setup) (body : Assembled) (old new : View) (locks : List ℕ) 
     down = λ faults knows. subst (KnowsDown faults) (sym new_is) knows;
   }
 
--- and begins to be copied, under just this lock
-pub begun_is : (setup : Setup) (body : Assembled) (old new : View) (lock : ℕ) (start end : Lsn)
-    (placed : PlacedState) → IsInsertReserved setup body lock old new start.0 placed
-    → end.0 ≡ placed_end placed → lock < 8 → HasLocks (lock ∷ []) old → KnowsNoFault old
-    → IsPlaceBegun setup body old new
-    (record { lock = lock; start = start; end = end; placed = placed })
-begun_is setup body old new lock start end placed insert end_is low one up = record {
-  entry = e;
-  reserved = record {
-    own = record {
-      value = (r.reserved).value;
-      writable = insert.writable;
-      of_body = (r.reserved).of_body;
-      at = r.at;
-      entry_is = refl;
-      behind_seen = r.behind_seen;
-      within = r.within;
+-- and begins to be copied, under just these locks; its entry is this one
+pub begun_under : (setup : Setup) (body : Assembled) (locks : List ℕ) (old new : View)
+    (start end : ℕ) (placed : PlacedState)
+    → (r : IsPlaceReserved setup body locks old new start placed) → end ≡ placed_end placed
+    → HasLocks locks old → KnowsNoFault old
+    → (b : IsBegunUnder setup body locks old new start end placed)
+    × (b.entry ≡ entry_reserved (old.reserving).number r.at (r.reserved).value)
+begun_under setup body locks old new start end placed r end_is holds up = (
+  record {
+    entry = e;
+    reserved = record {
+      own = record {
+        value = (r.reserved).value;
+        logged = (r.reserved).logged;
+        of_body = (r.reserved).of_body;
+        at = r.at;
+        entry_is = refl;
+        behind_seen = r.behind_seen;
+        within = r.within;
+      };
+      log_is = ap (λ (v : View). log_of_pass v) is;
+      seen = (let same = ap (λ (v : View). (v.reserving).seen) is in omega (arith, same));
     };
-    log_is = ap (λ (v : View). log_of_pass v) is;
-    seen = (let same = ap (λ (v : View). (v.reserving).seen) is in omega (arith, same));
-  };
-  up = subst KnowsNoFault (sym is) (record { met = up.met; set = up.set });
-  lock_low = low;
-  copies = subst (λ (v : View). CopiesUnder setup (lock ∷ []) placed v) (sym is) (record {
-    copy = c;
-    working = ap (λ (w : Working). record w { flight = Copying c }) one.working;
-    under = refl;
-    rest = placed_so;
-    place = refl;
-    stage = one.stage;
-    hold = one.hold;
-  });
-  in_flight = ap (λ (v : View). entry_in_flight v) is;
-  prev = r.prev;
-  placed_is = r.placed_is;
-  start_is = r.start_is;
-  end_is = end_is;
-}
+    up = subst KnowsNoFault (sym is) (record { met = up.met; set = up.set });
+    copies = subst (λ (v : View). CopiesUnder setup locks placed v) (sym is) (record {
+      copy = c;
+      working = ap (λ (w : Working). record w { flight = Copying c }) holds.working;
+      under = refl;
+      rest = placed_so;
+      place = refl;
+      stage = holds.stage;
+      hold = holds.hold;
+    });
+    in_flight = ap (λ (v : View). entry_in_flight v) is;
+    prev = r.prev;
+    placed_is = r.placed_is;
+    start_is = r.start_is;
+    end_is = end_is;
+  },
+  refl,
+)
   where
-    r : IsPlaceReserved setup body (lock ∷ []) old new start.0 placed
-    r = insert.place
-
     e : Entry
     e = entry_reserved (old.reserving).number r.at (r.reserved).value
 
     c : Copy
-    c = record { entry = e; prev = r.prev; locks = lock ∷ []; copied = 0 }
+    c = record { entry = e; prev = r.prev; locks = locks; copied = 0 }
 
-    is : new ≡ reserved_view setup.segment_size e r.prev (lock ∷ []) old
+    is : new ≡ reserved_view setup.segment_size e r.prev locks old
     is = (r.reserved).new_is
 
     own : PlacedState
@@ -122,7 +122,32 @@ begun_is setup body old new lock start end placed insert end_is low one up = rec
         ∙ ap (λ (a : Assembled). placed_first setup a r.at r.prev) (sym (r.reserved).of_body)
         ∙ ap (λ (n : ℕ). record own { next = n }) first_word
 
+-- so an insert does, under one lock
+pub begun_is : (setup : Setup) (body : Assembled) (old new : View) (lock : ℕ) (start end : Lsn)
+    (placed : PlacedState) → IsInsertReserved setup body lock old new start.0 placed
+    → end.0 ≡ placed_end placed → lock < 8 → HasLocks (lock ∷ []) old → KnowsNoFault old
+    → IsPlaceBegun setup body old new
+    (record { lock = lock; start = start; end = end; placed = placed })
+begun_is setup body old new lock start end placed insert end_is low one up = record {
+  lock_low = low;
+  place = (begun_under setup body (lock ∷ []) old new start.0 end.0 placed insert.place end_is one
+      up).0;
+}
+
 -- ---- it was not: the lock is given back
+
+-- that the log was found full is so still then
+pub full_rests : (setup : Setup) (body : Assembled) (free : ℕ) (old v : View)
+    → FindsLogFull setup body free old v → FindsLogFull setup body free old (rested v)
+full_rests setup body free old v f = record {
+  at = f.at;
+  behind_seen = f.behind_seen;
+  within = f.within;
+  free_is = f.free_is;
+  short = f.short;
+  seen = f.seen;
+  log_is = f.log_is;
+}
 
 module _ (v : View) where
   seen_keeps : (n : ℕ) → KeepsPass v (seen_view n v)
@@ -138,8 +163,9 @@ module _ (v : View) where
     down = λ faults knows. knows;
   }
 
-  full_keeps : (at : ℕ) → KeepsPass v (full_view at (seen_view at v))
-  full_keeps at = record {
+  pub stopped_keeps : (cause : StopCause) (at : ℕ)
+      → KeepsPass v (stopped_view cause at (seen_view at v))
+  stopped_keeps cause at = record {
     opening = refl;
     live = refl;
     number = refl;
@@ -151,11 +177,25 @@ module _ (v : View) where
     down = λ faults knows. knows;
   }
 
+  pub stopped_holds : (cause : StopCause) (at : ℕ) (locks : List ℕ) → HasLocks locks v
+      → HasLocks locks (stopped_view cause at (seen_view at v))
+  stopped_holds cause at locks holds = record {
+    working = holds.working;
+    place = refl;
+    stage = holds.stage;
+    hold = holds.hold;
+  }
+
+  pub stopped_up : (cause : StopCause) (at : ℕ) → KnowsNoFault v
+      → KnowsNoFault (stopped_view cause at (seen_view at v))
+  stopped_up cause at up = record { met = up.met; set = up.set }
+
 module _ (setup : Setup) (body : Assembled) (old between : View) where
-  keeps_in_vain : (e : ReserveErr) → TellsWhy setup body old between e → KeepsPass old between
+  pub keeps_in_vain : (e : ReserveErr) → TellsWhy setup body old between e → KeepsPass old between
   keeps_in_vain (Busy seen) why =
       subst (KeepsPass old) (sym why.new_is) (seen_keeps old (unlocked why.loaded))
-  keeps_in_vain (Full free) why = subst (KeepsPass old) (sym why.new_is) (full_keeps old why.at)
+  keeps_in_vain (Full free) why = subst (KeepsPass old) (sym why.new_is)
+      (stopped_keeps old LogFull why.at)
 
   pub holds_in_vain : (locks : List ℕ) → HasLocks locks old → (e : ReserveErr)
       → TellsWhy setup body old between e → HasLocks locks between
@@ -165,28 +205,35 @@ module _ (setup : Setup) (body : Assembled) (old between : View) where
     stage = holds.stage;
     hold = holds.hold;
   })
-  holds_in_vain locks holds (Full free) why = subst (HasLocks locks) (sym why.new_is) (record {
-    working = holds.working;
-    place = refl;
-    stage = holds.stage;
-    hold = holds.hold;
-  })
+  holds_in_vain locks holds (Full free) why = subst (HasLocks locks) (sym why.new_is)
+      (stopped_holds old LogFull why.at locks holds)
 
-  up_in_vain : KnowsNoFault old → (e : ReserveErr) → TellsWhy setup body old between e
+  pub up_in_vain : KnowsNoFault old → (e : ReserveErr) → TellsWhy setup body old between e
       → KnowsNoFault between
   up_in_vain up (Busy seen) why = subst KnowsNoFault (sym why.new_is) (record {
     met = up.met;
     set = up.set;
   })
-  up_in_vain up (Full free) why = subst KnowsNoFault (sym why.new_is) (record {
-    met = up.met;
-    set = up.set;
-  })
+  up_in_vain up (Full free) why = subst KnowsNoFault (sym why.new_is)
+      (stopped_up old LogFull why.at up)
 
-  seen_in_vain : (at : ℕ) → between ≡ full_view at (seen_view at old)
+  pub seen_in_vain : (cause : StopCause) (at : ℕ) → between ≡ stopped_view cause at (seen_view at old)
       → at ≤ (between.reserving).seen
-  seen_in_vain at is = subst (λ (v : View). at ≤ (v.reserving).seen) (sym is)
+  seen_in_vain cause at is = subst (λ (v : View). at ≤ (v.reserving).seen) (sym is)
       (le-max_right (old.reserving).seen at)
+
+  -- the log was found full
+  pub full_in_vain : (free : ℕ) → IsLogFull setup body free old between
+      → FindsLogFull setup body free old between
+  full_in_vain free why = record {
+    at = why.at;
+    behind_seen = why.behind_seen;
+    within = why.within;
+    free_is = why.free_is;
+    short = why.short;
+    seen = seen_in_vain LogFull why.at why.new_is;
+    log_is = ap (λ (v : View). log_of_pass v) why.new_is;
+  }
 
   -- the position was met by the pass as it is behind the lock's release, but for the lock, and that
   -- it had seen what it had before
@@ -215,16 +262,11 @@ module _ (setup : Setup) (body : Assembled) (old between : View) where
       )
   tells_in_vain lock holds up (Full free) why =
       let still = up_in_vain up (Full free) why in (
+        full_rests setup body free old between (full_in_vain free why),
         record {
-          at = why.at;
-          behind_seen = why.behind_seen;
-          within = why.within;
-          free_is = why.free_is;
-          short = why.short;
-          seen = seen_in_vain why.at why.new_is;
-          log_is = ap (λ (v : View). log_of_pass v) why.new_is;
+          met = still.met;
+          set = still.set;
         },
-        record { met = still.met; set = still.set },
       )
 
   module _ (lock : ℕ) (holds : HasLocks (lock ∷ []) old) (e : ReserveErr)
@@ -257,7 +299,7 @@ module _ (setup : Setup) (body : Assembled) (old between new : View)
   reserved_since e r = record {
     own = record {
       value = (r.own).value;
-      writable = (r.own).writable;
+      logged = (r.own).logged;
       of_body = (r.own).of_body;
       at = (r.own).at;
       entry_is = (r.own).entry_is
@@ -269,19 +311,30 @@ module _ (setup : Setup) (body : Assembled) (old between new : View)
     seen = r.seen;
   }
 
-  pub begun_since : (begun : Begun) → IsPlaceBegun setup body between new begun
+  pub begun_since : (locks : List ℕ) (start end : ℕ) (placed : PlacedState)
+      → (b : IsBegunUnder setup body locks between new start end placed)
+      → (since : IsBegunUnder setup body locks old new start end placed)
+      × (since.entry ≡ b.entry)
+  begun_since locks start end placed b = (
+    record {
+      entry = b.entry;
+      reserved = reserved_since b.entry b.reserved;
+      up = b.up;
+      copies = b.copies;
+      in_flight = b.in_flight;
+      prev = b.prev;
+      placed_is = b.placed_is;
+      start_is = b.start_is;
+      end_is = b.end_is;
+    },
+    refl,
+  )
+
+  place_since : (begun : Begun) → IsPlaceBegun setup body between new begun
       → IsPlaceBegun setup body old new begun
-  begun_since begun b = record {
-    entry = b.entry;
-    reserved = reserved_since b.entry b.reserved;
-    up = b.up;
+  place_since begun b = record {
     lock_low = b.lock_low;
-    copies = b.copies;
-    in_flight = b.in_flight;
-    prev = b.prev;
-    placed_is = b.placed_is;
-    start_is = b.start_is;
-    end_is = b.end_is;
+    place = (begun_since (begun.lock ∷ []) begun.start.0 begun.end.0 begun.placed b.place).0;
   }
 
   pub full_since : (free : ℕ) → FindsLogFull setup body free between new
@@ -330,7 +383,7 @@ module _ (setup : Setup) (body : Assembled) (old between new : View)
           → ((seen : ℕ) → r ≡ refused_try (tries.Busy seen)
           → (between.reserving).seen ≡ (old.reserving).seen)
           → AnswersBeginTry setup body between r new → AnswersBeginTry setup body old r new
-      answered (Ok begun) same_sight is_begun = begun_since begun is_begun
+      answered (Ok begun) same_sight is_begun = place_since begun is_begun
       answered (Err e) same_sight vain = (
         try_since set_none e (λ seen busy. same_sight seen (ap refused_try busy)) vain.0,
         vain.1,

@@ -1,6 +1,6 @@
 -- A copy under locks: its next word lies far below the last address, and each step leaves a copy
 -- under them.
-use Rattle.std.proofs.Common.{◌≡◌, ℕ, ◌+◌, ◌*◌, ◌%◌, ◌^◌, ◌<◌, ◌≤◌, List, ◌∷◌, map, refl, sym, ap, ◌∙◌, subst, arith}
+use Rattle.std.proofs.Common.{◌≡◌, ℕ, ◌+◌, ◌*◌, ◌%◌, ◌^◌, ◌<◌, ◌≤◌, Contains, List, ◌∷◌, map, refl, sym, ap, ◌∙◌, subst, arith}
 use Rattle.std.proofs.Math.Logic.{∥∥₁_elim}
 use Rattle.std.specs.Coded.{Coded-set, coded_ℕ, le_prop}
 use Rattle.atomic_table.proofs.Lists.{at_map}
@@ -13,19 +13,20 @@ use Rattle.wal_page.specs.Order.{Entry, IsChained, end_position, finish_of, posi
 use Rattle.wal_page.specs.EntryWords.{address_of_word, words_owned}
 use Rattle.wal_page.specs.Placed.{PlacedState, placed_end}
 use Rattle.wal_page.proofs.OrderLaws.{FollowsFrom-parts, rooms_of-append, rooms_of_cons}
-use Rattle.wal_core.specs.Moves.{after_advance}
 use Rattle.wal_core.specs.declared.setup.Setup.{Setup}
 use Rattle.wal_core.specs.Ringed.{IsOfOrder}
 use Rattle.wal_core.specs.Sound.{IsSound}
 use Rattle.wal_core.specs.Views.{Copy, Copying, Flight, HasAt, Landed, Working, flight_of, View}
+use Rattle.machine_laws.proofs.HeldLaws.{copying_same}
 use Rattle.machine_laws.proofs.RingLaws.{copy-whole, last_word-ends}
 use Rattle.wal_rule.specs.Stepping.{Stands}
+use Rattle.insert_locks.specs.Holding.{HasTold}
 use Rattle.word_ring.specs.Copied.{CopiesPage, IsRestOf, copied_view, further, rest_of}
 use Rattle.word_ring.specs.Mapped.{IsOldPageUnwritten}
 use Rattle.word_ring.specs.Ring.{end_of_page}
 use Rattle.wal_rule.specs.declared.seated.SeatedPass.{SeatedPass}
 use Rattle.wal_rule.specs.SeatedPasses.{HasView, StaysSeated, setup_of, view_of}
-use Rattle.wal_log.specs.Copying.{CopyGoesOn, IsSamePlace, MapsPage, mapped_view}
+use Rattle.wal_log.specs.Copying.{CopyGoesOn, IsSamePlace, IsToldUnderAll, MapsPage, mapped_view}
 use Rattle.wal_log.specs.Downs.{KnowsNoFault}
 use Rattle.wal_log.specs.PassLogs.{log_of_pass}
 use Rattle.wal_log.specs.Standing.{CopiesAlone, CopiesUnder, GoesOnSeated, HasNoTurn, KeepsPass, KeepsWork, entry_in_flight, entry_of_flight}
@@ -337,10 +338,19 @@ goes_on_itself a = record {
   keeps = same_pass (view_of a);
 }
 
-pub told_keeps : {D : Type 0} → (a b : SeatedPass D) (upto : ℕ)
-    → HasView (after_advance upto (view_of a)) a b → GoesOnSeated a b
-told_keeps a b upto has = record {
-  stays = seat_stays has;
-  keeps = subst (λ (w : View). KeepsPass (view_of a) w) (sym (view_is has))
-      (told_pass upto (view_of a));
+pub told_keeps : {D : Type 0} → (a b : SeatedPass D) (locks : List ℕ) (upto : ℕ)
+    → HasTold locks upto a b → GoesOnSeated a b
+told_keeps a b locks upto has = record {
+  stays = seat_stays has.view;
+  keeps = subst (λ (w : View). KeepsPass (view_of a) w) (sym (view_is has.view))
+      (told_pass upto has.under (view_of a));
 }
+
+-- what was told under each lock of a copy alone was told under each under which its entry stands
+pub told_under_all : {D : Type 0} → (a b : SeatedPass D) (locks : List ℕ) (p : PlacedState)
+    (upto : ℕ) → CopiesAlone locks p a → HasTold locks upto a b → IsToldUnderAll (view_of b)
+told_under_all a b locks p upto copies has = subst IsToldUnderAll (sym (view_is has.view))
+    (λ c is lock stands. has.each lock (subst (λ (ls : List ℕ). Contains ls lock)
+    (ap (λ (d : Copy). d.locks) (copying_same c ((copies.under).copy)
+    (sym is ∙ ap (λ (w : Working). w.flight) (copies.under).working)) ∙ (copies.under).under)
+    stands))

@@ -74,9 +74,9 @@ module _ {D : Type 0} (wal : Wal D) (pass : Pass) (seated : SeatedPass D)
 
       flight_so : IsInFlightOf wal (record { pass = after; begun = begun })
       flight_so =
-          let b = begun_so in record {
+          let b = begun_so.place in record {
             of_log = back_on wal pass seated view new (goes_on.stays).same_table table after put;
-            lock_low = b.lock_low;
+            lock_low = begun_so.lock_low;
             copies = b.copies;
             start_is = same_start (setup_of_log wal) (b.copies).copy begun.placed begun.start.0
                 (b.entry).start b.start_is (ap (λ (p : PlacedState). p.start) b.placed_is)

@@ -3,7 +3,7 @@ use Rattle.std.proofs.Common.{◌≡◌, ◌⊎◌, inl, inr, max, ℕ, List, re
 use mathlib.Core.Logic.{dite}
 use mathlib.Core.Option.{none}
 use native.Mathlib.Decide.{ℕ_discrete}
-use Rattle.wal_core.specs.Moves.{after_advance, after_slot_out, fault_number, lent, with_hold}
+use Rattle.wal_core.specs.Moves.{after_slot_out, fault_number, lent, with_hold, with_told}
 use Rattle.wal_core.specs.Steps.{IsResting, load_down, view_behind}
 use Rattle.wal_core.specs.declared.setup.Setup.{Setup}
 use Rattle.wal_core.specs.Views.{Idle, Hold, Out, Plain, View, Working}
@@ -30,9 +30,9 @@ same_pass v = record {
   down = λ faults knows. knows;
 }
 
--- what a lock was told changes nothing of that
-pub told_pass : (upto : ℕ) (v : View) → KeepsPass v (after_advance upto v)
-told_pass upto v = record {
+-- what was told, and under which locks, changes nothing of that
+pub told_pass : (upto : ℕ) (under : List ℕ) (v : View) → KeepsPass v (with_told upto under v)
+told_pass upto under v = record {
   opening = refl;
   live = refl;
   number = refl;

@@ -21,5 +21,6 @@ pub mod Unlocking
 pub mod Watched
 pub mod WholeLaws
 mod Having
+mod SwitchLaws
 pub mod Seated
 pub mod Lanes

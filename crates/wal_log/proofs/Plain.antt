@@ -35,7 +35,7 @@ module _ (met : ℕ) (v : View) where
   moment_loaded = refl
 
   pub advanced : (lock upto : ℕ)
-      → view_behind v (advance lock upto) met none ≡ after_advance upto v
+      → view_behind v (advance lock upto) met none ≡ after_advance lock upto v
   advanced lock upto = refl
 
   -- ---- the turn to write

@@ -1,9 +1,9 @@
 -- What one try to reserve a record's place answers, and what it leaves of its pass.
-use Rattle.std.specs.Prelude.{◌≡◌, ℕ, ◌<◌, Result, Ok, Err, [], ◌∷◌}
+use Rattle.std.specs.Prelude.{◌≡◌, ℕ, ◌<◌, Result, Ok, Err, List, [], ◌∷◌}
 use mathlib.Core.Option.{some}
 use Rattle.record_spelling.specs.Spelling.{Assembled}
 use Rattle.wal_page.specs.Order.{Entry, start_of}
-use Rattle.wal_page.specs.Placed.{placed_end}
+use Rattle.wal_page.specs.Placed.{PlacedState, placed_end}
 use Rattle.wal_core.specs.declared.setup.Setup.{Setup}
 use Rattle.wal_core.specs.Steps.{IsResting}
 use Rattle.wal_core.specs.Views.{View}
@@ -20,20 +20,26 @@ use Rattle.wal_log.specs.Inserting.{FindsLogFull, HasReserved}
 use Rattle.wal_log.specs.PassLogs.{log_of_pass}
 use Rattle.wal_log.specs.Standing.{CopiesUnder, entry_in_flight}
 
--- an entry was reserved, and is copied under one lock, of which all words are left; it starts and
+-- an entry was reserved, and is copied under these locks, of which all words are left; it starts and
 -- ends at these addresses
-pub record IsPlaceBegun (setup : Setup) (body : Assembled) (old new : View) (begun : Begun)
-    : Type 0 where
+pub record IsBegunUnder (setup : Setup) (body : Assembled) (locks : List ℕ) (old new : View)
+    (start end : ℕ) (placed : PlacedState) : Type 0 where
   pub entry : Entry
   pub reserved : HasReserved setup body old new entry
   pub up : KnowsNoFault new
-  pub lock_low : begun.lock < 8
-  pub copies : CopiesUnder setup (begun.lock ∷ []) begun.placed new
+  pub copies : CopiesUnder setup locks placed new
   pub in_flight : entry_in_flight new ≡ some entry
   pub prev : ℕ
-  pub placed_is : begun.placed ≡ placed_first setup body entry.start prev
-  pub start_is : begun.start.0 ≡ start_of setup.segment_size entry
-  pub end_is : begun.end.0 ≡ placed_end begun.placed
+  pub placed_is : placed ≡ placed_first setup body entry.start prev
+  pub start_is : start ≡ start_of setup.segment_size entry
+  pub end_is : end ≡ placed_end placed
+
+-- so it was under one lock
+pub record IsPlaceBegun (setup : Setup) (body : Assembled) (old new : View) (begun : Begun)
+    : Type 0 where
+  pub lock_low : begun.lock < 8
+  pub place : IsBegunUnder setup body (begun.lock ∷ []) old new begun.start.0 begun.end.0
+      begun.placed
 
 -- the position was met locked, or met as another one where it was to be locked. The view that met
 -- it is the one behind the call, but that it had an insertion lock, and had seen no more than

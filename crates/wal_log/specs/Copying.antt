@@ -1,12 +1,13 @@
 -- A copy of a record's words: how far it came, and why it stopped.
-use Rattle.std.specs.Prelude.{◌≡◌, ◌≢◌, ◌⊎◌, ℕ, ◌+◌, ◌*◌, ◌/◌, ◌%◌, ◌<◌, ◌≤◌, ◌^◌}
+use Rattle.std.specs.Prelude.{◌≡◌, ◌≢◌, ◌⊎◌, ℕ, ◌+◌, ◌*◌, ◌/◌, ◌%◌, ◌<◌, ◌≤◌, ◌^◌, Contains, List}
 use Rattle.wal_page.specs.Placed.{PlacedState, placed_end}
 use Rattle.wal_rule.specs.declared.seated.SeatedPass.{SeatedPass}
 use Rattle.wal_rule.specs.SeatedPasses.{StaysSeated, view_of}
 use Rattle.wal_rule.specs.Stepping.{Meets}
 use Rattle.wal_core.specs.declared.setup.Setup.{Setup}
 use Rattle.wal_core.specs.Steps.{load_buffer_end, take_mapping_turn}
-use Rattle.wal_core.specs.Views.{Taken, View}
+use Rattle.wal_core.specs.Moves.{with_told}
+use Rattle.wal_core.specs.Views.{Copy, Copying, Taken, View}
 use Rattle.word_ring.specs.Mapped.{IsOldPageUnwritten, LooksAt, staged_view}
 use Rattle.word_ring.specs.Ring.{end_of_page}
 use Rattle.wal_log.specs.declared.copying.Absent.{Absent}
@@ -106,14 +107,21 @@ TellsStop setup most k placed v stops.Whole = placed.next ≡ placed_end placed
 TellsStop setup most k placed v (stops.Absent absent) = (k < most)
     × (placed.next < placed_end placed) × TellsAbsent setup (placed.next / 8192) v absent
 
+-- a view's number was told under each lock under which it has an entry in flight
+abbrev pub IsToldUnderAll : View → Type 0
+IsToldUnderAll v = (c : Copy) → (v.working).flight ≡ Copying c → (lock : ℕ)
+    → Contains c.locks lock → Contains v.told_under lock
+
 -- so many words were copied, in order, and why it stopped there. Then, where words were asked for
--- and are left, the pass has told under its lock the address of the next one; where none was asked
--- for, it has told nothing
+-- and are left, the pass has told the address of the next one, under each lock under which the
+-- record stands; where none was asked for, it has told nothing
 pub record CopiesFront (setup : Setup) (most : ℕ) (old new : PlacedState) (before after : View)
     (copied : Copied) : Type 0 where
   pub few : copied.k ≤ most
   pub next_is : new ≡ record old { next = old.next + 8 * copied.k }
   pub earlier : ℕ
-  pub stop : TellsStop setup most copied.k new (record after { told = earlier }) copied.stop
+  pub earlier_under : List ℕ
+  pub stop : TellsStop setup most copied.k new (with_told earlier earlier_under after) copied.stop
   pub told : 0 < most → new.next < placed_end new → after.told ≡ new.next
+  pub under : 0 < most → new.next < placed_end new → IsToldUnderAll after
   pub silent : most ≡ 0 → after ≡ before

@@ -1,7 +1,7 @@
 -- What an insert answers, and what it leaves of its pass.
 use Rattle.std.specs.Prelude.{◌≡◌, ℕ, ◌+◌, ◌-◌, ◌<◌, ◌≤◌, Result, Ok, Err, Some, None}
 use Rattle.wal_types.specs.declared.record.Record.{Record}
-use Rattle.record_spelling.specs.Spelling.{Assembled, IsWritable, assembled}
+use Rattle.record_spelling.specs.Spelling.{Assembled, IsLogRecord, assembled}
 use Rattle.wal_page.specs.Order.{Entry, assembled_room_at, finish_of, position_behind, start_of}
 use Rattle.wal_types.specs.declared.lsn.Lsn.{Lsn}
 use Rattle.wal_types.specs.declared.answers.Receipt.{Receipt}
@@ -21,7 +21,7 @@ use Rattle.wal_log.specs.Whole.{CopiesWhole}
 -- within the log
 pub record IsOwnEntry (setup : Setup) (body : Assembled) (old : View) (e : Entry) : Type 0 where
   pub value : Record
-  pub writable : IsWritable value
+  pub logged : IsLogRecord value
   pub of_body : assembled value ≡ body
   pub at : ℕ
   pub entry_is : e ≡ entry_reserved (old.reserving).number at value

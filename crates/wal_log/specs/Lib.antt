@@ -9,6 +9,7 @@ pub mod Logs
 pub mod Opening
 pub mod Flushing
 pub mod Inserting
+pub mod Switching
 pub mod Behind
 pub mod Beginning
 pub mod Copying

@@ -4,9 +4,10 @@
 //!
 //! `wal` says what a pass may hold at once. An insert is `inserting`: its place is reserved in
 //! `beginning`, its words are copied in `copying`, its lock is given back in `landing`. Its steps
-//! are calls of their own in `in_flight`. A flush is `flushing`; `promised` tells what is durable
-//! without one. `ahead` answers a commit before it is durable, and `behind` flushes behind such
-//! commits. `writing` and `turns` serve a flush, and an insert that needs a buffer.
+//! are calls of their own in `in_flight`. `switching` ends a segment. A flush is `flushing`;
+//! `promised` tells what is durable without one. `ahead` answers a commit before it is durable, and
+//! `behind` flushes behind such commits. `writing` and `turns` serve a flush, and an insert that
+//! needs a buffer.
 #![tactic(auto)]
 
 mod ahead;
@@ -25,6 +26,7 @@ mod opening;
 mod promised;
 pub mod shared_numbers;
 mod splitting;
+mod switching;
 mod turns;
 mod wal;
 mod writing;
@@ -38,6 +40,7 @@ pub use flushing::{FlushErr, TryFlushErr};
 pub use in_flight::Inflight;
 pub use inserting::InsertErr;
 pub use opening::{OpenFault, OpenFaultKind};
+pub use switching::{Switch, SwitchErr};
 pub use wal::Wal;
 pub use wal_core::Setup;
 pub use wal_rule::Pass;

@@ -6,8 +6,9 @@
 // in flight. A call seats the pass, and puts it back where it is about nothing again, or about just
 // that. In an insert it takes an insertion lock, then locks the position, and unlocks that before
 // it copies. While it copies, under that lock, it may take the turn to map or the turn to write,
-// and never has both. A flush takes the turn to write alone, and no insertion lock. A call that
-// waits holds nothing but the lock of a record that it is copying.
+// and never has both. A segment switch does so under all eight insertion locks. A flush takes the
+// turn to write alone, and no insertion lock. A call that waits holds nothing but the locks of a
+// record that it is copying, or those that a switch has taken so far.
 
 use segment_disk::Disk;
 use wal_rule::LogTable;

@@ -6,8 +6,7 @@
 // locks, which would hold its own watch back else; it watches; it takes the turn to write and the
 // writer; it writes, stores what is written, and gives writer and turn back.
 ghost use Rattle.std.specs.Prelude.{◌≡◌, ◌≤◌, MatchResult};
-ghost use Rattle.insert_locks.specs.Holding.{locks_of};
-ghost use Rattle.wal_core.specs.Moves.{after_advance};
+ghost use Rattle.insert_locks.specs.Holding.{HasTold, locks_of};
 ghost use Rattle.page_writing.specs.InHand.{IsReady, known_copied, writer_in};
 ghost use Rattle.wal_rule.specs.SeatedPasses.{HasView, view_of};
 ghost use Rattle.wal_log.specs.Downs.{KnowsNoFault, SetsDownItself};
@@ -106,8 +105,7 @@ pub(crate) fn tell_progress<'p, 'a, D: Disk>(
     placed: &Placed<'a>,
 )
     requires copies { CopiesAlone (locks_of held) placed.now seated.old }
-    ensures view { HasView (after_advance placed.now.next (view_of seated.old))
-        seated.old seated.new }
+    ensures told { HasTold (locks_of held) placed.now.next seated.old seated.new }
 {
     let next = placed.next_lsn().0;
     tell(seated, held, next);

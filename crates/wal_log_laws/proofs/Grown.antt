@@ -15,6 +15,7 @@ use Rattle.wal_page.specs.Order.{Entry}
 use Rattle.wal_core.specs.declared.setup.Setup.{Setup}
 use Rattle.wal_core.specs.Views.{Joined, View}
 use Rattle.wal_core.specs.Moves.{after_join, after_split, joined_of}
+use Rattle.wal_core.specs.PassLogs.{log_with_stay}
 use Rattle.wal_rule.specs.declared.pass.Pass.{Pass}
 use Rattle.wal_rule.specs.Passes.{view_of_pass}
 use Rattle.wal_log.specs.Committing.{AnswersCommit, RefusesCommit}
@@ -30,8 +31,13 @@ use Rattle.wal_log.specs.declared.inserting.InsertErr.{InsertErr}
 use Rattle.wal_log.specs.declared.inserting.InsertErr.TheVariants as inserts
 use Rattle.wal_log.specs.Inserting.{AnswersInsert, IsStarted, RefusesInsert}
 use Rattle.wal_log.specs.Logs.{setup_of_log}
+use Rattle.wal_log.specs.declared.switching.Switch.{Switch}
+use Rattle.wal_log.specs.declared.switching.Switch.TheVariants.{Done, Stayed}
+use Rattle.wal_log.specs.declared.switching.SwitchErr.{SwitchErr}
+use Rattle.wal_log.specs.declared.switching.SwitchErr.TheVariants as switches
 use Rattle.wal_log.specs.PassLogs.{PassLog, log_of_pass, log_with_entry, log_with_full, log_with_promise}
 use Rattle.wal_log.specs.Standing.{KeepsPass}
+use Rattle.wal_log.specs.Switching.{AnswersSwitch, IsSwitchStarted, RefusesSwitch}
 use Rattle.wal_log_laws.specs.Growing.{GrowsTo, HasGrown, HasLog, IsFrontOf, view_behind_try}
 
 -- ---- fronts
@@ -90,6 +96,13 @@ with_full at l = record {
   promises = front_itself l.promises;
 }
 
+with_stay : (at : ℕ) (l : PassLog) → GrowsTo l (log_with_stay at l)
+with_stay at l = record {
+  entries = front_itself l.entries;
+  stops = (_, refl);
+  promises = front_itself l.promises;
+}
+
 module _ (setup : Setup) (body : Assembled) (old new : View) where
   started_grows : (start : ℕ) → IsStarted setup body old new start
       → GrowsTo (log_of_pass old) (log_of_pass new)
@@ -133,6 +146,31 @@ module _ (setup : Setup) (body : Assembled) (old new : View) where
       (with_promise told.upto sealed.moment m))
   commit_grows (Err refused) told = refused_grows refused.cause refused.reserved told
 
+-- ---- what a segment switch adds
+
+module _ (setup : Setup) (body : Assembled) (old new : View) where
+  switched_grows : (start : ℕ) → IsSwitchStarted setup body old new start
+      → GrowsTo (log_of_pass old) (log_of_pass new)
+  switched_grows start told = grows_so (log_of_pass old) _ (log_of_pass new)
+      (told.switched.reserved).log_is (with_entry told.entry (log_of_pass old))
+
+  refused_switch_grows : (e : SwitchErr) → RefusesSwitch setup body old new e
+      → GrowsTo (log_of_pass old) (log_of_pass new)
+  refused_switch_grows (switches.Full free) told = grows_so (log_of_pass old) _ (log_of_pass new)
+      (told.full).log_is (with_full (told.full).at (log_of_pass old))
+  refused_switch_grows (switches.Disk faults start) told = switched_grows start.0 told.0
+  refused_switch_grows (switches.Down faults None) told = grows_so (log_of_pass old) _
+      (log_of_pass new) told.0 (grows_itself (log_of_pass old))
+  refused_switch_grows (switches.Down faults (Some start)) told = switched_grows start.0 told.0
+
+  pub switch_grows : (answer : Result Switch SwitchErr) → AnswersSwitch setup body old answer new
+      → GrowsTo (log_of_pass old) (log_of_pass new)
+  switch_grows (Ok (Done start end)) told = grows_so (log_of_pass old) _ (log_of_pass new)
+      (told.switched.reserved).log_is (with_entry told.entry (log_of_pass old))
+  switch_grows (Ok (Stayed end)) told = grows_so (log_of_pass old) _ (log_of_pass new)
+      told.log_is (with_stay told.at (log_of_pass old))
+  switch_grows (Err e) told = refused_switch_grows e told
+
 -- ---- what the calls add that do not wait
 
 same_grows : (old new : View) → log_of_pass new ≡ log_of_pass old
@@ -154,7 +192,7 @@ pub begin_grows : {D : Type 0} → (wal : Wal D) (body : Assembled) (old : View)
     → GrowsTo (log_of_pass old) (log_of_pass (view_behind_try answer))
 begin_grows wal body old (Ok flight) told =
     let begun = told.1 in grows_so (log_of_pass old) _ (log_of_pass (view_of_flight flight))
-    (begun.reserved).log_is (with_entry begun.entry (log_of_pass old))
+    (begun.place.reserved).log_is (with_entry begun.place.entry (log_of_pass old))
 begin_grows wal body old (Err refused) told =
     vain_grows (setup_of_log wal) body old (view_of_pass refused.1) refused.0 told.1
 

@@ -8,6 +8,7 @@ use Rattle.wal_core.specs.declared.setup.Setup.{Setup}
 use Rattle.wal_core.specs.Words.{Opening}
 use Rattle.wal_core.specs.Failed.{KnowsOfFault}
 use Rattle.wal_core.specs.Locked.{HasTurn, HasWriteTurn}
+use Rattle.wal_core.specs.Moves.{with_told}
 use Rattle.wal_core.specs.Opened.{first_view}
 use Rattle.wal_core.specs.Steps.{IsResting, load_position, lock_position}
 use Rattle.wal_core.specs.Views.{Away, Free, Idle, View}
@@ -145,20 +146,21 @@ module _ (v : View) (alone : IsLonePass v) where
       not_behind asked lock word (told.1).up rests.locks told.0
   held_back asked old rests (flushes.Turn word) told = no_writer word rests.hold told.0
 
-  stopped : (setup : Setup) (most k told_before : ℕ) (placed : PlacedState) (stop : CopyStop)
+  stopped : (setup : Setup) (most k told_before : ℕ) (under : List ℕ) (placed : PlacedState)
+      (stop : CopyStop)
       → (v.mapping).stage ≡ Away
-      → TellsStop setup most k placed (record v { told = told_before }) stop
+      → TellsStop setup most k placed (with_told told_before under v) stop
       → StopsUnhindered stop
-  stopped setup most k told_before placed stops.Asked away told = tt
-  stopped setup most k told_before placed stops.Whole away told = tt
-  stopped setup most k told_before placed (stops.Absent absent) away told = ⊎_elim
-      (λ taken. absurd (no_mapper_as told_before absent.turn away taken.0))
+  stopped setup most k told_before under placed stops.Asked away told = tt
+  stopped setup most k told_before under placed stops.Whole away told = tt
+  stopped setup most k told_before under placed (stops.Absent absent) away told = ⊎_elim
+      (λ taken. absurd (no_mapper_as absent.turn away taken.0))
       (λ old_page. old_page.0) ((told.2).why)
     where
-      no_mapper_as : (told_before turn : ℕ) → (v.mapping).stage ≡ Away
-          → MeetsMapper turn (record v { told = told_before }) → ⊥
-      no_mapper_as told_before turn away m = subst HasTurn away
-          ((held_in (record v { told = told_before })
+      no_mapper_as : (turn : ℕ) → (v.mapping).stage ≡ Away
+          → MeetsMapper turn (with_told told_before under v) → ⊥
+      no_mapper_as turn away m = subst HasTurn away
+          ((held_in (with_told told_before under v)
           (record { live = alone.live; numbers = alone.numbers }) (m.met).before).mapping
           (λ none. m.taken ((m.met).met_is ∙ none)))
 
@@ -187,5 +189,5 @@ module _ (numbers : (old new : View) → KeepsPass old new → KeepsNumbers old 
       (copied : Copied) → KeepsPass old new → (new.mapping).stage ≡ Away
       → CopiesFront setup most placed next old new copied → StopsUnhindered copied.stop
   stops_unhindered setup most placed next new copied keeps away told =
-      stopped new (alone_in new keeps) setup most copied.k told.earlier next copied.stop away
-      told.stop
+      stopped new (alone_in new keeps) setup most copied.k told.earlier told.earlier_under next
+      copied.stop away told.stop

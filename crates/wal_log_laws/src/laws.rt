@@ -23,12 +23,15 @@ ghost use Rattle.wal_log.specs.Inserting.{HasReserved, AnswersInsert};
 ghost use Rattle.wal_log.specs.Logs.{setup_of_log};
 ghost use Rattle.wal_log.specs.PassLogs.{PassLog, log_of_pass, log_with_entry};
 ghost use Rattle.wal_log.specs.Standing.{KeepsPass};
+ghost use Rattle.wal_log.specs.Switching.{AnswersSwitch};
 ghost use Rattle.wal_log.specs.declared.closing.Closed.{Closed};
 ghost use Rattle.wal_log.specs.declared.beginning.TryErr.{TryErr};
 ghost use Rattle.wal_log.specs.declared.flushing.FlushErr.{FlushErr};
 ghost use Rattle.wal_log.specs.declared.flushing.TryFlushErr.{TryFlushErr};
 ghost use Rattle.wal_log.specs.declared.in_flight.Inflight.{Inflight};
 ghost use Rattle.wal_log.specs.declared.inserting.InsertErr.{InsertErr};
+ghost use Rattle.wal_log.specs.declared.switching.Switch.{Switch};
+ghost use Rattle.wal_log.specs.declared.switching.SwitchErr.{SwitchErr};
 ghost use Rattle.wal_log.specs.declared.wal.Wal.{Wal};
 ghost use Rattle.wal_log_laws.specs.Growing.{GrowsTo, HasGrown, HasLog, view_behind_try};
 ghost use Rattle.wal_log_laws.specs.Keeping.{IsClosedFrom, KeepsPromises, LeavesOrder};
@@ -47,6 +50,9 @@ pub fn logs_only_grow<D: Disk>()
         → AnswersFlush asked old answer new → GrowsTo (log_of_pass old) (log_of_pass new) }
     ensures commits { (setup : Setup) (body : Assembled) (old new : View)
         (answer : Result Sealed Refused) → AnswersCommit setup body old answer new
+        → GrowsTo (log_of_pass old) (log_of_pass new) }
+    ensures switches { (setup : Setup) (body : Assembled) (old new : View)
+        (answer : Result Switch SwitchErr) → AnswersSwitch setup body old answer new
         → GrowsTo (log_of_pass old) (log_of_pass new) }
     ensures begins { (wal : Wal D) (body : Assembled) (old : View)
         (answer : Result Inflight (TryErr × Pass)) → AnswersTryBegin wal body old answer

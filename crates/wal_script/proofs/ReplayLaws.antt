@@ -1,6 +1,6 @@
 -- What holds of each replay's script that is read.
 use Rattle.std.proofs.Common.{◌≡◌, ℕ, ◌+◌, ◌<◌, ◌≤◌, List, [], ◌∷◌, ◌++◌, length, Bool, true, false, ◌&&◌, Option, Some, None, Result, Ok, Err, All, codes, eqb, ltb, ltb-true, length-append, refl, sym, ◌∙◌, true≢false, arith}
-use Rattle.std.specs.Prelude.{IfOk, if◌then◌else◌}
+use Rattle.std.specs.Prelude.{◌||◌, IfOk, if◌then◌else◌}
 use Rattle.std.proofs.lemmas.Bool.{cond_both, or_parts}
 use Rattle.std.proofs.lemmas.List.Elements.{All-nil, All-cons, All-append}
 use Rattle.replay_schedule.specs.declared.item.Item.{Item}
@@ -11,7 +11,7 @@ use Rattle.wal_script.specs.declared.line.Refusal.{Refusal}
 use Rattle.wal_script.specs.declared.line.ScriptFault.TheVariants as faults
 use Rattle.wal_script.specs.Asked.{Asked, AskedLine, Insert, Commit}
 use Rattle.wal_script.specs.Meaning.{commit_of, insert_of, line_with, passes, asks, refuses, script_limit}
-use Rattle.wal_script.specs.Replay.{IsOfReplay, ScriptLine, of_backend, begins, ends, ScheduleLines, BackendsMeaning, ReplayMeaning, alone, begin_fault, is_of_runs, most_backends, backends_from, backends_with, items_or_fault, script_line_of, script_line_with, replay_meaning, replay_with, schedule_with, unless_fault, with_schedule}
+use Rattle.wal_script.specs.Replay.{IsOfReplay, ScriptLine, of_backend, begins, ends, ScheduleLines, BackendsMeaning, ReplayMeaning, alone, backend_line_with, begin_fault, is_of_runs, most_backends, backends_from, backends_with, items_or_fault, script_line_of, script_line_with, replay_meaning, replay_with, schedule_with, unless_fault, with_schedule}
 use Rattle.wal_script.specs.Text.{is_text, fields_of, lines_of}
 use Rattle.wal_script.specs.Writable.{AsksWritable}
 use Rattle.wal_script.proofs.Writing.{MeansOnly, asks_as_only, line_with_only, line_with_writable}
@@ -31,12 +31,11 @@ alone_only P line (field ∷ fields) only = tt
 -- where each line of a backend that the script knows asks for only this, so does each line
 script_line_with_only : (P : Asked → Type 0) (takes_schedule : Bool) (word : List ℕ) (fields : List (List ℕ)) → ((takes_schedule && is_of_runs word) ≡ false → MeansOnly P (line_with (word ∷ fields))) → LineOnly P (script_line_with takes_schedule (word ∷ fields))
 script_line_with_only P takes_schedule word fields only =
-    let other = of_backend (line_with (word ∷ fields)) in
-    let known = if takes_schedule && is_of_runs word then of_backend (refuses faults.Word) else other in
-    let end = if takes_schedule && is_text word (codes "S") then alone ends fields else known in
+    let line = of_backend (backend_line_with takes_schedule word fields) in
+    let end = if takes_schedule && is_text word (codes "S") then alone ends fields else line in
     cond_both (is_text word (codes "B")) (begins (eqb (length fields) 0)) end (LineOnly P) (λ _. tt)
-    (λ _. cond_both (takes_schedule && is_text word (codes "S")) (alone ends fields) known (LineOnly P) (λ _. alone_only P ends fields tt)
-    (λ _. cond_both (takes_schedule && is_of_runs word) (of_backend (refuses faults.Word)) other (LineOnly P) (λ _. tt) only))
+    (λ _. cond_both (takes_schedule && is_text word (codes "S")) (alone ends fields) line (LineOnly P) (λ _. alone_only P ends fields tt)
+    (λ _. cond_both (takes_schedule && is_of_runs word) (refuses faults.Word) (line_with (word ∷ fields)) (MeansOnly P) (λ _. tt) only))
 
 script_line_of_only : (P : Asked → Type 0) (takes_schedule : Bool) → ((fields : List (List ℕ)) → LineOnly P (script_line_with takes_schedule fields)) → (text : List ℕ) → LineOnly P (script_line_of takes_schedule text)
 script_line_of_only P takes_schedule only [] = tt
@@ -50,12 +49,14 @@ writable_fields takes_schedule (word ∷ fields) = script_line_with_only AsksWri
 -- a letter that a replay knows asks for what it may ask for
 replay_letters : (word : List ℕ) (fields : List (List ℕ)) → is_of_runs word ≡ false → MeansOnly IsOfReplay (line_with (word ∷ fields))
 replay_letters word fields known =
-    let none = or_parts (is_text word (codes "A")) (is_text word (codes "L")) known in
+    let none = or_parts (is_text word (codes "A") || is_text word (codes "L")) (is_text word (codes "W")) known in
+    let neither = or_parts (is_text word (codes "A")) (is_text word (codes "L")) none.0 in
     line_with_only IsOfReplay word fields
     (λ _. asks_as_only IsOfReplay Insert (insert_of fields) (λ x is. tt))
     (λ _. asks_as_only IsOfReplay Commit (commit_of fields) (λ x is. tt))
     (λ _. tt)
-    (λ is. absurd (true≢false (sym is ∙ none.0)))
+    (λ is. absurd (true≢false (sym is ∙ neither.0)))
+    (λ is. absurd (true≢false (sym is ∙ neither.1)))
     (λ is. absurd (true≢false (sym is ∙ none.1)))
 
 replay_fields : (fields : List (List ℕ)) → LineOnly IsOfReplay (script_line_with true fields)

@@ -75,7 +75,7 @@ no_begin word true is stays = absurd (stays (ap (λ (w : List ℕ). Some w) (is_
 
 fields_alone : (fields : List (List ℕ)) → slice_get fields 0 ≢ Some (codes "B") → script_line_with false fields ≡ of_backend (line_with fields)
 fields_alone [] stays = refl
-fields_alone (word ∷ fields) stays = script_line_of_backend false word fields (no_begin word (is_text word (codes "B")) refl stays) refl refl
+fields_alone (word ∷ fields) stays = script_line_of_backend false word fields (no_begin word (is_text word (codes "B")) refl stays) refl
 
 -- under any test
 if_of_backend : (test : Bool) (meaning : LineMeaning) → (if test then of_backend passes else of_backend meaning) ≡ of_backend (if test then passes else meaning)

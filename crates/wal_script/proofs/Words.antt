@@ -5,7 +5,7 @@ use Rattle.std.proofs.Math.Bool.{and-false}
 use Rattle.wal_script.specs.Text.{is_text}
 use Rattle.wal_script.specs.Meaning.{LineMeaning, line_with, refuses}
 use Rattle.wal_script.specs.Reading.{RefusesLine}
-use Rattle.wal_script.specs.Replay.{is_of_runs, of_backend, script_line_with}
+use Rattle.wal_script.specs.Replay.{backend_line_with, is_of_runs, of_backend, script_line_with}
 use Rattle.wal_script.specs.ReplayReading.{RefusesStep}
 use Rattle.wal_script.specs.declared.line_error.LineError.{LineError}
 use Rattle.wal_script.specs.declared.line_error.LineError.TheVariants as causes
@@ -34,12 +34,11 @@ is_text-same (c ∷ text) (d ∷ other) is =
 
 -- no longer text is a letter of runs alone
 pub is_of_runs-long : (word : List ℕ) → 2 ≤ length word → is_of_runs word ≡ false
-is_of_runs-long word long = rw (is_text-long word 65 long, is_text-long word 76 long) refl
+is_of_runs-long word long = rw (is_text-long word 65 long, is_text-long word 76 long, is_text-long word 87 long) refl
 
--- a line that begins with neither `B`, nor an `S` that the script takes, nor a letter that it does
--- not know, is one of a backend's
-pub script_line_of_backend : (takes_schedule : Bool) (word : List ℕ) (fields : List (List ℕ)) → is_text word (codes "B") ≡ false → (takes_schedule && is_text word (codes "S")) ≡ false → (takes_schedule && is_of_runs word) ≡ false → script_line_with takes_schedule (word ∷ fields) ≡ of_backend (line_with (word ∷ fields))
-script_line_of_backend takes_schedule word fields no_begin no_end known = simp (no_begin, no_end, known)
+-- a line that begins with neither `B` nor an `S` that the script takes is one of a backend's
+pub script_line_of_backend : (takes_schedule : Bool) (word : List ℕ) (fields : List (List ℕ)) → is_text word (codes "B") ≡ false → (takes_schedule && is_text word (codes "S")) ≡ false → script_line_with takes_schedule (word ∷ fields) ≡ of_backend (backend_line_with takes_schedule word fields)
+script_line_of_backend takes_schedule word fields no_begin no_end = simp (no_begin, no_end)
 
 -- and refused as such
 pub RefusesStep-of_backend : (error : LineError) (meaning : LineMeaning) → RefusesLine error meaning → RefusesStep error (of_backend meaning)

@@ -7,12 +7,13 @@ use Rattle.std.proofs.lemmas.Bool.{cond_both}
 use Rattle.std.proofs.lemmas.List.Elements.{All-nil, All-cons, All-from_recursion}
 use Rattle.wal_types.specs.declared.record.Record.{Record}
 use Rattle.record_spelling.specs.declared.fault.BodyErr.{BodyErr}
-use Rattle.record_spelling.specs.declared.fault.BodyErr.TheVariants.{Memory, TooLong, BadBlock, Switch, BadRmgr}
+use Rattle.record_spelling.specs.declared.fault.BodyErr.TheVariants.{Memory, TooLong, BadBlock, BadRmgr}
+use Rattle.record_spelling.specs.declared.fault.BodyErr.TheVariants as causes
 use Rattle.record_spelling.specs.Record.{Fits, BlockFits, is_free_manager, is_switch}
 use Rattle.record_spelling.specs.Refusal.{first_bad_block, refusal_of, too_long}
 use Rattle.record_spelling.specs.Spelling.{Assembled, IsWritable, size_of}
 use Rattle.record_spelling.proofs.Acceptance.{refused_or_writable}
-use Rattle.wal_script.specs.Asked.{Asked, AskedLine, Insert, Commit, Flush, CommitAsync, WriteBehind}
+use Rattle.wal_script.specs.Asked.{Asked, AskedLine, Insert, Commit, Flush, CommitAsync, WriteBehind, Switch}
 use Rattle.wal_script.specs.declared.line.Refusal.{Refusal}
 use Rattle.wal_script.specs.declared.line.ScriptFault.{ScriptFault}
 use Rattle.wal_script.specs.declared.line.ScriptFault.TheVariants as faults
@@ -43,7 +44,7 @@ never_memory : (r : Record) → refusal_of r ≡ Some Memory → ⊥
 unfolding refusal_of
 never_memory r =
     other_row (is_free_manager r.rmid) (BadRmgr r.rmid) _ (λ e. cc)
-    (other_row (is_switch r) Switch _ (λ e. cc)
+    (other_row (is_switch r) causes.Switch _ (λ e. cc)
     (other_block (first_bad_block 0 r.blocks) (too_long (size_of r))
     (other_row (ltb 1048576 (size_of r)) (TooLong (size_of r)) None (λ e. cc) (λ e. cc))))
 
@@ -52,7 +53,7 @@ by_refusal r fits None is = (refused_or_writable r fits).0 is
 by_refusal r fits (Some Memory) is = absurd (never_memory r is)
 by_refusal r fits (Some (TooLong size)) is = tt
 by_refusal r fits (Some (BadBlock index)) is = tt
-by_refusal r fits (Some Switch) is = tt
+by_refusal r fits (Some causes.Switch) is = tt
 by_refusal r fits (Some (BadRmgr rmid)) is = tt
 
 accepted_writable : (r : Record) → Fits r → IfOk (accepted r) IsWritable
@@ -132,8 +133,11 @@ module _ (P : Asked → Type 0) (word : List ℕ) (fields : List (List ℕ)) whe
   abbrev backends : LineMeaning
   backends = if is_text word (codes "B") then refuses faults.Backends else refuses faults.Word
 
+  abbrev switch : LineMeaning
+  switch = if is_text word (codes "W") then asks_as (λ asked. asked) (alone_asks Switch fields) else backends
+
   abbrev behind : LineMeaning
-  behind = if is_text word (codes "L") then asks_as (λ asked. asked) (alone_asks WriteBehind fields) else backends
+  behind = if is_text word (codes "L") then asks_as (λ asked. asked) (alone_asks WriteBehind fields) else switch
 
   abbrev ahead : LineMeaning
   ahead = if is_text word (codes "A") then asks_as CommitAsync (commit_of fields) else behind
@@ -149,14 +153,16 @@ module _ (P : Asked → Type 0) (word : List ℕ) (fields : List (List ℕ)) whe
       → (is_text word (codes "F") ≡ true → P Flush)
       → (is_text word (codes "A") ≡ true → MeansOnly P (asks_as CommitAsync (commit_of fields)))
       → (is_text word (codes "L") ≡ true → P WriteBehind)
+      → (is_text word (codes "W") ≡ true → P Switch)
       → MeansOnly P (line_with (word ∷ fields))
-  line_with_only insert_holds commit_holds flush_holds ahead_holds behind_holds =
+  line_with_only insert_holds commit_holds flush_holds ahead_holds behind_holds switch_holds =
       cond_both (is_text word (codes "I")) (asks_as Insert (insert_of fields)) commit (MeansOnly P) insert_holds
       (λ _. cond_both (is_text word (codes "C")) (asks_as Commit (commit_of fields)) flush (MeansOnly P) commit_holds
       (λ _. cond_both (is_text word (codes "F")) (asks_as (λ asked. asked) (alone_asks Flush fields)) ahead (MeansOnly P) (λ is. alone_asks_only P Flush fields (flush_holds is))
       (λ _. cond_both (is_text word (codes "A")) (asks_as CommitAsync (commit_of fields)) behind (MeansOnly P) ahead_holds
-      (λ _. cond_both (is_text word (codes "L")) (asks_as (λ asked. asked) (alone_asks WriteBehind fields)) backends (MeansOnly P) (λ is. alone_asks_only P WriteBehind fields (behind_holds is))
-      (λ _. cond_both (is_text word (codes "B")) (refuses faults.Backends) (refuses faults.Word) (MeansOnly P) (λ _. tt) (λ _. tt))))))
+      (λ _. cond_both (is_text word (codes "L")) (asks_as (λ asked. asked) (alone_asks WriteBehind fields)) switch (MeansOnly P) (λ is. alone_asks_only P WriteBehind fields (behind_holds is))
+      (λ _. cond_both (is_text word (codes "W")) (asks_as (λ asked. asked) (alone_asks Switch fields)) backends (MeansOnly P) (λ is. alone_asks_only P Switch fields (switch_holds is))
+      (λ _. cond_both (is_text word (codes "B")) (refuses faults.Backends) (refuses faults.Word) (MeansOnly P) (λ _. tt) (λ _. tt)))))))
 
 asks_as_writable : (form : Record → Asked) (r : Result Record ScriptFault) → ((x : Record) → IsWritable x → AsksWritable (form x)) → IfOk r IsWritable → MeansWritable (asks_as form r)
 asks_as_writable form (Ok x) keeps writable = keeps x writable
@@ -170,6 +176,7 @@ line_with_writable (word ∷ fields) =
     (λ _. asks_as_writable Commit (commit_of fields) (λ x writable. writable) (commit_writable fields))
     (λ _. tt)
     (λ _. asks_as_writable CommitAsync (commit_of fields) (λ x writable. writable) (commit_writable fields))
+    (λ _. tt)
     (λ _. tt)
 
 line_of_writable : (line : List ℕ) → MeansWritable (line_of line)

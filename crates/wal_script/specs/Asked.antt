@@ -3,14 +3,15 @@ use Rattle.std.specs.Prelude.{ℕ}
 use Rattle.wal_types.specs.declared.record.Record.{Record}
 
 -- insert a record, insert a commit's record and flush to its end, flush to the end of the backend's
--- last record, insert a commit's record and answer it ahead of the disk, or flush behind what was
--- answered so
+-- last record, insert a commit's record and answer it ahead of the disk, flush behind what was
+-- answered so, or let the segment end here
 pub data Asked : Type 0 where
   Insert : Record → Asked
   Commit : Record → Asked
   Flush : Asked
   CommitAsync : Record → Asked
   WriteBehind : Asked
+  Switch : Asked
 
 -- what a line asks for, by its number
 pub record AskedLine : Type 0 where

@@ -3,12 +3,12 @@ use Rattle.std.specs.Prelude.{ℕ, ◌+◌, ◌-◌, ◌^◌, List, [], ◌∷�
 use Rattle.std.specs.Int.{w64, to_le_bytes}
 use Rattle.wal_types.specs.declared.record.Record.{Record}
 use Rattle.record_spelling.specs.declared.fault.BodyErr.{BodyErr}
-use Rattle.record_spelling.specs.declared.fault.BodyErr.TheVariants.{Memory, TooLong, BadBlock, Switch, BadRmgr}
+use Rattle.record_spelling.specs.declared.fault.BodyErr.TheVariants as causes
 use Rattle.record_spelling.specs.Refusal.{refusal_of}
 use Rattle.wal_script.specs.declared.line.Refusal.{Refusal}
 use Rattle.wal_script.specs.declared.line.ScriptFault.{ScriptFault}
 use Rattle.wal_script.specs.declared.line.ScriptFault.TheVariants as faults
-use Rattle.wal_script.specs.Asked.{Asked, AskedLine, Insert, Commit, Flush, CommitAsync, WriteBehind}
+use Rattle.wal_script.specs.Asked.{Asked, AskedLine, Insert, Commit, Flush, CommitAsync, WriteBehind, Switch}
 use Rattle.wal_script.specs.Text.{is_text, lines_of, fields_of}
 use Rattle.decimal_numbers.specs.Numbers.{number_of, time_of}
 use Rattle.wal_script.specs.Hexadecimal.{byte_spelled, data_of}
@@ -23,11 +23,11 @@ pub data LineMeaning : Type 0 where
 
 -- the fault of a record that cannot be assembled; want of memory is none
 abbrev pub assembly_fault : BodyErr → Option ScriptFault
-assembly_fault Memory = None
-assembly_fault (TooLong size) = Some faults.TooLong
-assembly_fault (BadBlock index) = Some faults.BadBlock
-assembly_fault Switch = Some faults.Switch
-assembly_fault (BadRmgr rmid) = Some faults.BadManager
+assembly_fault causes.Memory = None
+assembly_fault (causes.TooLong size) = Some faults.TooLong
+assembly_fault (causes.BadBlock index) = Some faults.BadBlock
+assembly_fault causes.Switch = Some faults.Switch
+assembly_fault (causes.BadRmgr rmid) = Some faults.BadManager
 
 abbrev pub unless : {X : Type 0} → Option ScriptFault → X → Result X ScriptFault
 unless None x = Ok x
@@ -82,7 +82,7 @@ commit_of fields = do
   nothing ← no_more time.rest
   Ok (commit_record xid.value time.value)
 
--- the fields behind `F` or `L`: none
+-- the fields behind `F`, `L` or `W`: none
 abbrev pub alone_asks : Asked → List (List ℕ) → Result Asked ScriptFault
 alone_asks asked fields = do
   nothing ← no_more fields
@@ -101,7 +101,8 @@ line_with (word ∷ fields) =
     else (if is_text word (codes "F") then asks_as (λ asked. asked) (alone_asks Flush fields)
     else (if is_text word (codes "A") then asks_as CommitAsync (commit_of fields)
     else (if is_text word (codes "L") then asks_as (λ asked. asked) (alone_asks WriteBehind fields)
-    else (if is_text word (codes "B") then refuses faults.Backends else refuses faults.Word)))))
+    else (if is_text word (codes "W") then asks_as (λ asked. asked) (alone_asks Switch fields)
+    else (if is_text word (codes "B") then refuses faults.Backends else refuses faults.Word))))))
 
 -- an empty line and one that begins with `#` are passed over
 abbrev pub line_of : List ℕ → LineMeaning

@@ -5,7 +5,7 @@ use Rattle.replay_schedule.specs.Meaning.{after_lines}
 use Rattle.wal_script.specs.declared.line.Refusal.{Refusal}
 use Rattle.wal_script.specs.declared.line.ScriptFault.{ScriptFault}
 use Rattle.wal_script.specs.declared.line.ScriptFault.TheVariants as faults
-use Rattle.wal_script.specs.Asked.{Asked, AskedLine, Insert, Commit, Flush, CommitAsync, WriteBehind}
+use Rattle.wal_script.specs.Asked.{Asked, AskedLine, Insert, Commit, Flush, CommitAsync, WriteBehind, Switch}
 use Rattle.wal_script.specs.Text.{is_text, lines_of, fields_of}
 use Rattle.wal_script.specs.Meaning.{LineMeaning, passes, asks, refuses, line_with, within_limit}
 
@@ -22,19 +22,24 @@ alone line [] = line
 alone line (field ∷ fields) = of_backend (refuses faults.Count)
 
 -- whether a line's first field is a letter of runs alone: a replay knows no commit that is answered
--- ahead, and no flush behind
+-- ahead, no flush behind, and no segment switch
 abbrev pub is_of_runs : List ℕ → Bool
-is_of_runs word = is_text word (codes "A") || is_text word (codes "L")
+is_of_runs word =
+    is_text word (codes "A") || is_text word (codes "L") || is_text word (codes "W")
 
--- a line by its first field; where the script takes a schedule, `S` is a letter, and those of runs
--- alone are none
+-- a line of a backend by its first field and those behind it; where the script takes a schedule the
+-- letters of runs alone are none
+abbrev pub backend_line_with : (takes_schedule : Bool) → List ℕ → List (List ℕ) → LineMeaning
+backend_line_with takes_schedule word fields =
+    if takes_schedule && is_of_runs word then refuses faults.Word else line_with (word ∷ fields)
+
+-- a line by its first field; `S` is a letter where the script takes a schedule
 abbrev pub script_line_with : (takes_schedule : Bool) → List (List ℕ) → ScriptLine
 script_line_with takes_schedule [] = of_backend (refuses faults.Word)
 script_line_with takes_schedule (word ∷ fields) =
     if is_text word (codes "B") then begins (length fields == 0)
     else (if takes_schedule && is_text word (codes "S") then alone ends fields
-    else (if takes_schedule && is_of_runs word then of_backend (refuses faults.Word)
-    else of_backend (line_with (word ∷ fields))))
+    else of_backend (backend_line_with takes_schedule word fields))
 
 -- an empty line and one that begins with `#` are passed over
 abbrev pub script_line_of : (takes_schedule : Bool) → List ℕ → ScriptLine
@@ -129,6 +134,7 @@ IsOfReplay (Commit value) = Unit {0}
 IsOfReplay Flush = Unit {0}
 IsOfReplay (CommitAsync value) = ⊥
 IsOfReplay WriteBehind = ⊥
+IsOfReplay Switch = ⊥
 
 -- the meaning of a replay's script, or its first refusal
 abbrev pub replay_meaning : List ℕ → Result ReplayMeaning Refusal

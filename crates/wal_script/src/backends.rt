@@ -2,7 +2,7 @@
 //! where it takes a schedule.
 
 ghost use Rattle.std.specs.Prelude.{◌≡◌, [], ◌+◌, ◌≤◌, IfOk, length, nat_lt};
-ghost use Rattle.wal_script.specs.Replay.{backends_from, begin_fault, most_backends, script_line_of, script_line_with};
+ghost use Rattle.wal_script.specs.Replay.{backend_line_with, backends_from, begin_fault, is_of_runs, most_backends, of_backend, script_line_of, script_line_with};
 ghost use Rattle.wal_script.specs.ReplayReading.{GivesBackends, HasReadBackends, StepGives};
 ghost use Rattle.wal_script.specs.Text.{lines_of};
 
@@ -133,8 +133,30 @@ fn read_fields(
             no_more(fields)?;
             Ok(LineRead::End)
         }
-        Some(b"A" | b"L") if takes_schedule => Err(LineError::Fault(ScriptFault::Word)),
-        Some(word) => Ok(LineRead::Ask(action_by(alloc, word, fields)?)),
+        Some(word) => backend_line(alloc, word, fields, takes_schedule),
         None => Err(LineError::Fault(ScriptFault::Word)),
     }
+}
+
+// What a line of a backend does.
+fn backend_line(
+    alloc: Global,
+    word: &[u8],
+    fields: Parts,
+    takes_schedule: bool,
+) -> Result<LineRead, LineError>
+    ensures { StepGives result
+        (of_backend (backend_line_with takes_schedule word.now fields.entry)) }
+{
+    if takes_schedule && is_of_runs(word) {
+        return Err(LineError::Fault(ScriptFault::Word));
+    }
+    Ok(LineRead::Ask(action_by(alloc, word, fields)?))
+}
+
+// Whether a letter is one of runs alone.
+fn is_of_runs(word: &[u8]) -> bool
+    ensures { result ≡ is_of_runs word.now }
+{
+    matches!(word, b"A" | b"L" | b"W")
 }

@@ -15,6 +15,8 @@ pub enum Action {
     CommitAsync(Body),
     /// Flush behind, as a log writer does: whole pages first, else what was answered.
     WriteBehind,
+    /// End the segment with this record, unless the log stands at a segment's start.
+    Switch(Body),
 }
 
 /// A line of a script. Lines are numbered from 1, all of them.

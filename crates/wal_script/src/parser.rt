@@ -8,6 +8,7 @@ use crate::fields::no_more;
 use crate::line::{Action, Line, Refusal, ScriptFault};
 use crate::line_error::LineError;
 use crate::records::{commit, insert};
+use record_spelling::Body;
 use std::alloc::{AllocError, AllocFailed, Global};
 use text_parts::Parts;
 
@@ -132,6 +133,10 @@ pub(crate) fn action_by(alloc: Global, word: &[u8], fields: Parts) -> Result<Act
         b"L" => {
             no_more(fields)?;
             Ok(Action::WriteBehind)
+        }
+        b"W" => {
+            no_more(fields)?;
+            Ok(Action::Switch(Body::switch(alloc)))
         }
         b"B" => Err(LineError::Fault(ScriptFault::Backends)),
         _ => Err(LineError::Fault(ScriptFault::Word)),

@@ -171,7 +171,12 @@ module _ (m : Machine) (ask : Ask) where
       ),
       (
         (
-          (c, is_posed Free (lock ∷ []) (Copying c) Away Idle (after_advance next v), under, left),
+          (
+            c,
+            is_posed Free (lock ∷ []) (Copying c) Away Idle (after_advance lock next v),
+            under,
+            left,
+          ),
           insert,
         ),
         omega arith,

@@ -26,7 +26,7 @@ use Rattle.written_log.specs.Written.{found_from, found_of}
 use Rattle.written_log.specs.WrittenLog.{BeginsAsLogPage, HavePagesOfLog}
 use Rattle.written_log.specs.LawfulLog.{IsFrontUpto, LawfulImagesDecodeToFronts, WholeLawfulImagesDecode}
 use Rattle.written_log.proofs.LawfulBeginning.{begins_first}
-use Rattle.written_log.proofs.LawfulFronts.{records_are_front}
+use Rattle.written_log.proofs.LawfulFronts.{ReadsFront, records_are_front, with_none}
 use Rattle.written_log.proofs.LawfulPages.{ArePagesOf, image_has_pages}
 use Rattle.written_log.proofs.LogPages.{IsWritten, byte_at-page, some_is}
 use Rattle.written_log.proofs.WrittenLogLaws.{none_below, written_log_decodes, written_order_comes_first}
@@ -34,7 +34,7 @@ use Rattle.written_log.proofs.WrittenLogLaws.{none_below, written_log_decodes, w
 -- ---- the log of a front
 
 -- the log of an order's front is the order's below where the front ends
-log_byte-front : (size sysid : ℕ) → IsSegmentSize size → (back front : List Entry) → IsChained size (front ++ back) → (a : ℕ) → a < end_address_of size (end_position size front) → log_byte size sysid (front ++ back) a ≡ log_byte size sysid front a
+pub log_byte-front : (size sysid : ℕ) → IsSegmentSize size → (back front : List Entry) → IsChained size (front ++ back) → (a : ℕ) → a < end_address_of size (end_position size front) → log_byte size sysid (front ++ back) a ≡ log_byte size sysid front a
 log_byte-front size sysid valid [] front chained a below = ap (λ (l : List Entry). log_byte size sysid l a) (append-nil front)
 log_byte-front size sysid valid (e ∷ back) front chained a below =
     let more = front ++ e ∷ [] in
@@ -59,7 +59,7 @@ length-found_from size prev (e ∷ es) = ap suc (length-found_from size (address
 
 module _ (size sysid : ℕ) (pages : Pages) (es : List Entry) (upto : ℕ) (valid : IsSegmentSize size) (known : 0 < sysid) (narrow : sysid < 2 ^ 64) (chained : IsChained size es) (bounded : end_address_of size (end_position size es) ≤ 2 ^ 60) (are : ArePagesOf size sysid pages es upto) where
   -- the log of a front that ends at or below `upto` stands in the pages
-  front_is_written : (front back : List Entry) → es ≡ front ++ back → end_address_of size (end_position size front) ≤ upto → IsWritten size sysid pages front
+  pub front_is_written : (front back : List Entry) → es ≡ front ++ back → end_address_of size (end_position size front) ≤ upto → IsWritten size sysid pages front
   front_is_written front back parts within =
       let all = subst (λ (l : List Entry). IsChained size l) parts chained in
       let rooms = rooms_of-append size front back in
@@ -93,22 +93,32 @@ module _ (size sysid : ℕ) (pages : Pages) (es : List Entry) (upto : ℕ) (vali
 
   module _ (no_torn : NoTornPass size pages es) where
     -- what is read is a front of the order
-    read_is_front : (begun : Result RecordPlace Answer) → beginning size pages size ≡ begun → (found : List FoundRecord) (answer : Answer) → ReadsFrom size pages None begun found answer → (count : ℕ) × (count ≤ length es) × (found ≡ found_of size (take count es))
-    read_is_front (Err told) begins found answer reads = (0, omega arith, reads.0)
+    read_is_front : (begun : Result RecordPlace Answer) → beginning size pages size ≡ begun → (found : List FoundRecord) (answer : Answer) → ReadsFrom size pages None begun found answer → ReadsFront size sysid pages es [] es found
+    read_is_front (Err told) begins found answer reads = subst (λ (l : List FoundRecord). ReadsFront size sysid pages es [] es l) (sym reads.0) (with_none size sysid pages es [] es)
     read_is_front (Ok place) begins found answer reads =
         let first : place.position ≡ end_position size [] = begins_first size sysid pages es upto valid known narrow chained are place begins ∙ sym (add-zero (first_position size)) in
         records_are_front size sysid pages es upto valid chained bounded are no_torn es [] refl place first (omega arith) (inr refl) found answer (records_computed size pages None place found answer reads)
 
+    -- none of it starts below the log's own start
+    pub all_is_found : (found : List FoundRecord) (answer : Answer) (decodes : Decodes size pages size None found answer) → decodes.read ≡ found
+    all_is_found found answer decodes =
+        let read = read_is_front (beginning size pages size) refl decodes.read answer decodes.reads in
+        let chained_front = (FollowsFrom-parts size (first_position size) (take read.count es) (drop read.count es) (subst (λ (l : List Entry). IsChained size l) (sym (take-append-drop read.count es)) chained)).0 in
+        let given = none_below size 0 (first_position size) (take read.count es) valid chained_front (omega arith) in
+        read.found_is ∙ given ∙ sym (ap (λ (l : List FoundRecord). filter (λ f. nat_le size f.start.0) l) read.found_is) ∙ sym decodes.given
+
+    pub front_is_read : (found : List FoundRecord) (answer : Answer) → Decodes size pages size None found answer → ReadsFront size sysid pages es [] es found
+    front_is_read found answer decodes = subst (ReadsFront size sysid pages es [] es) (all_is_found found answer decodes) (read_is_front (beginning size pages size) refl decodes.read answer decodes.reads)
+
     pub front_decodes : (found : List FoundRecord) (answer : Answer) → Decodes size pages size None found answer → IsFrontUpto size es upto found
     front_decodes found answer decodes =
-        let read = read_is_front (beginning size pages size) refl decodes.read answer decodes.reads in
-        let count = read.0 in
-        let chained_front = (FollowsFrom-parts size (first_position size) (take count es) (drop count es) (subst (λ (l : List Entry). IsChained size l) (sym (take-append-drop count es)) chained)).0 in
-        let given = none_below size 0 (first_position size) (take count es) valid chained_front (omega arith) in record {
-          count = count;
-          within = read.1;
-          found_is = decodes.given ∙ ap (λ (l : List FoundRecord). filter (λ f. nat_le size f.start.0) l) read.2 ∙ sym given;
-          holds = entry_is_among decodes.read answer decodes.reads count read.1 read.2;
+        let front = front_is_read found answer decodes in
+        let reads = subst (λ (l : List FoundRecord). ReadsFrom size pages None (beginning size pages size) l answer) (all_is_found found answer decodes) decodes.reads in
+        record {
+          count = front.count;
+          within = front.within;
+          found_is = front.found_is;
+          holds = entry_is_among found answer reads front.count front.within front.found_is;
         }
 
 pub lawful_images_decode_to_fronts : LawfulImagesDecodeToFronts

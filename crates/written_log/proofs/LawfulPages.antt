@@ -31,11 +31,11 @@ pub record ArePagesOf (size sysid : ℕ) (pages : Pages) (es : List Entry) (upto
 -- ---- the words of an image are those of its pages
 
 -- the k-th word of a page, zeros where it is not there
-abbrev word_in : Option (List ℕ) → ℕ → List ℕ
+abbrev pub word_in : Option (List ℕ) → ℕ → List ℕ
 word_in None k = zero_word
 word_in (Some bytes) k = word_of bytes k
 
-byte_of_zeros : (i : ℕ) → get_or zero_word i 0 ≡ 0
+pub byte_of_zeros : (i : ℕ) → get_or zero_word i 0 ≡ 0
 byte_of_zeros zero = refl
 byte_of_zeros (suc zero) = refl
 byte_of_zeros (suc (suc zero)) = refl
@@ -64,13 +64,13 @@ page_of_some None page number e has = absurd has
 page_of_some (Some i) page number e has = subst (λ (o : Option (List ℕ)). IsSome o) (sym (cond-true (ltb page i.pages) (Some (i.page page)) None (lt-ltb page i.pages (omega (arith, e, has))))) refl
 
 -- a page's place in its segment
-split_by : (page n size k : ℕ) → size ≡ 8192 * n → 0 < n → k < 8192 → (page * 8192 + k) / size ≡ page / n
+pub split_by : (page n size k : ℕ) → size ≡ 8192 * n → 0 < n → k < 8192 → (page * 8192 + k) / size ≡ page / n
 split_by page n size k whole some lt =
     let inner : (page * 8192 + k) / 8192 ≡ page = omega arith in
     ap (λ (m : ℕ). (page * 8192 + k) / m) whole ∙ sym (div-div-eq-div-mul (page * 8192 + k) 8192 n) ∙ ap (λ (p : ℕ). p / n) inner
 
 module _ (size : ℕ) (image : DiskImage) (valid : IsSegmentSize size) where
-  page_word : (page k : ℕ) → k < 1024 → image_word size image (8 * (page * 1024 + k)) ≡ word_in (page_of_image (image (page / pages_of size)) (page % pages_of size)) k
+  pub page_word : (page k : ℕ) → k < 1024 → image_word size image (8 * (page * 1024 + k)) ≡ word_in (page_of_image (image (page / pages_of size)) (page % pages_of size)) k
   page_word page k lt =
       let n = pages_of size in
       let whole = segment_size_in_pages size valid in
@@ -87,11 +87,11 @@ module _ (size : ℕ) (image : DiskImage) (valid : IsSegmentSize size) where
   read_page : (page : ℕ) → (page + 1) * 8192 ≤ 2 ^ 60 → pages_in size image page ≡ page_in_image page
   read_page page low = cond-true (leb ((page + 1) * 8192) (2 ^ 60)) (page_in_image page) None (le-leb ((page + 1) * 8192) (2 ^ 60) low)
 
-  no_page_above : (page : ℕ) → 2 ^ 60 < (page + 1) * 8192 → pages_in size image page ≡ None
+  pub no_page_above : (page : ℕ) → 2 ^ 60 < (page + 1) * 8192 → pages_in size image page ≡ None
   no_page_above page high = cond-false (leb ((page + 1) * 8192) (2 ^ 60)) (page_in_image page) None (lt-leb ((page + 1) * 8192) (2 ^ 60) high)
 
   -- the bytes of a word are those that a reader finds
-  word_is_read : (k i : ℕ) → i < 8 → 8 * k < 2 ^ 60 → byte_at (pages_in size image) (8 * k + i) ≡ get_or (image_word size image (8 * k)) i 0
+  pub word_is_read : (k i : ℕ) → i < 8 → 8 * k < 2 ^ 60 → byte_at (pages_in size image) (8 * k + i) ≡ get_or (image_word size image (8 * k)) i 0
   word_is_read k i lt low =
       let page = k / 1024 in
       let j = k % 1024 in

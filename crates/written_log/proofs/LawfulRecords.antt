@@ -17,7 +17,7 @@ use Rattle.record_spelling.proofs.SwitchLaws.{logged_size}
 use Rattle.record_decode.specs.Reading.{reading_of}
 use Rattle.wal_record.proofs.SpellingReads.{spelling_reads}
 use Rattle.wal_types.specs.declared.lsn.Lsn.{Lsn}
-use Rattle.wal_page.specs.Order.{Entry, FollowsFrom, IsChained, rooms_of, end_position, prev_of, finish_of, position_behind}
+use Rattle.wal_page.specs.Order.{Entry, FollowsFrom, IsChained, rooms_of, room_at, end_position, prev_of, finish_of, position_behind}
 use Rattle.wal_page.specs.Log.{stream_of, log_byte}
 use Rattle.wal_page.proofs.LogByteLaws.{log_byte-fits, log_byte-stream, stream_of-entry}
 use Rattle.wal_page.proofs.OrderLaws.{FollowsFrom-parts}
@@ -120,13 +120,14 @@ module _ (size sysid : ℕ) (pages : Pages) (es : List Entry) (upto : ℕ) (vali
     pub entry_whole : e.start % 8 ≡ 0
     entry_whole = omega (arith, entry_start, end_position-whole size valid front own_parts.0)
 
-    own_byte : (j : ℕ) → j < room → log_byte size sysid es (address_of size (e.start + j)) ≡ get_or own j 0
+    -- its bytes, and behind them 0
+    pub own_byte : (j : ℕ) → j < room_at size e.start e.value → log_byte size sysid es (address_of size (e.start + j)) ≡ get_or own j 0
     own_byte j lt =
         let at : e.start + j - first_position size ≡ rooms_of size front + j = omega (arith, entry_start) in
         log_byte-position (e.start + j) (omega (arith, entry_start)) ∙ ap (λ (q : ℕ). get_or (stream_of size es) q 0) at
-        ∙ ap (λ (l : List Entry). get_or (stream_of size l) (rooms_of size front + j) 0) parts ∙ stream_of-entry size front others e j (omega (arith, lt))
+        ∙ ap (λ (l : List Entry). get_or (stream_of size l) (rooms_of size front + j) 0) parts ∙ stream_of-entry size front others e j lt
 
-    here_byte : (j : ℕ) → j < room → get_or here j 0 ≡ byte_at pages (address_of size (e.start + j))
+    pub here_byte : (j : ℕ) → j < room → get_or here j 0 ≡ byte_at pages (address_of size (e.start + j))
     here_byte j lt = byte_from room e.start j lt
 
     -- each word of the record is zero or its own
@@ -137,7 +138,7 @@ module _ (size sysid : ℕ) (pages : Pages) (es : List Entry) (upto : ℕ) (vali
         let further : (i : ℕ) → e.start + 8 * k + i ≡ e.start + (8 * k + i) = λ i. omega arith in
         elim (word_at_position (e.start + 8 * k) (omega (arith, entry_whole))) [
           | inl zeros ↦ inl (λ i less. here_byte (8 * k + i) (within i less) ∙ ap (λ (p : ℕ). byte_at pages (address_of size p)) (sym (further i)) ∙ zeros i less)
-          | inr owned ↦ inr (λ i less. here_byte (8 * k + i) (within i less) ∙ ap (λ (p : ℕ). byte_at pages (address_of size p)) (sym (further i)) ∙ owned i less ∙ ap (λ (p : ℕ). log_byte size sysid es (address_of size p)) (further i) ∙ own_byte (8 * k + i) (within i less))
+          | inr owned ↦ inr (λ i less. here_byte (8 * k + i) (within i less) ∙ ap (λ (p : ℕ). byte_at pages (address_of size p)) (sym (further i)) ∙ owned i less ∙ ap (λ (p : ℕ). log_byte size sysid es (address_of size p)) (further i) ∙ own_byte (8 * k + i) (omega (arith, within i less)))
         ]
 
     -- bytes of which each word is its own are its own
@@ -157,7 +158,7 @@ module _ (size sysid : ℕ) (pages : Pages) (es : List Entry) (upto : ℕ) (vali
         let j : ℕ = 8 * k + i in
         let within : j < room = omega (arith, is, lt) in
         let below = address_of-below_end size valid (e.start + j) (position_behind size e) (omega (arith, within)) in
-        here_byte j within ∙ are.below (address_of size (e.start + j)) (omega (arith, below, finish)) ∙ own_byte j within)
+        here_byte j within ∙ are.below (address_of size (e.start + j)) (omega (arith, below, finish)) ∙ own_byte j (omega (arith, within)))
 
     is_torn : (k : ℕ) → k < room / 8 → word_at here k ≢ word_at own k → IsTorn size pages e prev
     is_torn k lt other = record {
@@ -212,7 +213,7 @@ module _ (size sysid : ℕ) (pages : Pages) (es : List Entry) (upto : ℕ) (vali
             let is = room_is (assembled e.value) in
             elim (own_word 0 (omega (arith, is))) [ inl zeros ↦ absurd (not_zero (zero_eight here 0 zeros)) | inr same ↦ same ]
 
-        total_is : number_at w32 (bytes_from size pages 8 e.start) 0 ≡ size_of e.value
+        pub total_is : number_at w32 (bytes_from size pages 8 e.start) 0 ≡ size_of e.value
         total_is =
             let is = room_is (assembled e.value) in
             ap (λ (bytes : List ℕ). number_at w32 bytes 0) (front_of 8 (omega (arith, is))) ∙ number_at-take w32 here 8 0 (omega arith)
@@ -237,7 +238,7 @@ module _ (size sysid : ℕ) (pages : Pages) (es : List Entry) (upto : ℕ) (vali
             ]
 
         -- so it is whole
-        is_whole : (IsTorn size pages e prev → IsSeenTorn size pages e prev) → here ≡ own
+        pub is_whole : (IsTorn size pages e prev → IsSeenTorn size pages e prev) → here ≡ own
         is_whole no_pass =
             let is = room_is (assembled e.value) in
             elim (all_or_one here own (room / 8) (λ k lt. own_word k (omega (arith, lt)))) [

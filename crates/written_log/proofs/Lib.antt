@@ -16,7 +16,13 @@ pub mod LawfulLaws
 pub mod WordsOfBytes
 pub mod ReadRecord
 pub mod LawfulRecords
+pub mod OwnHeaders
+pub mod FoundEntries
 pub mod LawfulFronts
 pub mod LawfulBeginning
 pub mod TornLaws
 pub mod SettledLogs
+pub mod FoundImages
+pub mod ReadImages
+pub mod FoundLogs
+pub mod SettledFound

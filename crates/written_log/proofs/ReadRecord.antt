@@ -1,7 +1,8 @@
--- What holds where a record is read: it passed each check, and its bytes said so.
-use Rattle.std.proofs.Common.{◌≡◌, ℕ, ◌/◌, Bool, true, false, not, eqb, List, ◌++◌, take, drop, Option, Some, None, Ok, refl}
+-- What holds where a record is read: it and the pages that it needs passed each check, and its bytes said so.
+use Rattle.std.proofs.Common.{◌≡◌, ℕ, ◌/◌, true, false, not, eqb, List, ◌++◌, take, drop, Option, Some, None, Ok, refl}
 use Rattle.std.specs.Prelude.{slice_index}
 use Rattle.std.specs.Int.{w32, w64}
+use Rattle.std.proofs.lemmas.Bool.{not-false}
 use Rattle.byte_position.specs.Position.{address_of}
 use Rattle.wal_crc32c.specs.Crc32c.{crc32c}
 use Rattle.record_spelling.specs.Numbers.{number_at}
@@ -17,21 +18,26 @@ use Rattle.wal_reader.specs.Decodes.{crc_rows, damaged, ended, header_rows, is_r
 use Rattle.wal_reader.specs.ReadAt.{answer_or, found_or, read_at, read_in}
 use Rattle.wal_reader.proofs.SettledLaws.{passes_both, passes_row}
 
--- the record that is found at a place: its first word is not zero, it names the right record before it, its CRC is right, and its bytes spell it
+-- the size that the first word of a record gives
+abbrev pub claimed_size : ℕ → Pages → RecordPlace → ℕ
+claimed_size size pages place = number_at w32 (bytes_from size pages 8 place.position) 0
+
+-- the record that is found at a place: its first word is not zero, it names the right record before it, its CRC is right, and its bytes spell it; its page is there, which passes its checks, as do the pages into which it continues
 pub record IsFoundAt (size : ℕ) (pages : Pages) (place : RecordPlace) (found : FoundRecord) : Type 0 where
   pub some_word : is_zero_word (bytes_from size pages 24 place.position) ≡ false
   pub right_prev : is_right_prev place.prev (address_of size place.position) (number_at w64 (bytes_from size pages 24 place.position) 8) ≡ true
   pub right_crc : (let whole = bytes_from size pages (number_at w32 (bytes_from size pages 8 place.position) 0) place.position in eqb (crc32c (drop 24 whole ++ take 20 whole)) (number_at w32 whole 20)) ≡ true
+  pub page : List ℕ
+  pub here : pages (address_of size place.position / 8192) ≡ Some page
+  pub opens : first_fault (opening_rows size place page) ≡ None
+  pub header_pages : first_fault (rows_of_pages size pages place (claimed_size size pages place) (address_of size place.position / 8192) (page_of_byte size place.position 24)) ≡ None
+  pub last_pages : first_fault (rows_of_pages size pages place (claimed_size size pages place) (page_of_byte size place.position 24) (page_of_byte size place.position (claimed_size size pages place))) ≡ None
   pub spelled : (let header = bytes_from size pages 24 place.position in let total = number_at w32 header 0 in found_or size place total (number_at w64 header 8) (reading_of (bytes_from size pages total place.position))) ≡ Ok found
 
-holds : (b : Bool) → not b ≡ false → b ≡ true
-holds true e = refl
-holds false e = absurd cc
-
 module _ (size : ℕ) (pages : Pages) (place : RecordPlace) (found : FoundRecord) where
-  found_where : (bytes : List ℕ) (fault : Option Answer) → first_fault (record_rows size pages None place bytes) ≡ fault → answer_or size pages place fault ≡ Ok found → IsFoundAt size pages place found
-  found_where bytes (Some answer) fails e = absurd cc
-  found_where bytes None passes e =
+  found_where : (bytes : List ℕ) → pages (address_of size place.position / 8192) ≡ Some bytes → (fault : Option Answer) → first_fault (record_rows size pages None place bytes) ≡ fault → answer_or size pages place fault ≡ Ok found → IsFoundAt size pages place found
+  found_where bytes there (Some answer) fails e = absurd cc
+  found_where bytes there None passes e =
       let start = address_of size place.position in
       let total = number_at w32 (bytes_from size pages 8 place.position) 0 in
       let header_bytes = bytes_from size pages 24 place.position in
@@ -54,15 +60,20 @@ module _ (size : ℕ) (pages : Pages) (place : RecordPlace) (found : FoundRecord
       let of_prev = passes_row (not is_right) (damaged start (damages.Prev (record { 0 = number_at w64 header_bytes 8 }))) _ of_manager.1 in
       let is_crc = eqb (crc32c (drop 24 whole ++ take 20 whole)) (number_at w32 whole 20) in record {
         some_word = (passes_row no_record (ended size place.position) _ behind.0).0;
-        right_prev = holds is_right of_prev.0;
-        right_crc = holds is_crc (passes_row (not is_crc) (damaged start damages.Crc) _ of_crc.1).0;
+        right_prev = not-false is_right of_prev.0;
+        right_crc = not-false is_crc (passes_row (not is_crc) (damaged start damages.Crc) _ of_crc.1).0;
+        page = bytes;
+        here = there;
+        opens = parts.0;
+        header_pages = of_header.0;
+        last_pages = of_last.1;
         spelled = e;
       }
 
-  found_on : (page : Option (List ℕ)) → read_in size pages None place page ≡ Ok found → IsFoundAt size pages place found
-  found_on None e = absurd cc
-  found_on (Some bytes) e = found_where bytes (first_fault (record_rows size pages None place bytes)) refl e
+  found_on : (page : Option (List ℕ)) → pages (address_of size place.position / 8192) ≡ page → read_in size pages None place page ≡ Ok found → IsFoundAt size pages place found
+  found_on None there e = absurd cc
+  found_on (Some bytes) there e = found_where bytes there (first_fault (record_rows size pages None place bytes)) refl e
 
   pub found_at : read_at size pages None place ≡ Ok found → IsFoundAt size pages place found
   unfolding read_at
-  found_at e = found_on (pages (address_of size place.position / 8192)) e
+  found_at e = found_on (pages (address_of size place.position / 8192)) refl e

@@ -43,7 +43,7 @@ zero_eight xs at h =
     let e : (i : ℕ) → i < 8 → get_or (take 8 (drop at xs)) i 0 ≡ 0 = λ i lt. byte_of_front 8 at i xs lt ∙ h i lt in
     rw (e 0 (omega arith), e 1 (omega arith), e 2 (omega arith), e 3 (omega arith), e 4 (omega arith), e 5 (omega arith), e 6 (omega arith), e 7 (omega arith)) refl
 
-by_eight : (P : ℕ → Type 0) → P 0 → P 1 → P 2 → P 3 → P 4 → P 5 → P 6 → P 7 → (i : ℕ) → i < 8 → P i
+pub by_eight : (P : ℕ → Type 0) → P 0 → P 1 → P 2 → P 3 → P 4 → P 5 → P 6 → P 7 → (i : ℕ) → i < 8 → P i
 by_eight P a b c d e f g h zero lt = a
 by_eight P a b c d e f g h (suc zero) lt = b
 by_eight P a b c d e f g h (suc (suc zero)) lt = c

@@ -5,3 +5,5 @@ pub mod Agreeing
 pub mod LawfulLog
 pub mod TornLaws
 pub mod SettledLog
+pub mod FoundLog
+pub mod SettledFound

@@ -24,8 +24,8 @@ pub record MayHoldLog (size sysid count : ℕ) (es : List Entry) (state : DiskSt
   pub bounded : end_address_of size (end_position size es) ≤ 2 ^ 60
   pub lawful : StateAssures size (IsAmong count) (IsZeroOrLogWord size sysid es) state
 
--- an image that a crash leaves meanwhile, in which no torn record passes its CRC, decodes to a front
--- of the order ..
+-- an image that a crash leaves meanwhile, in which no torn record passes its CRC, decodes to a
+-- front of the order ..
 abbrev pub SettlingLogsDecodeToFronts : Type 0
 SettlingLogsDecodeToFronts =
     (size sysid count end moment m : ℕ) (es : List Entry) (before : DiskState) (tape : Tape)

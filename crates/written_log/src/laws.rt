@@ -1,5 +1,14 @@
 ghost use Rattle.written_log.specs.Agreeing.{AgreeingLogsDecodeAlike};
+ghost use Rattle.written_log.specs.FoundLog.{FoundLogsReadAsLog, FoundLogsStandInImages};
 ghost use Rattle.written_log.specs.LawfulLog.{LawfulImagesDecodeToFronts, WholeLawfulImagesDecode};
+ghost use Rattle.written_log.specs.SettledFound.{
+  CrashedDisksMayHoldLog,
+  CrashedLogsAreFoundAgain,
+  LossesLeaveFronts,
+  QuietLogsDecodeToFound,
+  SettledLogsDecodeToFound,
+  SyncedLogsDecodeToFound,
+};
 ghost use Rattle.written_log.specs.SettledLog.{SettlingLogsDecodeToFronts, SyncedLogsDecodeToFronts};
 ghost use Rattle.written_log.specs.TornLaws.{EntriesUptoAreWhole, SeenTornFailsChecks};
 ghost use Rattle.written_log.specs.WrittenLog.{OwnPagesHoldLog, WrittenLogDecodes};
@@ -38,4 +47,29 @@ pub fn torn_records_are_seen()
 /// records.
 pub fn agreeing_logs_decode_alike()
     ensures { AgreeingLogsDecodeAlike }
+{}
+
+/// A law: what a reader finds of a log stands there. An image that is lawful for an order, in which
+/// no torn record passes its CRC, is the order's log up to the end of what it decodes to; and a
+/// disk that may hold words of an order, and nothing else, reads as this log up to there.
+pub fn found_logs_stand()
+    ensures images { FoundLogsStandInImages }
+    ensures disks { FoundLogsReadAsLog }
+{}
+
+/// A law: while a log that was found is settled, what images decode to that a crash leaves, in
+/// which no torn record passes its CRC. From the end of the first syncs on, and from the first
+/// moment on if nothing waited for a sync, it is just what was found. Before that it is a front of
+/// it, if a crash may leave nothing but words as they are read and zeros.
+///
+/// Once the log is settled it is what was found, and then the end, with no premise on torn records.
+/// What a crash leaves meanwhile is a disk on which a log was found, with the same order; and what
+/// is asked of such a disk's words holds of one that a crash left of a log that was written.
+pub fn settling_keeps_found()
+    ensures losses { LossesLeaveFronts }
+    ensures quiet { QuietLogsDecodeToFound }
+    ensures synced { SyncedLogsDecodeToFound }
+    ensures settled { SettledLogsDecodeToFound }
+    ensures again { CrashedLogsAreFoundAgain }
+    ensures met { CrashedDisksMayHoldLog }
 {}

@@ -5,6 +5,6 @@
 mod laws;
 
 pub use laws::{
-    agreeing_logs_decode_alike, lawful_images_decode, settled_logs_decode, torn_records_are_seen,
-    written_log_decodes,
+    agreeing_logs_decode_alike, found_logs_stand, lawful_images_decode, settled_logs_decode,
+    torn_records_are_seen, written_log_decodes,
 };

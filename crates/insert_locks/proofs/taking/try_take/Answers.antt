@@ -25,8 +25,8 @@ loop-tried-preserved g c =
     let few = c.loop-tried-test.true in
     let wide = c.loop-tried.invariant.0 in
     let same = c.loop-tried.invariant.2 in
-    let word = c.try_lock-word.result in
-    let tried = c.try_lock-word.ensures in
+    let word = c.try_take_lock-word.result in
+    let tried = c.try_take_lock-word.ensures in
     let held = tried.held c.if-word-eq0.false in (
       simp (Rattle.std.proofs.Math.ListN.length-set) wide,
       meets_more (view_of old) tries word c.loop-tried.seen (omega (arith, few, wide))

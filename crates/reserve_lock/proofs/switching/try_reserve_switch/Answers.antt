@@ -10,8 +10,10 @@ use Rattle.reserve_lock.specs.Reserved.{IsPositionLocked, IsSwitchReserved, ever
 use Rattle.reserve_lock.proofs.Records.{switch_ends, switch_known, switch_size}
 use Rattle.reserve_lock.proofs.Since.{locks_since, switch_since}
 use Rattle.reserve_lock.proofs.Steps.{same_setup}
-use Rattle.reserve_lock.proofs.SwitchRoom.{few_left, has_every_lock}
+use Rattle.reserve_lock.proofs.SwitchRoom.{few_left, has_every_lock, some_left}
+use Rattle.reserve_lock.proofs.switching.try_reserve_switch.Given.{Over}
 use Rattle.reserve_lock.proofs.switching.try_reserve_switch.Goals as goal
+use Rattle.reserve_lock.proofs.switching.try_reserve_switch.Goals.{After-room_at}
 
 pub reserve_locked-requires-clause-known : goal.reserve_locked-requires-clause-known
 reserve_locked-requires-clause-known g c = switch_known c.args.body.now c.requires.switch
@@ -22,6 +24,20 @@ reserve_locked-requires-clause-all g c = λ switches.
     (sym (locks_since (setup_of c.args.seated.now) c.in-Ok.at (view_of c.args.seated.now)
     (view_of c.lock_seen.new.seated) c.in-Ok.ensures.locked every_lock c.requires.holds))
     has_every_lock
+
+-- the log does not stand at a segment's start
+not_at_start : (g : Over) (c : After-room_at g)
+    → end_form (setup_of c.args.seated.now) c.in-Ok.at
+    % (setup_of c.args.seated.now).segment_size ≢ 0
+not_at_start g c = λ starts.
+    let setup = setup_of c.args.seated.now in
+    let at = c.in-Ok.at in
+    let geometry = c.geometry-geometry.ensures
+    ∙ ap (λ (s : Setup). s.segment_size) c.shape.ensures in
+    let end = c.to_end_lsn-end.ensures ∙ ap (λ (n : ℕ). end_address_of n at) geometry in
+    let size = c.segment_size.ensures.value ∙ geometry in
+    c.if-end-segment_size-eq0.false (ap (λ (n : ℕ). n % c.segment_size.result) end
+    ∙ ap (λ (n : ℕ). end_form setup at % n) size ∙ starts)
 
 pub returns-in-Ok-reserve_locked-clause-answers : goal.returns-in-Ok-reserve_locked-clause-answers
 returns-in-Ok-reserve_locked-clause-answers g c =
@@ -37,12 +53,8 @@ returns-in-Ok-reserve_locked-clause-answers g c =
     c.in-Ok.ensures.stays.same_table in
     let locked = subst (λ (s : Setup). IsPositionLocked s at old mid) (sym same)
     c.in-Ok.ensures.locked in
-    let geometry = c.geometry-geometry.ensures ∙ ap (λ (s : Setup). s.segment_size) c.shape.ensures in
-    let end = c.to_end_lsn-end.ensures ∙ ap (λ (n : ℕ). end_address_of n at) geometry in
-    let size = c.segment_size.ensures.value ∙ geometry in
-    let inside : end_form setup at % setup.segment_size ≢ 0 = λ starts.
-    c.if-end-segment_size-eq0.false (ap (λ (n : ℕ). n % c.segment_size.result) end
-    ∙ ap (λ (n : ℕ). end_form setup at % n) size ∙ starts) in (
+    let inside = not_at_start g
+    (goal.at.returns-in-Ok-reserve_locked-clause-answers g c).After-room_at in (
       subst (λ (s : Setup). IsSwitchReserved s c.args.body.now old new r.start.0 r.placed) same
           (switch_since own at old mid locked c.args.body.now new r.start.0 r.placed given.0
           given.1 c.requires.holds (switch_ends c.args.body.now c.requires.switch)
@@ -63,7 +75,12 @@ returns-in-Err-reserve_locked-clause-no_room g c =
     let geometry = c.geometry-geometry.ensures ∙ ap (λ (s : Setup). s.segment_size) c.shape.ensures in
     let size = c.segment_size.ensures.value ∙ geometry in
     let room = c.room_at.ensures ∙ ap (λ (n : ℕ). assembled_room_at n at body) geometry in
-    few_left setup (subst IsSegmentSize size c.segment_size.ensures.valid) at free body locked.whole
-    (switch_ends body c.requires.switch) (switch_size body c.requires.switch) locked.within
-    (full.0 ∙ ap (λ (s : Setup). log_limit s - at) same)
-    (subst (λ (n : ℕ). free < n) room full.1)
+    let valid = subst IsSegmentSize size c.segment_size.ensures.valid in
+    let left = full.0 ∙ ap (λ (s : Setup). log_limit s - at) same in (
+      some_left setup valid at free locked.within left
+          (not_at_start g
+          (goal.at.returns-in-Err-reserve_locked-clause-no_room g c).After-room_at),
+      few_left setup valid at free body locked.whole (switch_ends body c.requires.switch)
+          (switch_size body c.requires.switch) locked.within left
+          (subst (λ (n : ℕ). free < n) room full.1),
+    )

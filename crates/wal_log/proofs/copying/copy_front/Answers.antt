@@ -1,6 +1,7 @@
 use Rattle.std.proofs.Common.{◌≡◌, ℕ, ◌+◌, ◌-◌, ◌*◌, ◌<◌, ◌≤◌, refl, sym, ap, ◌∙◌, subst, arith}
 use Rattle.wal_page.specs.Placed.{PlacedState, placed_end}
 use Rattle.wal_core.specs.declared.setup.Setup.{Setup}
+use Rattle.wal_core.specs.Moves.{with_told}
 use Rattle.wal_core.specs.Views.{View}
 use Rattle.wal_rule.specs.SeatedPasses.{setup_of, view_of}
 use Rattle.insert_locks.specs.Holding.{locks_of}
@@ -9,7 +10,7 @@ use Rattle.wal_log.specs.declared.copying.CopyStop.{CopyStop}
 use Rattle.wal_log.specs.declared.copying.CopyStop.TheVariants.{Asked, Whole, Absent}
 use Rattle.wal_log.specs.Copying.{StopsAtOnce, TellsStop}
 use Rattle.wal_log.specs.PassLogs.{log_of_pass}
-use Rattle.wal_log.proofs.CopyLaws.{alone_rest, copied_on, goes_on_itself, stood_still, told_keeps}
+use Rattle.wal_log.proofs.CopyLaws.{alone_rest, copied_on, goes_on_itself, stood_still, told_keeps, told_under_all}
 use Rattle.wal_log.proofs.Seated.{same_setup, view_is}
 use Rattle.wal_log.proofs.copying.copy_front.Goals as goal
 
@@ -72,8 +73,10 @@ returns-then-most-eq0-clause-tells g c =
       few = few;
       next_is = c.loop-held.invariant.next_is;
       earlier = (view_of c.loop-held.seated).told;
+      earlier_under = (view_of c.loop-held.seated).told_under;
       stop = (omega (arith, few, none), omega (arith, before, next, end, ended));
       told = λ some left. absurd (omega (arith, some, none));
+      under = λ some left. absurd (omega (arith, some, none));
       silent = c.loop-held.invariant.silent;
     }
 
@@ -81,7 +84,7 @@ pub returns-in-Err-clause-tells : goal.returns-in-Err-clause-tells
 returns-in-Err-clause-tells g c =
     let tells = c.in-Err.ensures.tells in
     let v : View = view_of c.copy_some.new.seated in
-    let told = view_is c.tell_progress.ensures.view in
+    let told = view_is c.tell_progress.ensures.told.view in
     let ended = ap placed_end c.loop-held.invariant.next_is in
     let before = c.loop-held-test.true in
     let next = c.next_lsn.ensures in
@@ -89,9 +92,10 @@ returns-in-Err-clause-tells g c =
       few = c.loop-held.invariant.few;
       next_is = tells.0 ∙ c.loop-held.invariant.next_is;
       earlier = v.told;
+      earlier_under = v.told_under;
       stop = subst (λ (w : View). TellsStop (setup_of c.args.seated.now) c.args.most c.loop-held.k
           c.copy_some.new.placed w c.in-Err.stop)
-          (sym (ap (λ (w : View). record w { told = v.told }) told))
+          (sym (ap (λ (w : View). with_told v.told v.told_under w) told))
           (subst (λ (p : PlacedState). TellsStop (setup_of c.args.seated.now) c.args.most
           c.loop-held.k p v c.in-Err.stop) (sym tells.0)
           (subst (λ (s : Setup). TellsStop s c.args.most c.loop-held.k c.loop-held.placed v
@@ -101,6 +105,10 @@ returns-in-Err-clause-tells g c =
           c.loop-held.invariant.few (omega (arith, before, next, end, ended)) c.in-Err.stop
           tells.1)));
       told = λ some left. ap (λ (w : View). w.told) told;
+      under = λ some left. told_under_all c.copy_some.new.seated c.tell_progress.new.seated
+          (locks_of c.args.held) c.copy_some.new.placed (c.copy_some.new.placed).next
+          (c.copy_some.ensures.copies (locks_of c.args.held) c.loop-held.invariant.copies)
+          c.tell_progress.ensures.told;
       silent = λ none. absurd (c.if-most-eq0.false none);
     }
 
@@ -114,22 +122,24 @@ returns-clause-tells g c =
       few = c.loop-held.invariant.few;
       next_is = c.loop-held.invariant.next_is;
       earlier = (view_of c.loop-held.seated).told;
+      earlier_under = (view_of c.loop-held.seated).told_under;
       stop = omega (arith, within, behind, next, end, ended);
       told = λ some left. absurd (omega (arith, left, behind, next, end, ended));
+      under = λ some left. absurd (omega (arith, left, behind, next, end, ended));
       silent = c.loop-held.invariant.silent;
     }
 
 pub returns-in-Err-clause-copies_on : goal.returns-in-Err-clause-copies_on
 returns-in-Err-clause-copies_on g c =
     let first : PlacedState = c.args.placed.now in
-    let told = c.tell_progress.ensures.view in
+    let told = c.tell_progress.ensures.told in
     copied_on first c.copy_some.new.placed c.copy_some.new.placed c.args.seated.now
     c.copy_some.new.seated c.tell_progress.new.seated
     (copied_on first c.loop-held.placed c.copy_some.new.placed c.args.seated.now
     c.loop-held.seated c.copy_some.new.seated c.loop-held.invariant.copies_on
     c.copy_some.ensures.copies_on)
     (stood_still c.copy_some.new.placed c.copy_some.new.seated c.tell_progress.new.seated
-    (told_keeps c.copy_some.new.seated c.tell_progress.new.seated
+    (told_keeps c.copy_some.new.seated c.tell_progress.new.seated (locks_of c.args.held)
     (c.copy_some.new.placed).next told)
-    (ap (λ (v : View). log_of_pass v) (view_is told))
-    (ap (λ (v : View). v.working) (view_is told)))
+    (ap (λ (v : View). log_of_pass v) (view_is told.view))
+    (ap (λ (v : View). v.working) (view_is told.view)))

@@ -54,14 +54,15 @@ land-requires-clause-copies g c =
       are = one_lock c.in_ok-begun.begun.lock begun.lock_low;
       under = subst (λ (s : Setup). CopiesUnder s (c.in_ok-begun.begun.lock ∷ [])
           c.in_ok-begun.begun.placed (view_of c.begin.new.seated))
-          (sym (same_setup c.args.seated.now c.begin.new.seated stays.same_table)) begun.copies;
+          (sym (same_setup c.args.seated.now c.begin.new.seated stays.same_table))
+          begun.place.copies;
       empty = stays.same_hand ∙ c.requires.rests.empty;
     }
 
 pub returns-in-Ok-clause-inserts : goal.returns-in-Ok-clause-inserts
 returns-in-Ok-clause-inserts g c =
     let begun = c.in_ok-begun.ensures.begins in
-    let lands = c.in-Ok.ensures.lands begun.entry begun.in_flight in
+    let lands = c.in-Ok.ensures.lands begun.place.entry begun.place.in_flight in
     receives (setup_of c.args.seated.now) c.args.body.now (view_of c.args.seated.now)
     (view_of c.begin.new.seated) (view_of c.land.new.seated) c.in_ok-begun.begun begun
     c.begin.ensures.goes_on.keeps c.land.ensures.rests.keeps c.land.ensures.log lands.0 lands.1
@@ -75,7 +76,7 @@ returns-in-Err-clause-inserts g c =
     (refuses (setup_of c.args.seated.now) c.args.body.now (view_of c.args.seated.now)
     (view_of c.begin.new.seated) (view_of c.land.new.seated) c.in_ok-begun.begun begun
     c.begin.ensures.goes_on.keeps c.land.ensures.rests.keeps c.land.ensures.log c.in-Err.fault
-    (c.in-Err.ensures.lands begun.entry begun.in_flight))
+    (c.in-Err.ensures.lands begun.place.entry begun.place.in_flight))
 
 module _ (g : Over) (c : After-land g) where
   rested : ComesToRest c.args.seated.now c.land.new.seated

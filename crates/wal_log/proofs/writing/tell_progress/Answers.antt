@@ -1,7 +1,6 @@
 use Rattle.std.proofs.Common.{ℕ, sym, subst, arith}
-use Rattle.wal_rule.specs.SeatedPasses.{HasView, view_of}
-use Rattle.wal_core.specs.Moves.{after_advance}
-use Rattle.insert_locks.specs.Holding.{MayTell, locks_of}
+use Rattle.wal_rule.specs.SeatedPasses.{view_of}
+use Rattle.insert_locks.specs.Holding.{HasTold, MayTell, locks_of}
 use Rattle.wal_log.proofs.NextWord.{may_tell, told_low}
 use Rattle.wal_log.proofs.writing.tell_progress.Goals as goal
 
@@ -19,6 +18,6 @@ tell-requires-clause-may g c = subst
 
 pub returns : goal.returns
 returns g c = record {
-  view = subst (λ (upto : ℕ). HasView (after_advance upto (view_of c.args.seated.now))
-      c.args.seated.now c.tell.new.seated) c.next_lsn-next.ensures c.tell.ensures.view;
+  told = subst (λ (upto : ℕ). HasTold (locks_of c.args.held) upto c.args.seated.now
+      c.tell.new.seated) c.next_lsn-next.ensures c.tell.ensures.told;
 }

@@ -1,11 +1,11 @@
 use Rattle.std.proofs.Common.{◌≡◌, ℕ, List, sym, ap, ◌∙◌, subst}
 use Rattle.std.proofs.lemmas.Result.{err_from_is_err_and}
 use Rattle.wal_page.specs.Placed.{PlacedState}
-use Rattle.wal_core.specs.Moves.{after_advance}
+use Rattle.wal_core.specs.Moves.{with_told}
 use Rattle.wal_core.specs.Views.{Idle, View}
 use Rattle.wal_rule.specs.declared.seated.SeatedPass.{SeatedPass}
-use Rattle.wal_rule.specs.SeatedPasses.{HasView, StaysSeated, view_of}
-use Rattle.insert_locks.specs.Holding.{locks_of}
+use Rattle.wal_rule.specs.SeatedPasses.{StaysSeated, view_of}
+use Rattle.insert_locks.specs.Holding.{HasTold, locks_of}
 use Rattle.insert_locks.specs.declared.watching.Watched.{Watched}
 use Rattle.wal_log.specs.Downs.{KnowsNoFault}
 use Rattle.wal_log.specs.Hands.{TellsTurnErr}
@@ -45,10 +45,11 @@ module _ {D : Type 0} (old new : SeatedPass D) (locks : List ℕ) (placed : Plac
 -- ---- behind the watch
 
 -- what locks were told is no matter
-leaves_told : (upto : ℕ) (v w : View) → LeavesAll (after_advance upto v) w → LeavesAll v w
-leaves_told upto v w left = record {
+leaves_told : (upto : ℕ) (under : List ℕ) (v w : View) → LeavesAll (with_told upto under v) w
+    → LeavesAll v w
+leaves_told upto under v w left = record {
   work = record {
-    pass = further_pass v (after_advance upto v) w (told_pass upto v) left.work.pass;
+    pass = further_pass v (with_told upto under v) w (told_pass upto under v) left.work.pass;
     place = left.work.place;
     working = left.work.working;
     stage = left.work.stage;
@@ -61,26 +62,28 @@ leaves_told upto v w left = record {
   up = λ none. left.up (record { met = none.met; set = none.set });
 }
 
-watches_told : {D : Type 0} → (old one new : SeatedPass D) (upto : ℕ)
-    → HasView (after_advance upto (view_of old)) old one → StaysSeated one new
+watches_told : {D : Type 0} → (old one new : SeatedPass D) (locks : List ℕ) (upto : ℕ)
+    → HasTold locks upto old one → StaysSeated one new
     → LeavesAll (view_of one) (view_of new) → Watches old new
-watches_told old one new upto told stays leaves = watches old new
-    (further_seated old one new (seat_stays told) stays)
-    (leaves_told upto (view_of old) (view_of new)
-    (subst (λ (v : View). LeavesAll v (view_of new)) (view_is told) leaves))
+watches_told old one new locks upto told stays leaves = watches old new
+    (further_seated old one new (seat_stays told.view) stays)
+    (leaves_told upto told.under (view_of old) (view_of new)
+    (subst (λ (v : View). LeavesAll v (view_of new)) (view_is told.view) leaves))
 
 module _ (g : Over) (c : After-watch g) where
   behind : (lock word : ℕ) → c.watch.result ≡ Watched.Behind lock word
       → Watches c.args.seated.now c.watch.new.seated
   behind lock word is = watches_told c.args.seated.now c.tell_progress.new.seated c.watch.new.seated
-      (c.args.placed.now).next c.tell_progress.ensures.view c.watch.ensures.stays
+      (locks_of c.args.held) (c.args.placed.now).next c.tell_progress.ensures.told
+      c.watch.ensures.stays
       (behind_leaves c.args.upto (view_of c.tell_progress.new.seated)
       (view_of c.watch.new.seated) lock word (c.watch.ensures.behind lock word is))
 
   all_seen : (bound : ℕ) → c.watch.result ≡ Watched.Finished bound
       → Watches c.args.seated.now c.watch.new.seated
   all_seen bound is = watches_told c.args.seated.now c.tell_progress.new.seated c.watch.new.seated
-      (c.args.placed.now).next c.tell_progress.ensures.view c.watch.ensures.stays
+      (locks_of c.args.held) (c.args.placed.now).next c.tell_progress.ensures.told
+      c.watch.ensures.stays
       (finished_leaves c.args.upto (view_of c.tell_progress.new.seated)
       (view_of c.watch.new.seated) bound (c.watch.ensures.finished bound is))
 

@@ -1,4 +1,4 @@
-use Rattle.wal_log_laws.proofs.Grown.{begin_grows, commit_grows, flush_try_grows, hard_grows, has_after_join, insert_grows}
+use Rattle.wal_log_laws.proofs.Grown.{begin_grows, commit_grows, flush_try_grows, hard_grows, has_after_join, insert_grows, switch_grows}
 use Rattle.wal_log_laws.proofs.laws.logs_only_grow.Goals as goal
 
 pub returns-clause-join : goal.returns-clause-join
@@ -18,3 +18,6 @@ returns-clause-hard g c = hard_grows
 
 pub returns-clause-inserts : goal.returns-clause-inserts
 returns-clause-inserts g c = insert_grows
+
+pub returns-clause-switches : goal.returns-clause-switches
+returns-clause-switches g c = switch_grows

@@ -1,10 +1,12 @@
-use Rattle.std.proofs.Common.{subst}
+use Rattle.std.proofs.Common.{◌≡◌, subst}
 use Rattle.wal_types.specs.declared.record.Record.{Record}
+use Rattle.record_spelling.specs.Record.{switch_record}
+use Rattle.record_spelling.specs.Spelling.{assembled}
 use Rattle.wal_script.specs.declared.line.Action.{Action}
 use Rattle.wal_script.specs.Asked.{Asked}
 use Rattle.wal_script.specs.Bodies.{IsActionOf, IsBodyOf}
 use Rattle.backend_lanes.specs.Sessions.{PlaysAnswer}
-use Rattle.backend_lanes.proofs.Answering.{holds_of_ahead, holds_of_commit, holds_of_insert}
+use Rattle.backend_lanes.proofs.Answering.{holds_of_ahead, holds_of_commit, holds_of_insert, holds_of_switch}
 use Rattle.backend_lanes.proofs.session.Session.answer.Goals as goal
 
 pub insert-requires-clause-record : goal.insert-requires-clause-record
@@ -28,6 +30,13 @@ commit_async-requires-clause-record g c =
     (subst (λ (action : Action). IsActionOf c.requires.asked.0 action) c.in-CommitAsync.is
     c.requires.asked.1)
 
+pub switch-requires-clause-record : goal.switch-requires-clause-record
+switch-requires-clause-record g c =
+    holds_of_switch (λ (a : Asked). c.in-Switch.body ≡ assembled switch_record) c.in-Switch.body
+    (λ is. is) c.requires.asked.0
+    (subst (λ (action : Action). IsActionOf c.requires.asked.0 action) c.in-Switch.is
+    c.requires.asked.1)
+
 pub returns-in-Insert-clause-plays : goal.returns-in-Insert-clause-plays
 returns-in-Insert-clause-plays g c = λ asked is.
     holds_of_insert (λ (a : Asked). PlaysAnswer c.args.log.now a c.insert.result c.args.self.now
@@ -45,3 +54,9 @@ returns-in-CommitAsync-clause-plays g c = λ asked is.
     holds_of_ahead (λ (a : Asked). PlaysAnswer c.args.log.now a c.commit_async.result
     c.args.self.now c.commit_async.new.self) c.in-CommitAsync.body c.commit_async.ensures.plays
     asked (subst (λ (action : Action). IsActionOf asked action) c.in-CommitAsync.is is)
+
+pub returns-in-Switch-clause-plays : goal.returns-in-Switch-clause-plays
+returns-in-Switch-clause-plays g c = λ asked is.
+    holds_of_switch (λ (a : Asked). PlaysAnswer c.args.log.now a c.switch.result c.args.self.now
+    c.switch.new.self) c.in-Switch.body (λ body_is. c.switch.ensures.plays) asked
+    (subst (λ (action : Action). IsActionOf asked action) c.in-Switch.is is)

@@ -1,0 +1,4 @@
+mod ReadLaws
+mod PageReads
+mod SettleLaws
+mod SpelledLaws

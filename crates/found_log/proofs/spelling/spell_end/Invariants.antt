@@ -1,0 +1,16 @@
+use Rattle.std.proofs.Common.{◌≡◌}
+use Rattle.wal_reader.specs.LogReader.{left_of, reader_state}
+use Rattle.found_log.proofs.SpelledLaws.{SpellsSoFar}
+use Rattle.found_log.proofs.spelling.spell_end.Given as goal
+
+abbrev pub invariant-records : goal.invariant-records
+invariant-records g l = record {
+  sized : (reader_state l.reader).size ≡ l.fn.geometry;
+  spells : SpellsSoFar l.fn.geometry l.fn.sysid (g.D.Disk.tape l.initial.disk) l.reader l.end;
+  tape : g.D.Disk.tape l.disk ≡ g.D.Disk.tape l.initial.disk;
+  moment : g.D.Disk.moment l.disk ≡ g.D.Disk.moment l.initial.disk;
+  faults : g.D.Disk.faults l.disk ≡ g.D.Disk.faults l.initial.disk;
+}
+
+abbrev pub decreases-records : goal.decreases-records
+decreases-records g l = left_of (reader_state l.reader)

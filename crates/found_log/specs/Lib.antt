@@ -1,0 +1,4 @@
+pub mod Foreign
+pub mod Found
+pub mod Reading
+pub mod Spelled

@@ -1,0 +1,34 @@
+use Rattle.std.proofs.Common.{ℕ, Err, None, ap}
+use Rattle.wal_rule.specs.SeatedPasses.{view_of}
+use Rattle.wal_log.specs.declared.switching.SwitchErr.TheVariants.{Down}
+use Rattle.wal_log.proofs.BeginLaws.{none_known}
+use Rattle.wal_log.proofs.Keeping.{none_loaded}
+use Rattle.wal_log.proofs.Seated.{view_is}
+use Rattle.wal_log.proofs.SwitchLaws.{looked_holds}
+use Rattle.wal_log.proofs.switching.look_down.Goals as goal
+
+pub returns-then-faults-ne0-clause-known : goal.returns-then-faults-ne0-clause-known
+returns-then-faults-ne0-clause-known g c = λ faults knows.
+    ap (λ (n : ℕ). Err (Down n None)) (c.load_down-faults.ensures.known faults knows)
+
+pub returns-then-faults-ne0-clause-holds : goal.returns-then-faults-ne0-clause-holds
+returns-then-faults-ne0-clause-holds g c =
+    let load = c.load_down-faults in
+    looked_holds c.args.seated.now load.new.self load.result load.ensures.steps load.ensures.known
+
+pub returns-clause-looks : goal.returns-clause-looks
+returns-clause-looks g c =
+    let load = c.load_down-faults in
+    none_loaded (view_of c.args.seated.now) load.result (view_of load.new.self)
+    (view_is load.ensures.steps) load.ensures.known c.if-faults-ne0.false
+
+pub returns-clause-known : goal.returns-clause-known
+returns-clause-known g c =
+    let load = c.load_down-faults in
+    λ faults knows. absurd (none_known (view_of c.args.seated.now) (view_of load.new.self)
+    load.result (view_is load.ensures.steps) load.ensures.known c.if-faults-ne0.false faults knows)
+
+pub returns-clause-holds : goal.returns-clause-holds
+returns-clause-holds g c =
+    let load = c.load_down-faults in
+    looked_holds c.args.seated.now load.new.self load.result load.ensures.steps load.ensures.known

@@ -1,0 +1,17 @@
+use Rattle.std.proofs.Common.{arith}
+use Rattle.insert_locks.proofs.Runs.{run_length, run_locks}
+use Rattle.wal_log.proofs.SwitchLaws.{may_tell_seen}
+use Rattle.wal_log.proofs.switching.tell_seen.Goals as goal
+
+pub tell-requires-clause-some : goal.tell-requires-clause-some
+tell-requires-clause-some g c =
+    let all = run_length 0 c.args.count in omega (arith, all, c.if-count-gt0.true)
+
+pub tell-requires-clause-locks : goal.tell-requires-clause-locks
+tell-requires-clause-locks g c = run_locks c.args.count (omega (arith, c.requires.low))
+
+pub tell-requires-clause-may : goal.tell-requires-clause-may
+tell-requires-clause-may g c =
+    let sees = c.see_reserved-end.ensures in
+    may_tell_seen c.args.seated.now c.see_reserved-end.new.seated c.args.count
+    c.see_reserved-end.result sees.view c.requires.has sees.end sees.whole

@@ -1,0 +1,258 @@
+// A segment is ended (PostgreSQL's xlog.c, RequestXLogSwitch, WALInsertLockAcquireExclusive): a
+// switch takes up the rest of it, so that the next record starts with the next segment. It stands
+// under all insertion locks, which are taken from 0 up. At each the switch waits with those below
+// it held, and tells there how far it has seen records reserved: its own starts there or above. If
+// they told nothing, an insert that waits for a page to be written would wait for them, and the
+// switch for that insert's lock. With all eight held nobody else reserves. The words up to the
+// segment's end are copied as any record's (landing.rt).
+ghost use Rattle.std.specs.Prelude.{◌≡◌, ◌+◌, ◌<◌, [], Err, None, IsErrOf, MatchResult};
+ghost use Rattle.record_spelling.specs.Record.{switch_record};
+ghost use Rattle.record_spelling.specs.Spelling.{assembled};
+ghost use Rattle.insert_locks.specs.Holding.{lock_run};
+ghost use Rattle.reserve_lock.specs.Reserved.{every_lock};
+ghost use Rattle.wal_rule.specs.Downs.{KnowsDown};
+ghost use Rattle.wal_rule.specs.Passes.{view_of_pass};
+ghost use Rattle.wal_rule.specs.SeatedPasses.{StandsAtRest, setup_of, view_of};
+ghost use Rattle.wal_log.specs.Downs.{KnowsNoFault};
+ghost use Rattle.wal_log.specs.Logs.{IsPassOfLog, setup_of_log};
+ghost use Rattle.wal_log.specs.Standing.{ComesToRest, GoesOnSeated, HasLocks, HoldsLocks, KeepsPass};
+ghost use Rattle.wal_log.specs.Switching.{AnswersPlace, AnswersSwitch, HoldsOn, TellsDown, switch_err_of_fault};
+ghost use Rattle.wal_log.specs.declared.switching.SwitchErr.TheVariants.{Down};
+
+use crate::fault::Fault;
+use crate::landing::land;
+use crate::wal::Wal;
+use crossbeam_utils::Backoff;
+use insert_locks::{Held, release, see_reserved, tell, try_take_lock};
+use machine_words::layout::LOCKS;
+use record_spelling::Body;
+use reserve_lock::{ReserveErr, Reserved, SwitchTry, try_reserve_switch};
+use segment_disk::Disk;
+use std::sync::Wait;
+use wal_rule::{Pass, SeatedPass};
+use wal_types::Lsn;
+
+/// What a segment switch comes to.
+#[derive(Clone, Copy, Debug, PartialEq, Eq)]
+pub enum Switch {
+    /// The switch is reserved and copied: where it starts, and where the next segment does.
+    Done { start: Lsn, end: Lsn },
+    /// Nothing was to be done: the log ends at this address, a segment's start.
+    Stayed { end: Lsn },
+}
+
+/// Why a segment was not switched. The switch has its place all the same where a start is told:
+/// what was reserved stays reserved.
+#[derive(Clone, Copy, Debug, PartialEq, Eq)]
+pub enum SwitchErr {
+    /// The log has fewer bytes left than a switch's own 24: how many.
+    Full { free: u64 },
+    /// A device call failed in this call: the disk's count of faults then.
+    Disk { faults: u64, start: Lsn },
+    /// The disk has failed before: its count of faults then.
+    Down { faults: u64, start: Option<Lsn> },
+}
+
+impl SwitchErr {
+    // Why a switch that starts here was not copied whole.
+    fn at(start: Lsn, fault: Fault) -> SwitchErr
+        ensures { result ≡ switch_err_of_fault start fault }
+    {
+        match fault {
+            Fault::Disk { faults } => SwitchErr::Disk { faults, start },
+            Fault::Down { faults } => SwitchErr::Down {
+                faults,
+                start: Some(start),
+            },
+        }
+    }
+}
+
+impl<D: Disk> Wal<D> {
+    /// Ends the segment: puts a switch behind all that is reserved, which takes up the rest of its
+    /// segment, and copies it, zeros and all. It is not durable before a flush. Where the log stands
+    /// at a segment's start it has nothing to do. It waits for each of the eight insertion locks
+    /// and, as an insert, for buffers.
+    pub fn switch<R: Wait>(&self, rt: &R, pass: &mut Pass, body: &Body) -> Result<Switch, SwitchErr>
+        requires pass { IsPassOfLog self.now pass.old }
+        // The body is a segment switch's (`Body::switch`).
+        requires switch { body.now ≡ assembled switch_record }
+        // The pass's log has the switch's entry last, with the places that are told, or notes that
+        // the log stood at a segment's start. Or it tells why not, and the start of the entry if
+        // that stands in the order all the same.
+        ensures switches { AnswersSwitch (setup_of_log self.now) body.now
+            (view_of_pass pass.old) result (view_of_pass pass.new) }
+        // A pass that knows of a failed disk is told of it, and reserves nothing.
+        ensures down_again { (faults : _) → KnowsDown faults (view_of_pass pass.old)
+            → result ≡ Err (Down faults None) }
+        // However it ends, the pass is about nothing, with its numbers and all that it had seen.
+        ensures keeps { KeepsPass (view_of_pass pass.old) (view_of_pass pass.new) }
+        ensures pass { IsPassOfLog self.now pass.new }
+    {
+        let mut seated = pass.seat(&self.table);
+        let answer = switch_on(rt, &mut seated, body);
+        pass.put_back(seated);
+        answer
+    }
+}
+
+// The switch of a pass, which is about nothing before it and behind it. It leaves of the pass what
+// `Wal::switch` says.
+fn switch_on<'p, D: Disk, R: Wait>(
+    rt: &R,
+    seated: &mut SeatedPass<'p, D>,
+    body: &Body,
+) -> Result<Switch, SwitchErr>
+    requires rests { StandsAtRest seated.old }
+    requires switch { body.now ≡ assembled switch_record }
+    ensures switches { AnswersSwitch (setup_of seated.old) body.now (view_of seated.old) result
+        (view_of seated.new) }
+    ensures down_again { (faults : _) → KnowsDown faults (view_of seated.old)
+        → result ≡ Err (Down faults None) }
+    ensures rests { ComesToRest seated.old seated.new }
+{
+    look_down(seated)?;
+    take_all(rt, seated)?;
+    switch_under(rt, seated, body)
+}
+
+// Loads down. If the disk has failed it tells so.
+fn look_down<'p, D: Disk>(seated: &mut SeatedPass<'p, D>) -> Result<(), SwitchErr>
+    ensures looks { MatchResult result (λ _. KnowsNoFault (view_of seated.new))
+        (λ e. TellsDown (view_of seated.old) (view_of seated.new) e) }
+    ensures known { (faults : _) → KnowsDown faults (view_of seated.old)
+        → IsErrOf result (Down faults None) }
+    // The locks that it holds it holds still.
+    ensures holds { (locks : _) → HasLocks locks (view_of seated.old)
+        → HoldsOn locks seated.old seated.new }
+{
+    let faults = seated.load_down();
+    if faults != 0 {
+        return Err(SwitchErr::Down {
+            faults,
+            start: None,
+        });
+    }
+    Ok(())
+}
+
+// Takes all insertion locks, from 0 up. Where the disk has failed none stays held.
+fn take_all<'p, D: Disk, R: Wait>(rt: &R, seated: &mut SeatedPass<'p, D>) -> Result<(), SwitchErr>
+    requires has { HasLocks [] (view_of seated.old) }
+    requires up { KnowsNoFault (view_of seated.old) }
+    ensures takes { MatchResult result
+        (λ _. HoldsOn every_lock seated.old seated.new × KnowsNoFault (view_of seated.new))
+        (λ e. HoldsOn [] seated.old seated.new
+        × TellsDown (view_of seated.old) (view_of seated.new) e) }
+{
+    for count in 0..LOCKS {
+        if let Err(e) = take_next(rt, seated, count) {
+            release(seated, Held::Below(count));
+            return Err(e);
+        }
+    }
+    Ok(())
+}
+
+// Takes a lock, by as many tries as it takes, where those below it are held. At an error, which is
+// that the disk has failed, they are held still.
+fn take_next<'p, D: Disk, R: Wait>(
+    rt: &R,
+    seated: &mut SeatedPass<'p, D>,
+    lock: u32,
+) -> Result<(), SwitchErr>
+    requires low { lock < 8 }
+    requires has { HasLocks (lock_run 0 lock) (view_of seated.old) }
+    requires up { KnowsNoFault (view_of seated.old) }
+    ensures takes { MatchResult result
+        (λ _. HoldsOn (lock_run 0 (lock + 1)) seated.old seated.new
+        × KnowsNoFault (view_of seated.new))
+        (λ e. HoldsOn (lock_run 0 lock) seated.old seated.new
+        × TellsDown (view_of seated.old) (view_of seated.new) e) }
+{
+    let backoff = Backoff::new();
+    for _ in rt.forever() {
+        if try_take_lock(seated, lock) == 0 {
+            return Ok(());
+        }
+        tell_seen(seated, lock);
+        look_down(seated)?;
+        backoff.snooze();
+    }
+    unreachable!()
+}
+
+// Tells under the locks below a number, which are held, how far records are reserved.
+fn tell_seen<'p, D: Disk>(seated: &mut SeatedPass<'p, D>, count: u32)
+    requires low { count < 8 }
+    requires has { HasLocks (lock_run 0 count) (view_of seated.old) }
+    ensures holds { HoldsOn (lock_run 0 count) seated.old seated.new }
+    ensures up { KnowsNoFault (view_of seated.old) → KnowsNoFault (view_of seated.new) }
+{
+    if count > 0 {
+        let end = see_reserved(seated);
+        tell(seated, Held::Below(count), end);
+    }
+}
+
+// Reserves the switch under all locks, which are held, and copies it. However it ends none stays
+// held.
+fn switch_under<'p, D: Disk, R: Wait>(
+    rt: &R,
+    seated: &mut SeatedPass<'p, D>,
+    body: &Body,
+) -> Result<Switch, SwitchErr>
+    requires switch { body.now ≡ assembled switch_record }
+    requires holds { HoldsLocks every_lock seated.old }
+    requires up { KnowsNoFault (view_of seated.old) }
+    ensures switches { AnswersSwitch (setup_of seated.old) body.now (view_of seated.old) result
+        (view_of seated.new) }
+    ensures rests { ComesToRest seated.old seated.new }
+{
+    let reserved = match reserve(rt, seated, body) {
+        Ok(SwitchTry::Switched(reserved)) => reserved,
+        Ok(SwitchTry::Stayed { end }) => {
+            release(seated, Held::Below(LOCKS));
+            return Ok(Switch::Stayed { end });
+        }
+        Err(e) => {
+            release(seated, Held::Below(LOCKS));
+            return Err(e);
+        }
+    };
+    let Reserved {
+        start,
+        end,
+        mut placed,
+    } = reserved;
+    match land(rt, seated, Held::Below(LOCKS), end, &mut placed) {
+        Ok(()) => Ok(Switch::Done { start, end }),
+        Err(fault) => Err(SwitchErr::at(start, fault)),
+    }
+}
+
+// Reserves the switch's place, by as many tries as it takes. It leaves the locks held: with the
+// switch in flight under them, or with nothing.
+fn reserve<'p, 'a, D: Disk, R: Wait>(
+    rt: &R,
+    seated: &mut SeatedPass<'p, D>,
+    body: &'a Body,
+) -> Result<SwitchTry<'a>, SwitchErr>
+    requires switch { body.now ≡ assembled switch_record }
+    requires has { HasLocks every_lock (view_of seated.old) }
+    requires up { KnowsNoFault (view_of seated.old) }
+    ensures reserves { AnswersPlace (setup_of seated.old) body.now (view_of seated.old) result
+        (view_of seated.new) }
+    ensures goes_on { GoesOnSeated seated.old seated.new }
+{
+    let backoff = Backoff::new();
+    for _ in rt.forever() {
+        match try_reserve_switch(seated, body) {
+            Ok(tried) => return Ok(tried),
+            Err(ReserveErr::Full { free }) => return Err(SwitchErr::Full { free }),
+            Err(ReserveErr::Busy { .. }) => look_down(seated)?,
+        }
+        backoff.snooze();
+    }
+    unreachable!()
+}
