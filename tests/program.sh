@@ -126,6 +126,25 @@ two_runs_in_one_folder() {
   equal 'two runs: the log is that of the one' $torn 0
 }
 
+a_locked_folder_keeps_writers_out() {
+  local words
+  fresh
+  commits 700 3 | run >out
+  cp $segment kept
+  for words in 'run' 'gen 10'; do
+    commits 900 3 | flock pg_wal "$program" $words --seg $size >out 2>err
+    equal "a locked folder: $words ends with a fault of the disk" $? 4
+    equal "a locked folder: $words says so" "$(cat out err)" 'pgwal: disk fault'
+  done
+  cmp -s kept $segment
+  equal 'a locked folder: the log stays as it is' $? 0
+  equal 'a locked folder: a listing does not wait' \
+    "$(flock pg_wal "$program" dump --seg $size | grep -c COMMIT)" 3
+  fresh
+  commits 700 3 | flock . "$program" run --seg $size >out
+  equal 'a lock of the folder above keeps nobody out' $? 0
+}
+
 names_in_the_way() {
   local name
   for name in xlogtemp xlogtemp.1.0; do
@@ -189,6 +208,7 @@ closed_streams_fail
 full_output_fails
 a_pipe_in_a_segments_place_is_a_fault
 two_runs_in_one_folder
+a_locked_folder_keeps_writers_out
 names_in_the_way
 files_are_the_users_own
 failed_segment_leaves_nothing

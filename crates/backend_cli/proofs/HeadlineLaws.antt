@@ -1,8 +1,7 @@
 -- The headline, of the disk of a run and of the call.
-use Rattle.std.proofs.Common.{◌≡◌, ℕ, suc, ◌+◌, All, List, [], ◌∷◌, length, map, Option, Ok, Result, inl, inr, refl, sym, ap, ap₂, subst, ◌∙◌}
+use Rattle.std.proofs.Common.{◌≡◌, ℕ, suc, ◌+◌, All, List, [], ◌∷◌, length, map, Option, refl, ap, ap₂, subst}
 use Rattle.std.specs.Prelude.{IfSome}
 use Rattle.std.specs.List.{zip}
-use Rattle.std.proofs.lemmas.List.{append_cancel_left}
 use Rattle.std.proofs.lemmas.List.Elements.{All-cons, All-nil}
 use Rattle.segment_disk.specs.Tape.{Tape}
 use Rattle.flush_core.specs.Pages.{HoldsNothing}
@@ -12,26 +11,12 @@ use Rattle.wal_page.specs.Order.{IsChained}
 use Rattle.wal_reader.specs.declared.found.FoundRecord.{FoundRecord}
 use Rattle.wal_reader.proofs.FindsLaws.{finding_is_decoding}
 use Rattle.wal_script.specs.Asked.{Asked, AskedLine, Commit, CommitAsync, Flush, Insert, Switch, WriteBehind}
-use Rattle.wal_script.specs.Run.{run_meaning}
-use Rattle.wal_script.specs.declared.line.Refusal.{Refusal}
-use Rattle.generated_lines.specs.Generated.{generated_script}
 use Rattle.told_lines.specs.declared.told.Told.{Told}
 use Rattle.told_lines.specs.declared.told.Told.TheVariants.{Wrote, Hard, Flushed, Async, Idle, Switched, Stayed, Refused}
 use Rattle.told_lines.specs.Crash.{IsFrontWithTold, SurvivesCrashes}
 use Rattle.told_lines.specs.Told.{FitsLine, Logged, RiseInLineOrder, TellsAll, TellsFrom, behind_or, entries_from, entry_of, order_from}
 use Rattle.told_lines.proofs.Orders.{sorted_permutes}
-use Rattle.command_words.specs.declared.commands.GenOptions.{GenOptions}
-use Rattle.command_words.specs.declared.commands.ScriptRunOptions.{ScriptRunOptions}
-use Rattle.command_words.specs.declared.commands.Command.TheVariants.{Run, Gen, Replay, Dump, Redo}
-use Rattle.command_line.specs.declared.asking.Request.{Request}
-use Rattle.command_line.specs.declared.asking.Request.TheVariants.{Command, Help, Version, Nothing}
-use Rattle.backend_cli.specs.Asked.{AsksBackends}
 use Rattle.backend_cli.specs.Headline.{FoundAfterCrash, Headline, NamesOwnPlace}
-use Rattle.backend_cli.specs.Obeying.{Obeys, ObeysInMemory}
-use Rattle.backend_cli.specs.Outside.{Outside, SourceView}
-use Rattle.backend_cli.specs.Reading.{ScriptMeans}
-use Rattle.backend_cli.specs.Run.{PlayHolds, RunHolds}
-use Rattle.backend_cli.specs.declared.outcome.Outcome.{Outcome}
 
 -- ---- receipts
 
@@ -179,71 +164,3 @@ module _ (size opening : ℕ) (valid : IsSegmentSize size) (script : List (List 
     in_line_order = in_line_order;
     crash = found_after_crash survives;
   }
-
--- ---- of the call
-
--- a source hands out one script
-same_lines : (one other : List (List AskedLine))
-    → (let read : Result (List (List AskedLine)) Refusal = Ok one in read ≡ Ok other)
-    → one ≡ other
-same_lines one other e = cc
-
-same_script : (writer : Option ℕ) (before after : SourceView)
-    (one other : List (List AskedLine)) → ScriptMeans writer before after (Ok one)
-    → ScriptMeans writer before after (Ok other) → one ≡ other
-same_script writer before after one other first second =
-    let bytes = append_cancel_left before.handed first.0 second.0
-    (sym (first.1).handed_out ∙ (second.1).handed_out) in
-    same_lines one other (sym first.2 ∙ (ap (run_meaning writer) bytes ∙ second.2))
-
-module _ (outside : Outside) (outcome : Outcome) where
-  abbrev Leaves : ℕ → List (List AskedLine) → List (List Told) → Type 0
-  Leaves size script told =
-      Headline size outside.moment_before script told outside.tape_before outside.tape_after
-
-  of_run : (options : ScriptRunOptions) (told : List (List Told)) → (told ≡ [] → ⊥)
-      → RunHolds outside options outcome told
-      → (size : ℕ) (script : List (List AskedLine)) → size ≡ options.run.geometry
-      → ScriptMeans options.writer outside.source_before outside.source_after (Ok script)
-      → Leaves size script told
-  of_run options [] opened holds size script size_is means = absurd (opened refl)
-  of_run options (t ∷ ts) opened holds size script size_is means =
-      let same = same_script options.writer outside.source_before outside.source_after holds.0
-      script holds.1 means in
-      subst (λ (s : ℕ). Leaves s script (t ∷ ts)) (sym size_is)
-      (subst (λ (lines : List (List AskedLine)). Leaves options.run.geometry lines (t ∷ ts)) same
-      (holds.2).headline)
-
-  of_play : (options : GenOptions) (told : List (List Told)) → (told ≡ [] → ⊥)
-      → PlayHolds outside options.run outcome (generated_script options.lines) told
-      → Leaves options.run.geometry (generated_script options.lines) told
-  of_play options [] opened holds = absurd (opened refl)
-  of_play options (t ∷ ts) opened holds = holds.headline
-
-  of_request : (request : Request) (told : List (List Told)) → (told ≡ [] → ⊥)
-      → Obeys request outside outcome told → (size : ℕ) (script : List (List AskedLine))
-      → AsksBackends request outside.source_before outside.source_after size script
-      → Leaves size script told
-  of_request Nothing told opened obeys size script asks = absurd asks
-  of_request Help told opened obeys size script asks = absurd asks
-  of_request Version told opened obeys size script asks = absurd asks
-  of_request (Command (Run options)) told opened obeys size script asks =
-      of_run options told opened obeys size script asks.0 asks.1
-  of_request (Command (Gen options)) told opened obeys size script asks =
-      subst (λ (s : ℕ). Leaves s script told) (sym asks.0)
-      (subst (λ (lines : List (List AskedLine)). Leaves options.run.geometry lines told)
-      (sym asks.1) (of_play options told opened obeys.plays))
-  of_request (Command (Replay options)) told opened obeys size script asks = absurd asks
-  of_request (Command (Dump options)) told opened obeys size script asks = absurd asks
-  of_request (Command (Redo options)) told opened obeys size script asks = absurd asks
-
-  -- words that ask for a run, and a log that was opened
-  pub headline_of_call : {D : Type 0} (request : Request) (disk disk_now : D)
-      (told : List (List Told)) → ObeysInMemory request disk disk_now outside outcome told
-      → (size : ℕ) (script : List (List AskedLine))
-      → AsksBackends request outside.source_before outside.source_after size script
-      → (told ≡ [] → ⊥) → Leaves size script told
-  headline_of_call request disk disk_now told (inl cut) size script asks opened =
-      absurd (opened (cut.0).nothing_told)
-  headline_of_call request disk disk_now told (inr obeys) size script asks opened =
-      of_request request told opened obeys size script asks

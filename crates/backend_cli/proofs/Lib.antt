@@ -12,7 +12,11 @@ pub mod ReplayLaws
 pub mod RunBackends
 pub mod RunEnds
 pub mod HeadlineLaws
+pub mod CallLaws
 pub mod RunLaws
+pub mod RunOpened
+pub mod AppendOpened
+pub mod AppendUnopened
 pub mod RunUnopened
 pub mod AllCounts
 pub mod AnySome

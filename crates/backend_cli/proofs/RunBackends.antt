@@ -11,6 +11,7 @@ use Rattle.wal_script.specs.declared.line.Refusal.{Refusal}
 use Rattle.wal_script.proofs.RunLaws.{runs_have_some_backends}
 use Rattle.wal_core.specs.declared.setup.Setup.{Setup}
 use Rattle.command_words.specs.declared.commands.RunOptions.{RunOptions}
+use Rattle.command_words.specs.declared.commands.ScriptRunOptions.{ScriptRunOptions}
 use Rattle.backend_lanes.specs.Backends.{HaveToldEach, IsRoomFor, lists_of, scripts_of}
 use Rattle.backend_lanes.specs.declared.backend.AnsweredLines.{AnsweredLines}
 use Rattle.backend_lanes.specs.declared.playing.Room.{Room}
@@ -19,6 +20,7 @@ use Rattle.backend_cli.specs.Prepared.{IsPreparedFor}
 use Rattle.backend_cli.specs.Printing.{HasAnswers}
 use Rattle.backend_cli.specs.Reading.{ScriptMeans}
 use Rattle.backend_cli.specs.Setups.{run_setup}
+use Rattle.backend_cli.specs.Appending.{AppendHolds, HoldsAppended}
 use Rattle.backend_cli.specs.Run.{HoldsOpened, PlayHolds}
 use Rattle.backend_cli.specs.declared.outcome.Outcome.{Outcome}
 use Rattle.backend_cli.proofs.ReplayScripts.{as_many_backends}
@@ -54,11 +56,10 @@ as_many_prepared script room ready =
 
 -- the setup of the log is that of a pass for each backend of the script
 pub setup_told : (options : RunOptions) (setup : Setup) (script : List (List AskedLine))
-    (room : Room) (count : ℕ) → IsPreparedFor script room → count ≡ vec_len room.backends
-    → setup ≡ run_setup options count → setup ≡ run_setup options (length script)
-setup_told options setup script room count ready as_many is =
-    is ∙ ap (run_setup options)
-    (as_many ∙ room.backends.ok.0 ∙ sym (as_many_prepared script room ready))
+    (room : Room) → IsPreparedFor script room → setup ≡ run_setup options (vec_len room.backends)
+    → setup ≡ run_setup options (length script)
+setup_told options setup script room ready is =
+    is ∙ ap (run_setup options) (room.backends.ok.0 ∙ sym (as_many_prepared script room ready))
 
 -- ---- told an answer to each line
 
@@ -88,3 +89,16 @@ pub told_holds : (outside : Outside) (options : RunOptions) (outcome : Outcome)
 told_holds outside options outcome [] backends some told holds = absurd (omega (arith, some))
 told_holds outside options outcome (asked ∷ script) [] some told holds = absurd told
 told_holds outside options outcome (asked ∷ script) (backend ∷ backends) some told holds = holds
+
+-- so does one that went on with a log
+pub append_told_holds : (outside : Outside) (options : ScriptRunOptions) (outcome : Outcome)
+    (script : List (List AskedLine)) (backends : List AnsweredLines) → 0 < length script
+    → HaveToldEach script backends
+    → ScriptMeans options.writer outside.source_before outside.source_after (Ok script)
+    → HoldsAppended outside options.run outcome script (lists_of backends)
+    → AppendHolds outside options outcome (lists_of backends)
+append_told_holds outside options outcome [] backends some told means holds =
+    absurd (omega (arith, some))
+append_told_holds outside options outcome (asked ∷ script) [] some told means holds = absurd told
+append_told_holds outside options outcome (asked ∷ script) (backend ∷ backends) some told means
+    holds = (asked ∷ script, means, holds)

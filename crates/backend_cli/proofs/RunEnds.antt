@@ -1,5 +1,5 @@
 -- How a run ends: what it printed, and its outcome, by what its parts say.
-use Rattle.std.proofs.Common.{◌≡◌, ℕ, Bool, true, false, List, Option, Some, None, Ok, Err, Result, refl, sym, subst, inl, inr, arith}
+use Rattle.std.proofs.Common.{◌≡◌, ℕ, Bool, true, false, List, ◌++◌, Option, Some, None, Ok, Err, Result, refl, sym, subst, inl, inr, arith}
 use Rattle.std.specs.Prelude.{is_ok, not}
 use mathlib.Core.Option.{Option as Maybe, none, some}
 use Rattle.segment_disk.specs.Cause.{Rose, RoseByOne}
@@ -8,9 +8,17 @@ use Rattle.waldump_text.specs.Put.{Puts}
 use Rattle.waldump_text.specs.declared.putting.SinkFault.{SinkFault}
 use Rattle.told_lines.specs.Told.{IsFullAnswer, IsRefused, SomeTold}
 use Rattle.told_lines.specs.declared.told.Told.{Told}
-use Rattle.backend_cli.specs.Concluding.{Concludes}
+use Rattle.segment_disk.specs.Tape.{Tape}
+use Rattle.wal_log.specs.declared.wal.Wal.{Wal}
+use Rattle.wal_script.specs.Asked.{AskedLine}
+use Rattle.backend_lanes.specs.Backends.{lists_of}
+use Rattle.backend_lanes.specs.declared.backend.AnsweredLines.{AnsweredLines}
+use Rattle.command_words.specs.declared.commands.RunOptions.{RunOptions}
+use Rattle.backend_cli.specs.Concluding.{Concludes, HasPlayedOut, IsConcluded}
 use Rattle.backend_cli.specs.Outside.{Outside, Took}
+use Rattle.backend_cli.specs.Printing.{Summarizes, printed_text}
 use Rattle.backend_cli.specs.Run.{EndsOpened}
+use Rattle.backend_cli.specs.declared.printing.Summary.{Summary}
 use Rattle.backend_cli.specs.declared.outcome.Outcome.{Outcome}
 use Rattle.backend_cli.specs.declared.outcome.Outcome.TheVariants.{OutOfMemory}
 
@@ -72,3 +80,38 @@ no_memory lists (Some count) failed outcome concludes is = cc
 no_memory lists None failed outcome (inl found) is = let e = found.1 in cc
 no_memory lists None true outcome (inr room) is = let e = room.1 in cc
 no_memory lists None false outcome (inr room) is = let e = room.1 in cc
+
+-- how a run concludes, where its parts were handed these backends
+pub concluded_of : (size place used : ℕ) (list : Bool) (text : List ℕ)
+    (items summed put judged : List AnsweredLines) (down : Option ℕ)
+    (taken taken_now : Option (List ℕ)) (faults faults_now : ℕ) (outcome : Outcome)
+    (summary : Summary) (printed : Result (Unit {0}) SinkFault) (ok : Bool) → summed ≡ items
+    → put ≡ items → judged ≡ items → ok ≡ is_ok printed
+    → Summarizes size place used (lists_of summed) summary
+    → Puts taken taken_now faults faults_now (text ++ printed_text list put summary) printed
+    → Concludes down (lists_of judged) (not ok) outcome
+    → IsConcluded size place used list text items down taken taken_now faults faults_now outcome
+concluded_of size place used list text items summed put judged down taken taken_now faults
+    faults_now outcome summary printed ok are_summed are_put are_judged is summarizes puts
+    concludes = record {
+      summary = summary;
+      summarizes = subst (λ (l : List AnsweredLines). Summarizes size place used (lists_of l)
+          summary) are_summed summarizes;
+      printed = printed;
+      puts = subst (λ (l : List AnsweredLines). Puts taken taken_now faults faults_now
+          (text ++ printed_text list l summary) printed) are_put puts;
+      concludes = subst (λ (b : Bool). Concludes down (lists_of items) (not b) outcome) is
+          (subst (λ (l : List AnsweredLines). Concludes down (lists_of l) (not ok) outcome)
+          are_judged concludes);
+    }
+
+-- so does none that played its lines out
+pub ended_for_want : {D : Type 0} {tape : D → Option Tape} {moment faults : D → ℕ} {log : Wal D}
+    {options : RunOptions} {script : List (List AskedLine)} {begun : Result (Unit {0}) SinkFault}
+    {taken_between taken_after : Option (List ℕ)} {sink_between sink_after : ℕ} {outcome : Outcome}
+    {disk : D} {lists : List (List Told)} (text : List ℕ) (taken : Option (List ℕ)) (sink : ℕ)
+    → Puts taken taken_between sink sink_between text begun
+    → HasPlayedOut tape moment faults log options script begun taken_between taken_after
+    sink_between sink_after outcome disk lists → outcome ≡ OutOfMemory → ⊥
+ended_for_want text taken sink puts out is =
+    no_memory _ _ _ _ (out.concluded taken sink text puts).concludes is

@@ -15,7 +15,7 @@ use Rattle.backend_cli.specs.Reading.{ScriptMeans}
 use Rattle.backend_cli.specs.Run.{PlayHolds, RunHolds}
 use Rattle.told_lines.specs.declared.told.Told.{Told}
 use Rattle.backend_cli.specs.declared.outcome.Outcome.{Outcome}
-use Rattle.backend_cli.specs.declared.outcome.Outcome.TheVariants.{Done, OutOfMemory, Usage, SourceFault, ScriptRefused, NotEmpty, DiskFault, Stopped, LogFull, SinkFault}
+use Rattle.backend_cli.specs.declared.outcome.Outcome.TheVariants.{Done, OutOfMemory, Usage, SourceFault, ScriptRefused, NotEmpty, BeyondCap, DiskFault, Stopped, LogFull, SinkFault}
 
 module _ {D : Type 0} (tape : D → Option Tape) (moment faults : D → ℕ) (setup : Setup)
     (can_be : IsSetup setup) (disk now : D) where
@@ -27,6 +27,8 @@ module _ {D : Type 0} (tape : D → Option Tape) (moment faults : D → ℕ) (se
   same_without_memory kinds.Memory tells is = tells.1
   same_without_memory (kinds.Disk told) tells is = cc
   same_without_memory kinds.NotEmpty tells is = cc
+  same_without_memory (kinds.Beyond segment) tells is = absurd tells
+  same_without_memory (kinds.Foreign stop) tells is = absurd tells
 
   module _ {O : Type 0} (sunk : O → Option (List ℕ)) (sink_faults : O → ℕ) (out : O)
       (before after : SourceView) (script : List (List AskedLine)) (options : RunOptions) where
@@ -58,6 +60,8 @@ module _ {D : Type 0} (tape : D → Option Tape) (moment faults : D → ℕ) (se
         )
     unopened_holds (kinds.Disk told) tells = (tells.2, untouched tells.1)
     unopened_holds kinds.NotEmpty tells = ((tells.3, tells.2), untouched tells.1)
+    unopened_holds (kinds.Beyond segment) tells = absurd tells
+    unopened_holds (kinds.Foreign stop) tells = absurd tells
 
 -- the run of a script that the source handed out
 pub run_of_play : (outside : Outside) (options : ScriptRunOptions) (outcome : Outcome)
@@ -78,6 +82,7 @@ run_of_play outside options NotEmpty script [] means holds =
     (((script, means), (holds.0).0, (holds.0).1), holds.1)
 run_of_play outside options DiskFault script [] means holds =
     (((script, means), holds.0), holds.1)
+run_of_play outside options BeyondCap script [] means holds = absurd holds.0
 run_of_play outside options (Stopped stop) script [] means holds = absurd holds.0
 run_of_play outside options LogFull script [] means holds = absurd holds.0
 run_of_play outside options SinkFault script [] means holds = absurd holds.0

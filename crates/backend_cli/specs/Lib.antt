@@ -3,6 +3,7 @@ pub mod Outcome
 pub mod Outside
 pub mod Headline
 pub mod Run
+pub mod Appending
 pub mod Dumping
 pub mod Redoing
 pub mod Reading

@@ -3,12 +3,13 @@ use Rattle.std.specs.Prelude.{◌≡◌, ◌⊎◌, ℕ, List, []}
 use Rattle.backend_cli.specs.declared.outcome.Outcome.{Outcome}
 use Rattle.backend_cli.specs.declared.outcome.Outcome.TheVariants.{OutOfMemory, Usage}
 use Rattle.told_lines.specs.declared.told.Told.{Told}
-use Rattle.command_words.specs.declared.commands.Command.TheVariants.{Run, Gen, Replay, Dump, Redo}
+use Rattle.command_words.specs.declared.commands.Command.TheVariants.{Run, Append, Gen, Replay, Dump, Redo}
 use Rattle.command_line.specs.declared.asking.Request.{Request}
 use Rattle.command_line.specs.declared.asking.Request.TheVariants.{Command, Help, Version, Nothing}
 use Rattle.command_line.specs.Texts.{help, version}
 use Rattle.backend_cli.specs.Outside.{Outside, IsUntouched, Took}
 use Rattle.backend_cli.specs.Run.{GenHolds, RunHolds}
+use Rattle.backend_cli.specs.Appending.{AppendHolds}
 use Rattle.backend_cli.specs.Dumping.{DumpHolds}
 use Rattle.backend_cli.specs.Redoing.{RedoHolds}
 use Rattle.backend_cli.specs.Replaying.{ReplayHolds}
@@ -51,6 +52,8 @@ Obeys Nothing outside outcome lists = IsUsage outside outcome lists
 Obeys Help outside outcome lists = IsExplained help outside outcome lists
 Obeys Version outside outcome lists = IsExplained version outside outcome lists
 Obeys (Command (Run options)) outside outcome lists = RunHolds outside options outcome lists
+Obeys (Command (Append options)) outside outcome lists =
+    AppendHolds outside options outcome lists
 Obeys (Command (Gen options)) outside outcome lists = GenHolds outside options outcome lists
 Obeys (Command (Replay options)) outside outcome lists =
     ReplayHolds outside options outcome lists
@@ -64,12 +67,13 @@ abbrev pub ObeysInMemory : {D : Type 0} → Request → D → D → Outside → 
 ObeysInMemory request disk disk_now outside outcome lists =
     (IsCutShort outside outcome lists × (disk_now ≡ disk)) ⊎ Obeys request outside outcome lists
 
--- a run is asked for, of a script or of lines that are made
+-- a run is asked for that begins a log, of a script or of lines that are made
 abbrev pub AsksRun : Request → Type 0
 AsksRun Nothing = ⊥
 AsksRun Help = ⊥
 AsksRun Version = ⊥
 AsksRun (Command (Run options)) = Unit {0}
+AsksRun (Command (Append options)) = ⊥
 AsksRun (Command (Gen options)) = Unit {0}
 AsksRun (Command (Replay options)) = ⊥
 AsksRun (Command (Dump options)) = ⊥

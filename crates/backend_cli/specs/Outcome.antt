@@ -11,7 +11,7 @@ use Rattle.wal_reader.specs.Names.{damage_name}
 use Rattle.wal_reader.specs.declared.found.Stopped.{Stopped as LogStop}
 use Rattle.wal_reader.specs.declared.found.Stopped.TheVariants as stops
 use Rattle.backend_cli.specs.declared.outcome.Outcome.{Outcome}
-use Rattle.backend_cli.specs.declared.outcome.Outcome.TheVariants.{Done, OutOfMemory, Usage, SourceFault, ScriptRefused, NotEmpty, DiskFault, Stopped, LogFull, SinkFault}
+use Rattle.backend_cli.specs.declared.outcome.Outcome.TheVariants.{Done, OutOfMemory, Usage, SourceFault, ScriptRefused, NotEmpty, BeyondCap, DiskFault, Stopped, LogFull, SinkFault}
 use Rattle.backend_cli.specs.declared.reading.ScriptUnread.{ScriptUnread}
 use Rattle.backend_cli.specs.declared.reading.ScriptUnread.TheVariants as failures
 
@@ -31,6 +31,8 @@ outcome_unopened opens.BadSetup = OutOfMemory
 outcome_unopened opens.Memory = OutOfMemory
 outcome_unopened (opens.Disk faults) = DiskFault
 outcome_unopened opens.NotEmpty = NotEmpty
+outcome_unopened (opens.Beyond segment) = BeyondCap
+outcome_unopened (opens.Foreign stop) = Stopped stop
 
 -- the exit status
 abbrev pub status_of : Outcome → ℕ
@@ -44,6 +46,7 @@ status_of (Stopped stop) = 6
 status_of SourceFault = 7
 status_of SinkFault = 8
 status_of NotEmpty = 9
+status_of BeyondCap = 10
 
 -- where the log stops, and why
 abbrev pub stop_text : LogStop → List (List ℕ)
@@ -68,3 +71,4 @@ outcome_text (Stopped stop) = stop_text stop
 outcome_text SourceFault = codes "pgwal: source fault\n" ∷ []
 outcome_text SinkFault = codes "pgwal: sink fault\n" ∷ []
 outcome_text NotEmpty = codes "pgwal: log not empty\n" ∷ []
+outcome_text BeyondCap = codes "pgwal: log beyond cap\n" ∷ []

@@ -1,13 +1,14 @@
 -- Lines and answers as they are printed.
-use Rattle.std.specs.Prelude.{ℕ, ◌+◌, ◌-◌, ◌/◌, ◌≡◌, Bool, List, [], ◌∷◌, ◌++◌, codes, length, ◌==◌, if◌then◌else◌}
+use Rattle.std.specs.Prelude.{ℕ, ◌+◌, ◌≡◌, ◌≤◌, Bool, List, [], ◌∷◌, ◌++◌, codes, length, if◌then◌else◌}
 use Rattle.std.specs.Fmt.{decimal}
 use Rattle.byte_position.specs.Position.{end_address_of, first_position}
 use Rattle.wal_types.specs.LsnText.{lsn_text}
 use Rattle.waldump_text.specs.Put.{joined}
+use Rattle.wal_log.specs.declared.reopening.Found.{Found}
 use Rattle.backend_cli.specs.declared.printing.Summary.{Summary}
 use Rattle.wal_script.specs.declared.line.Line.{Line}
 use Rattle.told_lines.specs.declared.told.Told.{Told}
-use Rattle.backend_cli.specs.Texts.{told_line}
+use Rattle.backend_cli.specs.Texts.{segments_upto, told_line}
 use Rattle.told_lines.specs.Counts.{all_commits_of}
 use Rattle.run_laws.specs.Counted.{all_reserved_count}
 use Rattle.backend_lanes.specs.declared.backend.AnsweredLines.{AnsweredLines}
@@ -26,6 +27,12 @@ summary_line s =
     codes " bytes " ∷ decimal s.bytes ∷ codes " end " ∷ lsn_text s.end.0 ∷ codes " segments " ∷
     decimal s.segments ∷ codes "\n" ∷ [])
 
+-- what is printed of a log that was found
+abbrev pub found_line : Found → List ℕ
+found_line found =
+    joined (codes "found " ∷ decimal found.count ∷ codes " end " ∷ lsn_text found.end.0 ∷
+    codes "\n" ∷ [])
+
 -- so many answers as lines
 abbrev pub HasAnswers : AnsweredLines → Type 0
 HasAnswers backend = length backend.lines.items ≡ length backend.told.items
@@ -42,10 +49,17 @@ abbrev pub printed_text : Bool → List AnsweredLines → Summary → List ℕ
 printed_text list backends s =
     (if list then told_lines_upward 0 backends else []) ++ summary_line s
 
--- what a summary says of a log of which so many bytes are taken up, and of what lines were told
-pub record Summarizes (size used : ℕ) (lists : List (List Told)) (s : Summary) : Type 0 where
+-- a log ended at an address that a position has, and ends so many bytes behind it now
+pub record EndsBehind (size place used from end : ℕ) : Type 0 where
+  pub within : first_position size ≤ place
+  pub from_is : from ≡ end_address_of size place
+  pub end_is : end ≡ end_address_of size (place + used)
+
+-- what a summary says of a log of which so many bytes are taken up behind a position, and of what
+-- lines were told
+pub record Summarizes (size from used : ℕ) (lists : List (List Told)) (s : Summary) : Type 0 where
   pub records : s.records ≡ all_reserved_count lists
   pub commits : s.commits ≡ all_commits_of lists
   pub bytes : s.bytes ≡ used
-  pub end : s.end.0 ≡ end_address_of size (first_position size + used)
-  pub segments : s.segments ≡ (if used == 0 then 0 else (s.end.0 - 1) / size)
+  pub end : s.end.0 ≡ end_address_of size (from + used)
+  pub segments : s.segments ≡ segments_upto size s.end.0

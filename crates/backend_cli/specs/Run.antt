@@ -1,5 +1,5 @@
 -- What a run promises.
-use Rattle.std.specs.Prelude.{◌≡◌, ℕ, ◌-◌, ◌^◌, ◌<◌, List, [], ◌∷◌, length, None, Ok, Option, Err, IfSome, IsSome}
+use Rattle.std.specs.Prelude.{◌≡◌, ℕ, ◌+◌, ◌-◌, ◌^◌, ◌<◌, List, [], ◌∷◌, length, None, Ok, Option, Err, IfSome, IsSome}
 use Rattle.segment_disk.specs.Tape.{state_now, page_of_segment}
 use Rattle.flush_core.specs.Pages.{HoldsNothing}
 use Rattle.wal_script.specs.Asked.{AskedLine}
@@ -17,10 +17,13 @@ use Rattle.command_words.specs.declared.commands.RunOptions.{RunOptions}
 use Rattle.command_words.specs.declared.commands.ScriptRunOptions.{ScriptRunOptions}
 use Rattle.generated_lines.specs.Generated.{generated_script}
 use Rattle.told_lines.specs.Whole.{IsWhole}
+use Rattle.wal_page.specs.Order.{rooms_of}
+use Rattle.wal_core.specs.Words.{Opening}
 use Rattle.wal_rule.specs.Founded.{empty_log_opening}
-use Rattle.run_laws.specs.Assured.{IsMachineRun, LeavesLogWords, TapeGoesOn}
+use Rattle.run_laws.specs.Assured.{IsMachineRun, LeavesLogWords, TapeGoesOn, order_told}
+use Rattle.run_laws.specs.Ended.{logged_at_end}
 use Rattle.backend_cli.specs.Headline.{Headline}
-use Rattle.backend_cli.specs.Setups.{run_setup, system_id}
+use Rattle.backend_cli.specs.Setups.{run_setup}
 use Rattle.backend_cli.specs.Texts.{run_text}
 use Rattle.backend_cli.specs.Reading.{ScriptMeans}
 use Rattle.segment_disk.specs.Cause.{Rose, RoseByOne}
@@ -74,42 +77,44 @@ EndsOpened outside told SinkFault =
     × Rose outside.sink_before outside.sink_after
 EndsOpened outside told others = ⊥
 
--- a run that opened the log, of the script with these lines: what it told and made of them
+-- what a run told and made of its script's lines behind the opening of its log; `held` says what the
+-- disk held before the call
+pub record HoldsBehind (opening : Opening) (held : Type 0) (outside : Outside) (outcome : Outcome)
+    (script : List (List AskedLine)) (lists : List (List Told)) : Type 0 where
+  pub machine : IsMachineRun opening outside.tape_after outside.moment_after script lists
+  pub told : TellsAll (logged_at_end opening (order_told opening script lists) outside.disk_after) 1
+      script lists
+  pub stays_down : EachStaysDown lists
+  pub one_fault : TellsOneFault lists
+  pub goes_on : TapeGoesOn outside.tape_before outside.tape_after
+  pub words : held → IfSome outside.tape_after (LeavesLogWords (opening.setup).segment_size
+      (opening.setup).sysid (order_told opening script lists) opening.moment)
+  pub caught_up : EachCatchesUp script lists
+  pub moments : EachRises opening.moment script lists outside.moment_after
+  pub no_late_receipt : held → IfSome outside.tape_after
+      (λ t. EachIsTimely (opening.setup).segment_size opening.moment
+      (order_told opening script lists) t 1 script lists)
+  pub whole : outside.disk_after ≡ outside.disk_before → outside.disk_before < 2 ^ 64 - 1 → held
+      → IsWhole (opening.setup).segment_size outside.tape_after (order_told opening script lists)
+  pub ends : EndsOpened outside lists outcome
+  pub full : SomeTold IsFullAnswer lists
+      → capacity_of (opening.setup).segment_size (opening.setup).cap_segments
+      < rooms_of (opening.setup).segment_size opening.found
+      + all_rooms_asked (opening.setup).segment_size script
+
+-- a run that began the log, of the script with these lines, on a disk that held nothing where that
+-- is told
 pub record HoldsOpened (outside : Outside) (options : RunOptions) (outcome : Outcome)
     (script : List (List AskedLine)) (lists : List (List Told)) : Type 0 where
   pub empty : IfSome outside.tape_before (λ t. page_of_segment (state_now t 1) 0 ≡ None)
-  pub machine : IsMachineRun (empty_log_opening (run_setup options (length script))
-      outside.moment_before outside.disk_before) outside.tape_after outside.moment_after script
-      lists
-  pub told : TellsAll (record {
-    size = options.geometry;
-    capacity = capacity_of options.geometry options.cap_segments;
-    order = order_from options.geometry 1 script lists;
-    faults_at_open = outside.disk_before;
-    last = outside.disk_after;
-  }) 1 script lists
-  pub stays_down : EachStaysDown lists
-  pub one_fault : TellsOneFault lists
   pub headline : Headline options.geometry outside.moment_before script lists outside.tape_before
       outside.tape_after
-  pub goes_on : TapeGoesOn outside.tape_before outside.tape_after
-  pub words : HoldsNothing outside.tape_before → IfSome outside.tape_after (LeavesLogWords
-      options.geometry system_id (order_from options.geometry 1 script lists)
-      outside.moment_before)
-  pub caught_up : EachCatchesUp script lists
-  pub moments : EachRises outside.moment_before script lists outside.moment_after
-  pub no_late_receipt : HoldsNothing outside.tape_before → IfSome outside.tape_after
-      (λ t. EachIsTimely options.geometry outside.moment_before
-      (order_from options.geometry 1 script lists) t 1 script lists)
-  pub whole : outside.disk_after ≡ outside.disk_before → outside.disk_before < 2 ^ 64 - 1
-      → HoldsNothing outside.tape_before → IsWhole options.geometry outside.tape_after
-      (order_from options.geometry 1 script lists)
+  pub behind : HoldsBehind (empty_log_opening (run_setup options (length script))
+      outside.moment_before outside.disk_before) (HoldsNothing outside.tape_before) outside outcome
+      script lists
   pub printed : Took outside.taken_before outside.taken_after outside.sink_before outside.sink_after
-      (run_text options.geometry options.list script lists
+      (run_text options.geometry options.list [] script lists
       (order_from options.geometry 1 script lists))
-  pub ends : EndsOpened outside lists outcome
-  pub full : SomeTold IsFullAnswer lists
-      → capacity_of options.geometry options.cap_segments < all_rooms_asked options.geometry script
 
 -- the run of a script that is known: without told lists the log was not opened, and nothing was
 -- touched

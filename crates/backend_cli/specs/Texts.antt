@@ -57,23 +57,35 @@ told_lines_from backend (lines ∷ script) [] = []
 told_lines_from backend (lines ∷ script) (told ∷ others) =
     told_lines_of backend lines told ++ told_lines_from (backend + 1) script others
 
--- how many segments hold a reserved byte, where the order ends at an address: those from segment 1
--- up to that of the last byte
-abbrev pub segments_upto : ℕ → List Entry → ℕ → ℕ
-segments_upto size [] end = 0
-segments_upto size (e ∷ es) end = (end - 1) / size
+-- how many segments hold a byte of a log that ends at an address: those from segment 1 up to that
+-- of its last byte; none where it ends where segment 1 starts
+abbrev pub segments_upto : ℕ → ℕ → ℕ
+segments_upto size end = (end - 1) / size
 
--- the summary: reserved records, durable commits, bytes that records take up, the log's end, and
--- segments
-abbrev pub summary_text : ℕ → List Entry → ℕ → List ℕ
-summary_text size order commits =
-    let end = end_address_of size (end_position size order) in
+-- the summary of an order that was reserved behind what was found: its records, durable commits,
+-- bytes that its records take up; and of the whole log its end, and segments
+abbrev pub summary_text : ℕ → List Entry → List Entry → ℕ → List ℕ
+summary_text size found order commits =
+    let end = end_address_of size (end_position size (found ++ order)) in
     joined (codes "records " ∷ decimal (length order) ∷ codes " commits " ∷ decimal commits ∷
     codes " bytes " ∷ decimal (rooms_of size order) ∷ codes " end " ∷ lsn_text end ∷
-    codes " segments " ∷ decimal (segments_upto size order end) ∷ codes "\n" ∷ [])
+    codes " segments " ∷ decimal (segments_upto size end) ∷ codes "\n" ∷ [])
 
 -- all that a run prints: the told lines where they are asked for, then the summary
-abbrev pub run_text : ℕ → Bool → List (List AskedLine) → List (List Told) → List Entry → List ℕ
-run_text size list script told order =
+abbrev pub run_text : ℕ → Bool → List Entry → List (List AskedLine) → List (List Told) → List Entry
+    → List ℕ
+run_text size list found script told order =
     (if list then told_lines_from 0 script told else [])
-    ++ summary_text size order (all_commits_of told)
+    ++ summary_text size found order (all_commits_of told)
+
+-- what was found of a log that is gone on with: how many records, and where they end
+abbrev pub found_text : ℕ → List Entry → List ℕ
+found_text size found =
+    joined (codes "found " ∷ decimal (length found) ∷ codes " end " ∷
+    lsn_text (end_address_of size (end_position size found)) ∷ codes "\n" ∷ [])
+
+-- all that a run prints that goes on with a log: first what was found
+abbrev pub append_text : ℕ → Bool → List Entry → List (List AskedLine) → List (List Told)
+    → List Entry → List ℕ
+append_text size list found script told order =
+    found_text size found ++ run_text size list found script told order

@@ -1,6 +1,7 @@
 //! The program's commands over sources, sinks and disks handed in.
 #![tactic(auto)]
 
+mod append;
 mod dump;
 mod generate;
 mod laws;

@@ -11,7 +11,7 @@ use wal_types::Lsn;
 use waldump_text::{SinkFault, put_all};
 
 /// How a command ends: the first of its causes, in the order of the statuses
-/// 1, 2, 7, 3, 9, 4, 6, 5, 8.
+/// 1, 2, 7, 3, 9, 10, 4, 6, 5, 8.
 #[derive(Clone, Copy, Debug)]
 pub enum Outcome {
     Done,
@@ -23,8 +23,11 @@ pub enum Outcome {
     ScriptRefused(Refusal),
     /// Segment 1 was there before the run.
     NotEmpty,
+    /// The log that is to be gone on with has more segments than it may fill.
+    BeyondCap,
     DiskFault,
-    /// The log that is listed or redone does not come to a clean end.
+    /// The log that is listed or redone does not come to a clean end; the one that is to be gone on
+    /// with stops where this program cannot have left it so.
     Stopped(Stopped),
     /// A line found the log full.
     LogFull,
@@ -75,6 +78,7 @@ impl Outcome {
             Outcome::SourceFault => 7,
             Outcome::SinkFault => 8,
             Outcome::NotEmpty => 9,
+            Outcome::BeyondCap => 10,
         }
     }
 
@@ -90,6 +94,7 @@ impl Outcome {
             Outcome::SourceFault => put_all(err, &[b"pgwal: source fault\n"]),
             Outcome::ScriptRefused(refusal) => tell_refusal(refusal, err),
             Outcome::NotEmpty => put_all(err, &[b"pgwal: log not empty\n"]),
+            Outcome::BeyondCap => put_all(err, &[b"pgwal: log beyond cap\n"]),
             Outcome::DiskFault => put_all(err, &[b"pgwal: disk fault\n"]),
             Outcome::Stopped(stopped) => tell_stop(stopped, err),
             Outcome::LogFull => put_all(err, &[b"pgwal: log full\n"]),

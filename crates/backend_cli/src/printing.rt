@@ -4,11 +4,12 @@ ghost use Rattle.wal_types.specs.LsnText.{lsn_text};
 ghost use Rattle.waldump_text.specs.Put.{Puts, joined};
 ghost use Rattle.backend_cli.specs.Texts.{told_line, answer_text, cause_text, reserved_text};
 ghost use Rattle.wal_script.specs.Replay.{most_backends};
-ghost use Rattle.backend_cli.specs.Printing.{HasAnswers, told_lines, told_lines_upward, summary_line};
+ghost use Rattle.backend_cli.specs.Printing.{HasAnswers, found_line, told_lines, told_lines_upward, summary_line};
 
 use backend_lanes::AnsweredLines;
 use segment_disk::Sink;
 use told_lines::Told;
+use wal_log::Found;
 use wal_script::Line;
 use wal_types::{Cause, Lsn};
 use waldump_text::{SinkFault, put_all};
@@ -241,6 +242,24 @@ pub(crate) fn put_told_lists<O: Sink>(
         put_told_lines(out, number as u32, &backend.lines, &backend.told)?;
     }
     Ok(())
+}
+
+/// Puts what was found of a log.
+pub(crate) fn put_found<O: Sink>(out: &mut O, found: Found) -> Result<(), SinkFault>
+    ensures { Puts (O.taken out.old) (O.taken out.new) (O.faults out.old) (O.faults out.new)
+        (found_line found) result }
+{
+    let mut count = itoa::Buffer::new();
+    put_all(
+        out,
+        &[
+            b"found ",
+            count.format(found.count).as_bytes(),
+            b" end ",
+            found.end.text().as_bytes(),
+            b"\n",
+        ],
+    )
 }
 
 /// What a summary says.

@@ -4,13 +4,15 @@ ghost use Rattle.command_words.specs.Given.{IsInRange};
 ghost use Rattle.wal_script.specs.Asked.{AskedLine};
 ghost use Rattle.command_line.specs.Asking.{AsksInRange, asks};
 ghost use Rattle.command_line.specs.Texts.{help, version};
-ghost use Rattle.backend_cli.specs.Asked.{AsksBackends};
+ghost use Rattle.backend_cli.specs.Appending.{AppendHeadline};
+ghost use Rattle.backend_cli.specs.Asked.{AsksAppend, AsksBackends};
 ghost use Rattle.backend_cli.specs.Headline.{Headline};
 ghost use Rattle.backend_cli.specs.Outcome.{status_of, outcome_text};
 ghost use Rattle.backend_cli.specs.Outside.{SourceView, Took, outside_of, source_view};
 ghost use Rattle.backend_cli.specs.Obeying.{AsksNoCommand, AsksReplay, AsksRun, IsExplained, Obeys, ObeysInMemory};
 ghost use Rattle.backend_cli.specs.declared.outcome.Outcome.{Outcome};
 
+use crate::append::append;
 use crate::dump::list;
 use crate::generate::run_generated;
 use crate::outcome::Outcome;
@@ -74,6 +76,7 @@ fn obey_command<R: Threads + Wait + Sync, S: Source, O: Sink, D: Disk + Send, G:
 {
     match command {
         Command::Run(options) => run(rt, alloc, options, script, disk, out, gate),
+        Command::Append(options) => append(rt, alloc, options, script, disk, out, gate),
         Command::Gen(options) => run_generated(rt, alloc, options, disk, out, gate),
         Command::Replay(options) => replay(alloc, options, script, disk, out),
         Command::Dump(options) => list(alloc, options, disk, out),
@@ -173,8 +176,18 @@ pub fn pgwal<R: Threads + Wait + Sync, S: Source, O: Sink, E: Sink, D: Disk + Se
         (source_view S.left S.handed S.ends_told S.faults script.new) size lines
         → (result.told ≡ [] → ⊥)
         → Headline size (D.moment disk) lines result.told (D.tape disk) (D.tape result.disk) }
+    // The same of a run that goes on with the log that is there, of the whole log: what was found,
+    // and behind it what the run reserved, from the moment on at which the disk was handed in.
+    ensures append_headline { (size : ℕ) (lines : List (List AskedLine))
+        → AsksAppend (asks (map (λ w. string_bytes w) words.now))
+        (source_view S.left S.handed S.ends_told S.faults script.old)
+        (source_view S.left S.handed S.ends_told S.faults script.new) size lines
+        → (result.told ≡ [] → ⊥)
+        → AppendHeadline size (D.moment disk) lines result.told (D.tape disk)
+        (D.tape result.disk) }
     // The status and its line on `err` are those of one outcome; for it the command's promises
-    // hold: of `run` told, the headline, no late receipt, whole, printed, and how it ends; of
+    // hold: of `run` told, the headline, no late receipt, whole, printed, and how it ends; so of one
+    // that goes on with a log, with how that was settled; of
     // `replay` the machine behind its schedule, what the crash leaves, and the lines and the
     // listing of it; of `dump` listed; of `redo` redone; of words that ask for help its text, and
     // of others that are no command nothing. Or memory ran out before the command was known, with
@@ -187,7 +200,7 @@ pub fn pgwal<R: Threads + Wait + Sync, S: Source, O: Sink, E: Sink, D: Disk + Se
         (source_view S.left S.handed S.ends_told S.faults script.new)
         D.tape D.moment D.faults disk result.disk O.taken O.faults out.old out.new)
         outcome result.told }
-    // A run that ends for want of memory hands the disk back as it came.
+    // A run that begins a log and ends for want of memory hands the disk back as it came.
     ensures as_handed_in { AsksRun (asks (map (λ w. string_bytes w) words.now)) → result.status ≡ 1
         → result.disk ≡ disk }
     // So do words that are no command.

@@ -1,17 +1,22 @@
-ghost use Rattle.std.specs.Prelude.{◌≡◌, ◌≤◌, ◌↔◌, ◌^◌, ◌+◌, ℕ, All, IfSome, List, [], Ok, IsTrue, false, length, not, vec_len};
-ghost use Rattle.byte_position.specs.Position.{end_address_of, first_position};
+ghost use Rattle.std.specs.Prelude.{◌≡◌, ◌≤◌, ◌↔◌, ◌^◌, ◌++◌, ℕ, All, IfSome, List, [], Ok, Option, IsTrue, false, length, not, vec_len};
 ghost use Rattle.command_words.specs.Given.{IsShapeInRange};
 ghost use Rattle.wal_script.specs.Asked.{AskedLine};
 ghost use Rattle.wal_script.specs.Replay.{most_backends};
 ghost use Rattle.waldump_text.specs.Put.{Puts};
+ghost use Rattle.wal_core.specs.Opened.{first_view};
+ghost use Rattle.wal_core.specs.Words.{found_end};
+ghost use Rattle.wal_rule.specs.Passes.{view_of_pass};
+ghost use Rattle.wal_rule.specs.Tables.{began_of_table};
+ghost use Rattle.wal_log.specs.Logs.{IsPassOfLog, opening_of_log, setup_of_log, table_of};
 ghost use Rattle.wal_log.specs.declared.opening.OpenFaultKind.TheVariants.{BadSetup};
 ghost use Rattle.told_lines.specs.Told.{SomeTold, SomeAnswer, IsFullAnswer};
 ghost use Rattle.told_lines.specs.Counts.{all_commits_of, commits_of, reserved_count};
 ghost use Rattle.run_laws.specs.Counted.{all_reserved_count};
 ghost use Rattle.backend_lanes.specs.Backends.{lists_of};
-ghost use Rattle.backend_cli.specs.Printing.{HasAnswers, Summarizes, printed_text};
-ghost use Rattle.backend_cli.specs.Concluding.{Concludes, IsConcluded};
+ghost use Rattle.backend_cli.specs.Printing.{EndsBehind, HasAnswers, Summarizes, printed_text};
+ghost use Rattle.backend_cli.specs.Concluding.{Concludes, HasPlayedOut, IsConcluded};
 ghost use Rattle.backend_cli.specs.Run.{PlayHolds, RunHolds};
+ghost use Rattle.backend_cli.specs.Setups.{run_setup};
 ghost use Rattle.backend_cli.specs.Outside.{SourceView, outside_of, source_view};
 ghost use Rattle.backend_cli.specs.Prepared.{IsPreparedFor, Prepares, ReadsBackends};
 ghost use Rattle.backend_cli.specs.Outcome.{outcome_unopened};
@@ -20,7 +25,7 @@ ghost use Rattle.backend_cli.specs.Reading.{ScriptMeans};
 use crate::outcome::Outcome;
 use crate::printing::{Summary, put_told_lists};
 use crate::reading::read_script;
-use crate::setup::setup_asked;
+use crate::setup::run_setup;
 use crate::told::ToldLists;
 use backend_lanes::{AnsweredLines, Gate, PlayedRun, Room, play_backends};
 use byte_position::Geometry;
@@ -30,7 +35,7 @@ use std::alloc::{AllocError, Global};
 use std::sync::Wait;
 use std::thread::Threads;
 use told_lines::Told;
-use wal_log::{Closed, OpenFaultKind, Wal};
+use wal_log::{Closed, OpenFault, OpenFaultKind, Pass, Wal};
 use wal_script::{Line, parse_run};
 use wal_types::Lsn;
 use waldump_text::SinkFault;
@@ -57,7 +62,11 @@ fn backends_of<S: Source>(
 }
 
 // Reads the script and takes all room that its backends need.
-fn prepare<S: Source>(alloc: Global, writer: Option<u32>, source: &mut S) -> Result<Room, Outcome>
+pub(crate) fn prepare<S: Source>(
+    alloc: Global,
+    writer: Option<u32>,
+    source: &mut S,
+) -> Result<Room, Outcome>
     ensures { Prepares writer
         (source_view S.left S.handed S.ends_told S.faults source.old)
         (source_view S.left S.handed S.ends_told S.faults source.new) result }
@@ -134,26 +143,20 @@ fn found_full(backends: &[AnsweredLines]) -> bool
     backends.iter().any(has_found_full)
 }
 
-// What the summary says of a log that ends there, and of what its lines were told.
-fn summary_of(geometry: Geometry, end: Lsn, backends: &[AnsweredLines]) -> Summary
+// What the summary says of a log that ended at `from` and now ends at `end`, and of what its lines
+// were told.
+fn summary_of(geometry: Geometry, from: Lsn, end: Lsn, backends: &[AnsweredLines]) -> Summary
     requires few { all_reserved_count (lists_of backends.now) ≤ 2 ^ 42 }
-    requires end { (used : ℕ) × (end.0
-        ≡ end_address_of geometry (first_position geometry + used)) }
-    ensures { (used : ℕ) → end.0 ≡ end_address_of geometry (first_position geometry + used)
-        → Summarizes geometry used (lists_of backends.now) result }
+    requires ends { (place used : ℕ) × EndsBehind geometry place used from.0 end.0 }
+    ensures { (place used : ℕ) → EndsBehind geometry place used from.0 end.0
+        → Summarizes geometry place used (lists_of backends.now) result }
 {
-    let start = geometry.position_of(Lsn(geometry.segment_size()));
-    let bytes = geometry.position_of(end) - start;
     Summary {
         records: all_records_in(backends),
         commits: all_commits_in(backends),
-        bytes,
+        bytes: geometry.position_of(end) - geometry.position_of(from),
         end,
-        segments: if bytes == 0 {
-            0
-        } else {
-            (end.0 - 1) / geometry.segment_size()
-        },
+        segments: (end.0 - 1) / geometry.segment_size(),
     }
 }
 
@@ -173,6 +176,27 @@ fn print<O: Sink>(
         put_told_lists(out, backends)?;
     }
     summary.put(out)
+}
+
+// The same behind a text, unless that could not be printed.
+fn print_behind<O: Sink>(
+    out: &mut O,
+    begun: Result<(), SinkFault>,
+    list: bool,
+    backends: &[AnsweredLines],
+    summary: &Summary,
+) -> Result<(), SinkFault>
+    requires answered { All HasAnswers backends.now }
+    requires few { length backends.now ≤ most_backends }
+    ensures { (taken : Option (List ℕ)) (faults : ℕ) (text : List ℕ)
+        → Puts taken (O.taken out.old) faults (O.faults out.old) text begun
+        → Puts taken (O.taken out.new) faults (O.faults out.new)
+        (text ++ printed_text list backends.now summary.now) result }
+{
+    match begun {
+        Ok(()) => print(out, list, backends, summary),
+        Err(fault) => Err(fault),
+    }
 }
 
 // How a run that opened the log concludes: the first of its causes.
@@ -200,11 +224,28 @@ fn outcome_unopened(kind: OpenFaultKind) -> Outcome
         OpenFaultKind::Memory => Outcome::OutOfMemory,
         OpenFaultKind::Disk { .. } => Outcome::DiskFault,
         OpenFaultKind::NotEmpty => Outcome::NotEmpty,
+        OpenFaultKind::Beyond { .. } => Outcome::BeyondCap,
+        OpenFaultKind::Foreign(stopped) => Outcome::Stopped(stopped),
+    }
+}
+
+/// The end of a run whose log was not opened: the disk comes back.
+pub(crate) fn unopened<D>(alloc: Global, fault: OpenFault<D>) -> Finished<D>
+    requires { fault.kind ≡ BadSetup → ⊥ }
+    ensures outcome { result.outcome ≡ outcome_unopened fault.kind }
+    ensures disk { result.disk ≡ fault.disk }
+    ensures told { result.told ≡ [] }
+{
+    let OpenFault { disk, kind } = fault;
+    Finished {
+        outcome: outcome_unopened(kind),
+        disk,
+        told: ToldLists::none(alloc),
     }
 }
 
 // A disk's moment is the number of its counted calls: a law of its trait.
-fn calls_are_counted<D: Disk>(disk: &D)
+pub(crate) fn calls_are_counted<D: Disk>(disk: &D)
     ensures { IfSome (D.tape disk.now) (λ t. D.moment disk.now ≡ length t.calls) }
 {}
 
@@ -226,45 +267,92 @@ pub(crate) fn run_prepared<R: Threads + Wait + Sync, O: Sink, D: Disk + Send, G:
     ensures as_handed_in { result.outcome ≡ Outcome.OutOfMemory → result.disk ≡ disk }
 {
     calls_are_counted(&disk);
-    let setup = setup_asked(
-        options.geometry,
-        options.ring_pages,
-        options.cap_segments,
-        room.backends.len() as u32,
-    );
+    let setup = run_setup(options, &room);
     match Wal::open(alloc, disk, setup) {
-        Err(fault) => Finished {
-            outcome: outcome_unopened(fault.kind),
-            disk: fault.disk,
-            told: ToldLists::none(alloc),
-        },
+        Err(fault) => unopened(alloc, fault),
         Ok((log, first)) => {
-            let start = Lsn(options.geometry.segment_size());
-            let played = play_backends(rt, log, first, room, gate, start);
-            conclude(options, played, out)
+            let opened = OpenedLog {
+                log,
+                first,
+                end: Lsn(options.geometry.segment_size()),
+                begun: Ok(()),
+            };
+            play_opened(rt, options, opened, room, out, gate)
         }
     }
 }
 
-// Prints what a run told, and tells how it ended.
-fn conclude<O: Sink, D>(options: &RunOptions, played: PlayedRun<D>, out: &mut O) -> Finished<D>
+/// A log that was opened, with its first pass.
+pub(crate) struct OpenedLog<D: Disk> {
+    pub log: Wal<D>,
+    pub first: Pass,
+    /// Where it ended when it was opened.
+    pub end: Lsn,
+    /// What came of printing a text then.
+    pub begun: Result<(), SinkFault>,
+}
+
+/// Plays the lines of all backends over a log that was opened, prints what they were told, and
+/// tells how that ended.
+pub(crate) fn play_opened<R: Threads + Wait + Sync, O: Sink, D: Disk + Send, G: Gate + Sync>(
+    rt: &R,
+    options: &RunOptions,
+    opened: OpenedLog<D>,
+    room: Room,
+    out: &mut O,
+    gate: &G,
+) -> Finished<D>
+    requires pass { IsPassOfLog opened.log opened.first }
+    requires fresh { view_of_pass opened.first ≡ first_view (opening_of_log opened.log) }
+    requires setup { setup_of_log opened.log
+        ≡ run_setup options.now (vec_len room.backends) }
+    requires end { opened.end.0 ≡ found_end (opening_of_log opened.log) }
+    requires counted { IfSome (began_of_table D.tape (table_of opened.log))
+        (λ t. (opening_of_log opened.log).moment ≡ length t.calls) }
+    requires prepared { (script : List (List AskedLine)) × IsPreparedFor script room }
+    ensures { (script : List (List AskedLine)) → IsPreparedFor script room
+        → HasPlayedOut D.tape D.moment D.faults opened.log options.now script opened.begun
+        (O.taken out.old) (O.taken out.new) (O.faults out.old) (O.faults out.new)
+        result.outcome result.disk result.told }
+{
+    let OpenedLog {
+        log,
+        first,
+        end,
+        begun,
+    } = opened;
+    let start = Lsn(options.geometry.segment_size());
+    let played = play_backends(rt, log, first, room, gate, start);
+    conclude(options, end, begun, played, out)
+}
+
+// Prints what a run told behind a text, and tells how it ended. `from` is where the log ended
+// before.
+fn conclude<O: Sink, D>(
+    options: &RunOptions,
+    from: Lsn,
+    begun: Result<(), SinkFault>,
+    played: PlayedRun<D>,
+    out: &mut O,
+) -> Finished<D>
     requires answered { All HasAnswers played.backends.items }
     requires few_backends { vec_len played.backends ≤ most_backends }
     requires few { all_reserved_count (lists_of played.backends.items) ≤ 2 ^ 42 }
-    requires end { (used : ℕ) × (played.closed.end.0 ≡ end_address_of options.now.geometry
-        (first_position options.now.geometry + used)) }
-    ensures concluded { (used : ℕ) → played.closed.end.0 ≡ end_address_of options.now.geometry
-        (first_position options.now.geometry + used)
-        → IsConcluded options.now.geometry options.now.list used played.backends.items
-        played.closed.down (O.taken out.old) (O.taken out.new) (O.faults out.old)
+    requires ends { (place used : ℕ)
+        × EndsBehind options.now.geometry place used from.0 played.closed.end.0 }
+    ensures concluded { (place used : ℕ) (taken : Option (List ℕ)) (faults : ℕ) (text : List ℕ)
+        → EndsBehind options.now.geometry place used from.0 played.closed.end.0
+        → Puts taken (O.taken out.old) faults (O.faults out.old) text begun
+        → IsConcluded options.now.geometry place used options.now.list text
+        played.backends.items played.closed.down taken (O.taken out.new) faults
         (O.faults out.new) result.outcome }
     ensures disk { result.disk ≡ played.closed.disk }
     ensures told { result.told ≡ lists_of played.backends.items }
 {
     let PlayedRun { closed, backends } = played;
     let Closed { disk, end, down } = closed;
-    let summary = summary_of(options.geometry, end, &backends);
-    let is_printed = print(out, options.list, &backends, &summary).is_ok();
+    let summary = summary_of(options.geometry, from, end, &backends);
+    let is_printed = print_behind(out, begun, options.list, &backends, &summary).is_ok();
     Finished {
         outcome: conclusion(down, &backends, is_printed),
         disk,

@@ -1,10 +1,14 @@
-ghost use Rattle.std.specs.Prelude.{◌≡◌, ◌≤◌};
+ghost use Rattle.std.specs.Prelude.{◌≡◌, ◌≤◌, List, length, vec_len};
 ghost use Rattle.command_words.specs.Given.{IsShapeInRange};
 ghost use Rattle.wal_core.specs.Sound.{IsSetup};
 ghost use Rattle.wal_script.specs.Replay.{most_backends};
-ghost use Rattle.backend_cli.specs.Setups.{setup_asked};
+ghost use Rattle.wal_script.specs.Asked.{AskedLine};
+ghost use Rattle.backend_cli.specs.Prepared.{IsPreparedFor};
+ghost use Rattle.backend_cli.specs.Setups.{run_setup, setup_asked};
 
+use backend_lanes::Room;
 use byte_position::Geometry;
+use command_words::RunOptions;
 use wal_core::Setup;
 
 // The system id of each log that this program writes.
@@ -29,4 +33,21 @@ pub(crate) fn setup_asked(
         sysid: SYSTEM_ID,
         passes: backends + 1,
     }
+}
+
+/// The setup of a run's log, whose backends have this room.
+pub(crate) fn run_setup(options: &RunOptions, room: &Room) -> Setup
+    requires in_range { IsShapeInRange options.now.ring_pages options.now.cap_segments }
+    requires prepared { (script : List (List AskedLine)) × IsPreparedFor script room.now }
+    ensures of_room { result ≡ run_setup options.now (vec_len room.now.backends) }
+    ensures of_script { (script : List (List AskedLine)) → IsPreparedFor script room.now
+        → result ≡ run_setup options.now (length script) }
+    ensures can_be { IsSetup result }
+{
+    setup_asked(
+        options.geometry,
+        options.ring_pages,
+        options.cap_segments,
+        room.backends.len() as u32,
+    )
 }

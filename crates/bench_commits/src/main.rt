@@ -9,7 +9,7 @@ mod trouble;
 use asked::{Medium, Options};
 use log::measured;
 use segment_disk::MemDisk;
-use segment_files::FileDisk;
+use segment_files::{Access, FileDisk};
 use std::process;
 use std::process::ExitCode;
 use std::sync::Wait;
@@ -39,7 +39,7 @@ fn run<R: Threads + Wait + Sync>(threads: &R, rt: HostRuntime) -> Result<(), Tro
             measured(threads, rt, alloc, disk, asked)?
         }
         Medium::Files => {
-            let disk = FileDisk::open(rt, alloc, FOLDER, process::id(rt.process()))?;
+            let disk = FileDisk::open(rt, alloc, FOLDER, process::id(rt.process()), Access::Write)?;
             measured(threads, rt, alloc, disk, asked)?
         }
     };

@@ -16,6 +16,7 @@ ghost use Rattle.closed_log.specs.Surviving.{LeavesFronts};
 ghost use Rattle.closed_log.specs.Timely.{IsTimely};
 ghost use Rattle.closed_log.specs.Whole.{HoldsWhole};
 ghost use Rattle.closed_log.specs.Rising.{LogsAreOfOrder};
+ghost use Rattle.told_lines.specs.Crash.{KeepsFound};
 
 /// Each sound state in which one pass is left, has all numbers and is about nothing is that of a
 /// closed log, where the disk tells a tape on which a log may begin.
@@ -32,6 +33,14 @@ pub fn last_passes_leave_closed_logs()
 pub fn closed_logs_survive_crashes()
     ensures survive { (opening : Opening) (order : List Entry) (t : Tape) (v : View)
         → IsClosedOn opening order t v → LeavesFronts opening order t v }
+{}
+
+/// Whatever a crash leaves, at any moment since the opening, reads as records that begin with all
+/// that the opening found, promised or not.
+pub fn closed_logs_keep_what_was_found()
+    ensures keep { (opening : Opening) (order : List Entry) (t : Tape) (v : View)
+        → IsClosedOn opening order t v
+        → KeepsFound (opening.setup).segment_size opening.moment order opening.found t }
 {}
 
 /// Whatever a crash leaves, at any moment since the opening, holds nothing but words of the log, as

@@ -12,7 +12,7 @@ use Rattle.clap.specs.Walk.{Walk, at_row, bundle_met, has_row, idle, more_values
 use Rattle.clap.specs.declared.builder.value_parser.Reading.TheVariants as reading
 use Rattle.clap.specs.declared.parser.matches.ValueSource.TheVariants.{CommandLine}
 use Rattle.command_line.specs.Syntax.{declared_command}
-use Rattle.command_line.specs.Plain.{Letter, Switch, SwitchLetter, Valued, begins_with_hyphen, block_letter, block_option, cap_option, crash_option, end_letter, end_option, fork_letter, fork_option, fullpage_letter, fullpage_switch, letter_of, lettered_option, lettered_switch, limit_letter, limit_option, list_switch, option_name, quiet_letter, quiet_switch, relation_letter, relation_option, ring_option, rmgr_letter, rmgr_option, seg_option, start_letter, start_option, stats_letter, stats_switch, switch_letter_of, switch_name, times_switch, writer_option, xid_letter, xid_option}
+use Rattle.command_line.specs.Plain.{Letter, Switch, SwitchLetter, Valued, append_switch, begins_with_hyphen, block_letter, block_option, cap_option, crash_option, end_letter, end_option, fork_letter, fork_option, fullpage_letter, fullpage_switch, letter_of, lettered_option, lettered_switch, limit_letter, limit_option, list_switch, option_name, quiet_letter, quiet_switch, relation_letter, relation_option, ring_option, rmgr_letter, rmgr_option, seg_option, start_letter, start_option, stats_letter, stats_switch, switch_letter_of, switch_name, times_switch, writer_option, xid_letter, xid_option}
 
 abbrev pub level : Shape
 level = (built declared_command).top
@@ -186,6 +186,9 @@ pub switch_passes : (position : ℕ) (o : Switch) (rows : List Row) (pending : O
 switch_passes position list_switch rows pending into h absent =
     let fresh : has_row (codes "list") (settled_rows rules pending rows) ≡ false = subst (λ (l : List Row). has_row (codes "list") l ≡ false) (sym h.rows_are) absent in
     rw (h.sound, fresh) refl
+switch_passes position append_switch rows pending into h absent =
+    let fresh : has_row (codes "append") (settled_rows rules pending rows) ≡ false = subst (λ (l : List Row). has_row (codes "append") l ≡ false) (sym h.rows_are) absent in
+    rw (h.sound, fresh) refl
 switch_passes position fullpage_switch rows pending into h absent =
     let fresh : has_row (codes "fullpage") (settled_rows rules pending rows) ≡ false = subst (λ (l : List Row). has_row (codes "fullpage") l ≡ false) (sym h.rows_are) absent in
     rw (h.sound, fresh) refl
@@ -204,6 +207,9 @@ unfolding walked
 switch_taken position list_switch rows pending into h absent =
     ap (λ (l : List Row). between position (with_values (codes "list") reading.AsWritten CommandLine (codes "true" ∷ []) (without (codes "list") l)) None) h.rows_are
     ∙ ap (λ (l : List Row). between position l None) (new_row (codes "list") (codes "true") into absent)
+switch_taken position append_switch rows pending into h absent =
+    ap (λ (l : List Row). between position (with_values (codes "append") reading.AsWritten CommandLine (codes "true" ∷ []) (without (codes "append") l)) None) h.rows_are
+    ∙ ap (λ (l : List Row). between position l None) (new_row (codes "append") (codes "true") into absent)
 switch_taken position fullpage_switch rows pending into h absent =
     ap (λ (l : List Row). between position (with_values (codes "fullpage") reading.AsWritten CommandLine (codes "true" ∷ []) (without (codes "fullpage") l)) None) h.rows_are
     ∙ ap (λ (l : List Row). between position l None) (new_row (codes "fullpage") (codes "true") into absent)

@@ -15,7 +15,7 @@ use Rattle.command_words.specs.declared.commands.Command.{Command as Task}
 use Rattle.command_line.specs.declared.asking.Request.TheVariants.{Command}
 use Rattle.command_line.specs.Asking.{asks, given_in, is_set, request_of}
 use Rattle.command_line.specs.Syntax.{declared_command}
-use Rattle.command_line.specs.Plain.{Switch, Use, Valued, are_plain, are_plain_behind, begins_with_hyphen, block_letter, block_option, cap_option, crash_option, end_letter, end_option, fork_letter, fork_option, fullpage_letter, fullpage_switch, given_by, is_switched, letter_of, lettered, lettered_option, lettered_switch, limit_letter, limit_option, list_switch, name_words, option_name, pair_given, quiet_letter, quiet_switch, relation_letter, relation_option, ring_option, rmgr_letter, rmgr_option, seg_option, start_letter, start_option, stats_letter, stats_switch, switch_letter_of, switch_name, switched, switched_by_letter, times_switch, value_for, valued, words_of_uses, writer_option, xid_letter, xid_option}
+use Rattle.command_line.specs.Plain.{Switch, Use, Valued, append_switch, are_plain, are_plain_behind, begins_with_hyphen, block_letter, block_option, cap_option, crash_option, end_letter, end_option, fork_letter, fork_option, fullpage_letter, fullpage_switch, given_by, is_switched, letter_of, lettered, lettered_option, lettered_switch, limit_letter, limit_option, list_switch, name_words, option_name, pair_given, quiet_letter, quiet_switch, relation_letter, relation_option, ring_option, rmgr_letter, rmgr_option, seg_option, start_letter, start_option, stats_letter, stats_switch, switch_letter_of, switch_name, switched, switched_by_letter, times_switch, value_for, valued, words_of_uses, writer_option, xid_letter, xid_option}
 use Rattle.command_line.proofs.PlainWalk.{IsPlainWord, Settles, absent_row, between, is_plain_word, letter_opened, letter_opens, level, opened, opens, row_with, rules, switch_letter_passes, switch_letter_taken, switch_passes, switch_taken, value_passes, value_settles, value_taken}
 use Rattle.command_line.proofs.Requests.{asks-taken, none_entered}
 use Rattle.clap.specs.declared.parser.matches.ValueSource.TheVariants.{DefaultValue}
@@ -70,6 +70,7 @@ no_option_row limit_option command topic pairs absent = no_row_behind (codes "li
 
 no_switch_row : (o : Switch) (command : Text) (topic : Option Text) (pairs : List (Text × Text)) → is_some (value_for (switch_name o) pairs) ≡ false → has_row (switch_name o) (rows_behind command topic pairs) ≡ false
 no_switch_row list_switch command topic pairs absent = no_row_behind (codes "list") command topic pairs refl refl absent
+no_switch_row append_switch command topic pairs absent = no_row_behind (codes "append") command topic pairs refl refl absent
 no_switch_row fullpage_switch command topic pairs absent = no_row_behind (codes "fullpage") command topic pairs refl refl absent
 no_switch_row quiet_switch command topic pairs absent = no_row_behind (codes "quiet") command topic pairs refl refl absent
 no_switch_row stats_switch command topic pairs absent = no_row_behind (codes "stats") command topic pairs refl refl absent
@@ -334,6 +335,7 @@ no_topic (valued start_option value ∷ uses) = no_topic uses
 no_topic (valued end_option value ∷ uses) = no_topic uses
 no_topic (valued limit_option value ∷ uses) = no_topic uses
 no_topic (switched list_switch ∷ uses) = no_topic uses
+no_topic (switched append_switch ∷ uses) = no_topic uses
 no_topic (switched fullpage_switch ∷ uses) = no_topic uses
 no_topic (switched quiet_switch ∷ uses) = no_topic uses
 no_topic (switched stats_switch ∷ uses) = no_topic uses
@@ -375,6 +377,7 @@ all_given command topic uses =
     let writer_is : first_of (codes "writer") (fold with_default rows rules) ≡ value_for (codes "writer") pairs = first_kept_by_all (codes "writer") rules rows refl ∙ first_of-behind (codes "writer") command topic pairs refl refl in
     let crash_is : first_of (codes "crash") (fold with_default rows rules) ≡ value_for (codes "crash") pairs = first_kept_by_all (codes "crash") rules rows refl ∙ first_of-behind (codes "crash") command topic pairs refl refl in
     let list_is : is_set (codes "list") (fold with_default rows rules) ≡ is_switched (codes "list") pairs = switch_kept_by_all (codes "list") rules rows refl ∙ ap is_on (first_of-behind (codes "list") command topic pairs refl refl) in
+    let append_is : is_set (codes "append") (fold with_default rows rules) ≡ is_switched (codes "append") pairs = switch_kept_by_all (codes "append") rules rows refl ∙ ap is_on (first_of-behind (codes "append") command topic pairs refl refl) in
     let rmgr_is : first_of (codes "rmgr") (fold with_default rows rules) ≡ value_for (codes "rmgr") pairs = first_kept_by_all (codes "rmgr") rules rows refl ∙ first_of-behind (codes "rmgr") command topic pairs refl refl in
     let xid_is : first_of (codes "xid") (fold with_default rows rules) ≡ value_for (codes "xid") pairs = first_kept_by_all (codes "xid") rules rows refl ∙ first_of-behind (codes "xid") command topic pairs refl refl in
     let relation_is : first_of (codes "relation") (fold with_default rows rules) ≡ value_for (codes "relation") pairs = first_kept_by_all (codes "relation") rules rows refl ∙ first_of-behind (codes "relation") command topic pairs refl refl in
@@ -387,7 +390,7 @@ all_given command topic uses =
     let quiet_is : is_set (codes "quiet") (fold with_default rows rules) ≡ is_switched (codes "quiet") pairs = switch_kept_by_all (codes "quiet") rules rows refl ∙ ap is_on (first_of-behind (codes "quiet") command topic pairs refl refl) in
     let stats_is : is_set (codes "stats") (fold with_default rows rules) ≡ is_switched (codes "stats") pairs = switch_kept_by_all (codes "stats") rules rows refl ∙ ap is_on (first_of-behind (codes "stats") command topic pairs refl refl) in
     let times_is : is_set (codes "times") (fold with_default rows rules) ≡ is_switched (codes "times") pairs = switch_kept_by_all (codes "times") rules rows refl ∙ ap is_on (first_of-behind (codes "times") command topic pairs refl refl) in
-    rw (command_is, topic_is, seg_is, ring_is, cap_is, crash_is, list_is, writer_is, rmgr_is, xid_is, relation_is, block_is, fork_is, fullpage_is, start_is, end_is, limit_is, quiet_is, stats_is, times_is) refl
+    rw (command_is, topic_is, seg_is, ring_is, cap_is, crash_is, list_is, writer_is, append_is, rmgr_is, xid_is, relation_is, block_is, fork_is, fullpage_is, start_is, end_is, limit_is, quiet_is, stats_is, times_is) refl
 
 none_of : (a b c d e : Kinds) → a ≡ [] → b ≡ [] → c ≡ [] → d ≡ [] → e ≡ [] → or_else a (or_else b (or_else c (or_else d e))) ≡ []
 none_of a b c d e none_a none_b none_c none_d none_e = rw (none_a, none_b, none_c, none_d) none_e

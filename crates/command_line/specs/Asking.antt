@@ -25,6 +25,7 @@ given_in rows = record {
   cap = first_of (codes "cap") rows;
   list = is_set (codes "list") rows;
   writer = first_of (codes "writer") rows;
+  append = is_set (codes "append") rows;
   crash = first_of (codes "crash") rows;
   rmgr = first_of (codes "rmgr") rows;
   xid = first_of (codes "xid") rows;

@@ -26,6 +26,7 @@ pub data Valued : Type 0 where
 -- those without one
 pub data Switch : Type 0 where
   list_switch : Switch
+  append_switch : Switch
   fullpage_switch : Switch
   quiet_switch : Switch
   stats_switch : Switch
@@ -50,6 +51,7 @@ option_name limit_option = codes "limit"
 -- its name
 abbrev pub switch_name : Switch → Text
 switch_name list_switch = codes "list"
+switch_name append_switch = codes "append"
 switch_name fullpage_switch = codes "fullpage"
 switch_name quiet_switch = codes "quiet"
 switch_name stats_switch = codes "stats"
@@ -175,6 +177,7 @@ given_by command topic uses =
       cap = value_for (codes "cap") pairs;
       list = is_switched (codes "list") pairs;
       writer = value_for (codes "writer") pairs;
+      append = is_switched (codes "append") pairs;
       crash = value_for (codes "crash") pairs;
       rmgr = value_for (codes "rmgr") pairs;
       xid = value_for (codes "xid") pairs;

@@ -31,10 +31,11 @@ abbrev pub shape_rules : List Rule
 shape_rules =
     long_rule (codes "seg") ∷ long_rule (codes "ring") ∷ long_rule (codes "cap") ∷ []
 
--- what `run` and `gen` alone take, what `run` alone, and what `replay` alone
+-- what `run` and `gen` alone take, what `run` alone takes, and what `replay` alone
 abbrev pub script_rules : List Rule
 script_rules =
-    long_switch_rule (codes "list") ∷ long_rule (codes "writer") ∷ long_rule (codes "crash") ∷ []
+    long_switch_rule (codes "list") ∷ long_rule (codes "writer") ∷ long_switch_rule (codes "append")
+    ∷ long_rule (codes "crash") ∷ []
 
 -- what `dump` takes: -r, -x and -w
 abbrev pub record_rules : List Rule

@@ -72,6 +72,7 @@ fn given_words<'a>(matches: &ArgMatches<'a>) -> GivenWords<'a>
         cap: word_of(matches, "cap"),
         list: is_set(matches, "list"),
         writer: word_of(matches, "writer"),
+        append: is_set(matches, "append"),
         crash: word_of(matches, "crash"),
         rmgr: word_of(matches, "rmgr"),
         xid: word_of(matches, "xid"),

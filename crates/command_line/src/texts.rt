@@ -8,7 +8,7 @@ const VERSION_LINE: &str = "pgwal 0.1
 
 const HELP: &str = "pgwal writes a write-ahead log in PostgreSQL 16's format, and lists it.
 
-pgwal run [--seg N] [--ring N] [--cap N] [--list] [--writer N]
+pgwal run [--seg N] [--ring N] [--cap N] [--list] [--writer N] [--append]
     Writes a log into the folder pg_wal, from the script on standard input. The script has the
     lines of at most 64 backends, with a line B between two of them; the backends do their lines
     side by side.
@@ -19,12 +19,17 @@ pgwal run [--seg N] [--ring N] [--cap N] [--list] [--writer N]
     --list     prints a line for each line of the script
     --writer N adds a log writer, as a backend behind the script's last: it flushes N times, 1 to
                1000, and so makes commits durable that lines A were answered for
+    --append   goes on with the log that is there, also one that a crash left: what it holds is
+               made durable, what lies behind its end is cleared, and the script's records follow
+               it. Prints first how many records were found, and where they end
     Example: an insert and a commit
         printf 'I 700 10 00 aabb\\nC 700 0\\n' | pgwal run --list
     Example: a commit that is answered before it is durable, and a log writer that makes it so
         printf 'A 700 0\\n' | pgwal run --list --writer 10
     Example: a segment switch between two commits: the second one is in the next segment
         printf 'C 700 0\\nW\\nC 701 0\\n' | pgwal run --list
+    Example: one more commit, behind all that is there
+        printf 'C 702 0\\n' | pgwal run --append --list
 
 pgwal gen N [--seg N] [--ring N] [--cap N] [--list]
     Writes a log into the folder pg_wal as run does, of lines that are made in place of a script:
@@ -87,10 +92,11 @@ Status:
     3  a line of the script is refused
     4  the disk failed
     5  the log is full
-    6  the log that is listed or redone is damaged, or holds what is not read
+    6  the log that is listed, redone or gone on with is damaged, or holds what is not read
     7  the script could not be read
     8  the output could not be written
     9  a log is there already
+   10  the log that is to be gone on with has more segments than it may fill
 ";
 
 /// What help prints: what each command does, its options with an example, and the statuses.

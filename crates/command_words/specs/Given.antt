@@ -7,9 +7,10 @@ use Rattle.listing_filter.specs.Names.{fork_named}
 use Rattle.listing_filter.specs.declared.Filter.{Filter}
 use Rattle.command_words.specs.Meanings.{block_number_of, cap_segments_of, crash_of, limit_of, line_count_of, lsn_of, manager_of, relation_of, ring_pages_of, segment_size_of, writer_lines_of, xid_of}
 use Rattle.command_words.specs.declared.commands.Command.{Command}
-use Rattle.command_words.specs.declared.commands.Command.TheVariants.{Run, Gen, Dump, Replay, Redo}
+use Rattle.command_words.specs.declared.commands.Command.TheVariants.{Run, Append, Gen, Dump, Replay, Redo}
 use Rattle.command_words.specs.declared.commands.CrashPick.TheVariants.{New}
 use Rattle.command_words.specs.declared.commands.RunOptions.{RunOptions}
+use Rattle.command_words.specs.declared.commands.ScriptRunOptions.{ScriptRunOptions}
 use Rattle.command_words.specs.declared.given.GivenWords.{GivenWords}
 
 -- the words given: of the command's name, of what stands behind it, and of each option
@@ -21,6 +22,7 @@ pub record Given : Type 0 where
   pub cap : Option (List ℕ)
   pub list : Bool
   pub writer : Option (List ℕ)
+  pub append : Bool
   pub crash : Option (List ℕ)
   pub rmgr : Option (List ℕ)
   pub xid : Option (List ℕ)
@@ -49,6 +51,7 @@ given_of words = record {
   cap = text_of words.cap;
   list = words.list;
   writer = text_of words.writer;
+  append = words.append;
   crash = text_of words.crash;
   rmgr = text_of words.rmgr;
   xid = text_of words.xid;
@@ -93,10 +96,14 @@ default_ring_pages = 64
 abbrev pub default_cap_segments : ℕ
 default_cap_segments = 64
 
--- an option is given that only `run`, `gen` or `replay` takes
+-- an option is given that only `run` takes
+abbrev pub gives_run : Given → Bool
+gives_run g = is_some g.writer || g.append
+
+-- one that only `run`, `gen` or `replay` takes
 abbrev pub gives_run_gen_or_replay : Given → Bool
 gives_run_gen_or_replay g =
-    is_some g.ring || is_some g.cap || g.list || is_some g.writer || is_some g.crash
+    is_some g.ring || is_some g.cap || g.list || gives_run g || is_some g.crash
 
 -- one that says which records are listed
 abbrev pub gives_selection : Given → Bool
@@ -136,18 +143,22 @@ run_options_of g = if gives_dump g || is_some g.crash then None else do
     list = g.list;
   })
 
+-- to run a script on the log that is there, or on one that is begun
+abbrev pub run_command : Bool → ScriptRunOptions → Command
+run_command append options = if append then Append options else Run options
+
 -- what `run` is asked to do, with its own options alone: it has a log writer where its option is
--- given
+-- given, and goes on with the log that is there where that is asked for
 abbrev pub run_of : Given → Option Command
 run_of g = if is_some g.topic then None else do
   options ← run_options_of g
   writer ← read writer_lines_of g.writer
-  Some (Run (record { run = options; writer = writer }))
+  Some (run_command g.append (record { run = options; writer = writer }))
 
--- what `gen` is asked to do: a run, with its options but the writer's, of as many lines of each
--- backend as the word behind the command's name says
+-- what `gen` is asked to do: a run, with the options that it shares with `run`, of as many lines of
+-- each backend as the word behind the command's name says
 abbrev pub gen_of : Given → Option Command
-gen_of g = if is_some g.writer then None else do
+gen_of g = if gives_run g then None else do
   lines ← option_and_then line_count_of g.topic
   options ← run_options_of g
   Some (Gen (record { lines = lines; run = options }))
@@ -155,7 +166,7 @@ gen_of g = if is_some g.writer then None else do
 -- what `replay` is asked to do, with its own options alone; a crash leaves what was written last
 -- where nothing else is given
 abbrev pub replay_of : Given → Option Command
-replay_of g = if is_some g.topic || gives_dump g || g.list || is_some g.writer then None else do
+replay_of g = if is_some g.topic || gives_dump g || g.list || gives_run g then None else do
   shape ← shape_of g
   crash ← or_default New crash_of g.crash
   Some (Replay (record {
@@ -236,12 +247,16 @@ abbrev pub IsShapeInRange : ℕ → ℕ → Type 0
 IsShapeInRange ring_pages cap_segments =
     (4 ≤ ring_pages) × (ring_pages ≤ 64) × (1 ≤ cap_segments) × (cap_segments ≤ 4096)
 
--- the log of a run or a replay has such a shape, a writer has 1 to 1000 lines, and `gen` makes 1 to
--- 100000 lines of each backend
-abbrev pub IsInRange : Command → Type 0
-IsInRange (Run options) =
+-- the log of a script's run has such a shape, and a writer has 1 to 1000 lines
+abbrev pub IsScriptRunInRange : ScriptRunOptions → Type 0
+IsScriptRunInRange options =
     IsShapeInRange options.run.ring_pages options.run.cap_segments
     × IfSome options.writer (λ n. (1 ≤ n) × (n ≤ 1000))
+
+-- the log of a run or a replay has such a shape, and `gen` makes 1 to 100000 lines of each backend
+abbrev pub IsInRange : Command → Type 0
+IsInRange (Run options) = IsScriptRunInRange options
+IsInRange (Append options) = IsScriptRunInRange options
 IsInRange (Gen options) =
     (1 ≤ options.lines) × (options.lines ≤ 100000)
     × IsShapeInRange options.run.ring_pages options.run.cap_segments

@@ -73,8 +73,10 @@ pub struct RedoOptions {
 /// What a command line asks for.
 #[derive(Clone, Copy, Debug)]
 pub enum Command {
-    /// Runs a script.
+    /// Runs a script, on a log that it begins.
     Run(ScriptRunOptions),
+    /// Runs a script, on the log that is there: `run` with its switch `--append`.
+    Append(ScriptRunOptions),
     /// Runs lines that are made.
     Gen(GenOptions),
     /// Plays a script of several backends turn by turn, and lists the log that a crash leaves.

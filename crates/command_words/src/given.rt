@@ -1,7 +1,7 @@
 ghost use Rattle.std.specs.Prelude.{◌≡◌, ◌||◌, IfSome, is_some, option_map};
 ghost use Rattle.command_words.specs.Meanings.{block_number_of, cap_segments_of, crash_of, limit_of, line_count_of, lsn_of, manager_of, relation_of, ring_pages_of, segment_size_of, writer_lines_of, xid_of};
 ghost use Rattle.command_words.specs.declared.commands.CrashPick.TheVariants.{New};
-ghost use Rattle.command_words.specs.Given.{IsInRange, IsShapeInRange, command_of, default_segment_size, dump_of, filter_of, gen_of, given_of, gives_dump, gives_extent, gives_form, gives_run_gen_or_replay, gives_selection, lacks_relation, or_default, redo_of, replay_of, run_of, run_options_of, settled, shape_of, text_of, with_block_rules, with_extent, with_form, with_record_rules};
+ghost use Rattle.command_words.specs.Given.{IsInRange, IsShapeInRange, command_of, default_segment_size, dump_of, filter_of, gen_of, given_of, gives_dump, gives_extent, gives_form, gives_run, gives_run_gen_or_replay, gives_selection, lacks_relation, or_default, redo_of, replay_of, run_of, run_options_of, settled, shape_of, text_of, with_block_rules, with_extent, with_form, with_record_rules};
 
 use crate::commands::{
     Command, CrashPick, DumpOptions, GenOptions, RedoOptions, ReplayOptions, RunOptions,
@@ -38,6 +38,8 @@ pub struct GivenWords<'a> {
     pub list: bool,
     /// How many lines the log writer has: `run` alone takes it.
     pub writer: Option<&'a str>,
+    /// Whether the log that is there is gone on with: `run` alone takes it.
+    pub append: bool,
     /// Which words of the disk a crash leaves: `replay` alone takes it.
     pub crash: Option<&'a str>,
     /// The manager of the records that are listed.
@@ -92,14 +94,19 @@ impl GivenWords<'_> {
         }
         let run = self.run_options()?;
         let writer = settled(self.writer.map(writer_lines))?;
-        Some(Command::Run(ScriptRunOptions { run, writer }))
+        let options = ScriptRunOptions { run, writer };
+        Some(if self.append {
+            Command::Append(options)
+        } else {
+            Command::Run(options)
+        })
     }
 
     fn generated_run(&self) -> Option<Command>
         ensures command { result ≡ gen_of (given_of self.now) }
         ensures in_range { IfSome result IsInRange }
     {
-        if self.writer.is_some() {
+        if self.gives_run() {
             return None;
         }
         let lines = line_count(self.topic?)?;
@@ -111,7 +118,7 @@ impl GivenWords<'_> {
         ensures command { result ≡ replay_of (given_of self.now) }
         ensures in_range { IfSome result IsInRange }
     {
-        if self.topic.is_some() || self.gives_dump() || self.list || self.writer.is_some() {
+        if self.topic.is_some() || self.gives_dump() || self.list || self.gives_run() {
             return None;
         }
         let (geometry, ring_pages, cap_segments) = self.shape()?;
@@ -147,6 +154,13 @@ impl GivenWords<'_> {
         Some(Command::Redo(RedoOptions { geometry }))
     }
 
+    // Whether an option is given that only `run` takes.
+    fn gives_run(&self) -> bool
+        ensures { result ≡ gives_run (given_of self.now) }
+    {
+        self.writer.is_some() || self.append
+    }
+
     // Whether an option is given that only `run`, `gen` or `replay` takes.
     fn gives_run_gen_or_replay(&self) -> bool
         ensures { result ≡ gives_run_gen_or_replay (given_of self.now) }
@@ -154,7 +168,7 @@ impl GivenWords<'_> {
         self.ring.is_some()
             || self.cap.is_some()
             || self.list
-            || self.writer.is_some()
+            || self.gives_run()
             || self.crash.is_some()
     }
 

@@ -2,7 +2,7 @@
 use crate::folders::above;
 use crate::played::{Answer, Call, DONE, FAILED, play};
 use segment_disk::Disk;
-use segment_files::FileDisk;
+use segment_files::{Access, FileDisk};
 use std::fs;
 use std::os::unix::fs::symlink;
 use std::test::Fail;
@@ -42,7 +42,7 @@ fn nothing_answers_ok_after_a_failure(rt: HostRuntime) -> Result<(), Fail> {
     let path = format!(in alloc; "{folder}/000000010000000000000001")?;
     for (file, answers) in FILES {
         symlink(&rt, *file, path.as_str())?;
-        let mut disk = FileDisk::open(rt, alloc, folder.as_str(), 7)?;
+        let mut disk = FileDisk::open(rt, alloc, folder.as_str(), 7, Access::Write)?;
         play(&rt, &mut disk, answers);
         fs::remove_file(&rt, path.as_str())?;
     }
@@ -56,7 +56,7 @@ static NO_SEGMENT: &[(Call, Answer)] = &[(Call::Create(1), FAILED), (Call::Read(
 #[test]
 fn folder_that_fails_has_no_segment(rt: HostRuntime) -> Result<(), Fail> {
     for folder in ["/proc", "/dev/null/log"] {
-        let mut disk = FileDisk::open(rt, rt.alloc(), folder, 7)?;
+        let mut disk = FileDisk::open(rt, rt.alloc(), folder, 7, Access::Write)?;
         play(&rt, &mut disk, NO_SEGMENT);
         assert_eq!(rt; (disk.faults(), disk.moment()), (2, 1));
     }

@@ -3,7 +3,7 @@ use crate::folders::{above, mode, names};
 use crate::played::{Answer, Call, DONE, FAILED, answer_of, crosses_threads, play};
 use byte_position::Geometry;
 use segment_disk::{Disk, Failed};
-use segment_files::FileDisk;
+use segment_files::{Access, FileDisk};
 use std::fs;
 use std::process::Abort;
 use std::test::Fail;
@@ -36,7 +36,7 @@ fn segments_are_files_of_a_folder(rt: HostRuntime) -> Result<(), Fail> {
     let above = above(rt, "segments")?;
     let folder = format!(in alloc; "{above}/log")?;
     let path = format!(in alloc; "{folder}/000000010000000000000001")?;
-    let mut disk = FileDisk::open(rt, alloc, folder.as_str(), 7)?;
+    let mut disk = FileDisk::open(rt, alloc, folder.as_str(), 7, Access::Write)?;
     crosses_threads(&disk);
     play(&rt, &mut disk, BEFORE);
     assert_eq!(rt;
@@ -54,41 +54,43 @@ fn segments_are_files_of_a_folder(rt: HostRuntime) -> Result<(), Fail> {
 
 #[derive(Clone, Copy, Debug)]
 enum Who {
-    First,
-    Second,
+    Writer,
+    Reader,
 }
 
 // Calls of two objects over one folder.
 static SHARED: &[(Who, Call, Answer)] = &[
-    (Who::First, Call::Create(1), DONE),
-    (Who::First, Call::Write(1, 77, 177), DONE),
-    (Who::First, Call::Write(1, 0, 100), DONE),
-    (Who::First, Call::Write(1, 1, 101), DONE),
-    (Who::First, Call::Write(1, 127, 227), DONE),
-    (Who::First, Call::Write(1, 126, 226), DONE),
+    (Who::Writer, Call::Create(1), DONE),
+    (Who::Writer, Call::Write(1, 77, 177), DONE),
+    (Who::Writer, Call::Write(1, 0, 100), DONE),
+    (Who::Writer, Call::Write(1, 1, 101), DONE),
+    (Who::Writer, Call::Write(1, 127, 227), DONE),
+    (Who::Writer, Call::Write(1, 126, 226), DONE),
     // It sees its own pages before they are synced.
-    (Who::First, Call::Read(1, 126), Ok(Some([226; 4]))),
-    (Who::First, Call::Read(1, 127), Ok(Some([227; 4]))),
-    (Who::First, Call::Write(1, 127, 1), DONE),
-    (Who::First, Call::Read(1, 127), Ok(Some([1; 4]))),
-    (Who::First, Call::Write(1, 127, 227), DONE),
-    (Who::First, Call::Sync(1), DONE),
+    (Who::Writer, Call::Read(1, 126), Ok(Some([226; 4]))),
+    (Who::Writer, Call::Read(1, 127), Ok(Some([227; 4]))),
+    (Who::Writer, Call::Write(1, 127, 1), DONE),
+    (Who::Writer, Call::Read(1, 127), Ok(Some([1; 4]))),
+    (Who::Writer, Call::Write(1, 127, 227), DONE),
+    (Who::Writer, Call::Sync(1), DONE),
     // What one wrote and synced another one reads, also where pages were not written in order.
-    (Who::Second, Call::Read(1, 0), Ok(Some([100; 4]))),
-    (Who::Second, Call::Read(1, 1), Ok(Some([101; 4]))),
-    (Who::Second, Call::Read(1, 2), Ok(Some([0; 4]))),
-    (Who::Second, Call::Read(1, 77), Ok(Some([177; 4]))),
-    (Who::Second, Call::Read(1, 126), Ok(Some([226; 4]))),
-    (Who::Second, Call::Read(1, 127), Ok(Some([227; 4]))),
-    (Who::Second, Call::Read(1, 76), Ok(Some([0; 4]))),
+    (Who::Reader, Call::Read(1, 0), Ok(Some([100; 4]))),
+    (Who::Reader, Call::Read(1, 1), Ok(Some([101; 4]))),
+    (Who::Reader, Call::Read(1, 2), Ok(Some([0; 4]))),
+    (Who::Reader, Call::Read(1, 77), Ok(Some([177; 4]))),
+    (Who::Reader, Call::Read(1, 126), Ok(Some([226; 4]))),
+    (Who::Reader, Call::Read(1, 127), Ok(Some([227; 4]))),
+    (Who::Reader, Call::Read(1, 76), Ok(Some([0; 4]))),
     // What was read ahead is read anew where it is asked for again.
-    (Who::First, Call::Write(1, 76, 9), DONE),
-    (Who::First, Call::Sync(1), DONE),
-    (Who::Second, Call::Read(1, 76), Ok(Some([9; 4]))),
-    // A segment that is there is not replaced.
-    (Who::Second, Call::Create(1), FAILED),
-    (Who::First, Call::Create(1), FAILED),
-    (Who::First, Call::Read(1, 0), Ok(Some([100; 4]))),
+    (Who::Writer, Call::Write(1, 76, 9), DONE),
+    (Who::Writer, Call::Sync(1), DONE),
+    (Who::Reader, Call::Read(1, 76), Ok(Some([9; 4]))),
+    // A segment that is there is not replaced, and who only reads changes nothing.
+    (Who::Writer, Call::Create(1), FAILED),
+    (Who::Reader, Call::Create(2), FAILED),
+    (Who::Reader, Call::Write(1, 0, 5), FAILED),
+    (Who::Reader, Call::Sync(1), FAILED),
+    (Who::Writer, Call::Read(1, 0), Ok(Some([100; 4]))),
 ];
 
 // A file that has the temporary name already is neither followed nor changed nor removed, and no
@@ -100,21 +102,50 @@ fn objects_share_a_folder(rt: HostRuntime) -> Result<(), Fail> {
     fs::create_dir(&rt, folder.as_str())?;
     let taken = format!(in alloc; "{folder}/xlogtemp.7.0")?;
     fs::write(&rt, taken.as_str(), "mine")?;
-    let mut first = FileDisk::open(rt, alloc, folder.as_str(), 7)?;
-    let mut second = FileDisk::open(rt, alloc, folder.as_str(), 8)?;
+    let mut writer = FileDisk::open(rt, alloc, folder.as_str(), 7, Access::Write)?;
+    let mut reader = FileDisk::open(rt, alloc, folder.as_str(), 8, Access::Read)?;
     for (who, call, answer) in SHARED {
         let told = match who {
-            Who::First => answer_of(&mut first, *call),
-            Who::Second => answer_of(&mut second, *call),
+            Who::Writer => answer_of(&mut writer, *call),
+            Who::Reader => answer_of(&mut reader, *call),
         };
         assert_eq!(rt; told, *answer, "{who:?} {call:?}");
     }
     assert_eq!(rt;
-        (first.faults(), second.faults(), second.moment()),
-        (1, 1, 1)
+        (writer.faults(), reader.faults(), reader.moment()),
+        (1, 3, 3)
     );
     assert_eq!(rt; fs::read_to_string(&rt, taken.as_str())?.as_str(), "mine");
     assert_eq!(rt; names(rt, folder.as_str())?, (2, true));
+    fs::remove_dir_all(&rt, folder.as_str())?;
+    Ok(())
+}
+
+static KEPT_OUT: &[(Call, Answer)] = &[
+    (Call::Read(1, 0), FAILED),
+    (Call::Create(2), FAILED),
+    (Call::Sync(1), FAILED),
+];
+
+static LET_IN: &[(Call, Answer)] = &[
+    (Call::Read(1, 0), Ok(Some([0; 4]))),
+    (Call::Create(1), FAILED),
+    (Call::Create(2), DONE),
+];
+
+// The first one that asks has the folder until it is dropped; the other one changes nothing.
+#[test]
+fn one_writer_has_a_folder(rt: HostRuntime) -> Result<(), Fail> {
+    let alloc = rt.alloc();
+    let folder = above(rt, "writers")?;
+    let mut second = FileDisk::open(rt, alloc, folder.as_str(), 8, Access::Write)?;
+    {
+        let mut first = FileDisk::open(rt, alloc, folder.as_str(), 7, Access::Write)?;
+        play(&rt, &mut first, BEFORE);
+        play(&rt, &mut second, KEPT_OUT);
+        assert_eq!(rt; names(rt, folder.as_str())?, (1, false));
+    }
+    play(&rt, &mut second, LET_IN);
     fs::remove_dir_all(&rt, folder.as_str())?;
     Ok(())
 }
@@ -142,12 +173,12 @@ fn read_row(rt: &impl Abort, disk: &mut impl Disk, segment: u8) {
 fn neighbouring_pages_all_arrive(rt: HostRuntime) -> Result<(), Fail> {
     let alloc = rt.alloc();
     let folder = above(rt, "neighbours")?;
-    let mut disk = FileDisk::open(rt, alloc, folder.as_str(), 7)?;
+    let mut disk = FileDisk::open(rt, alloc, folder.as_str(), 7, Access::Write)?;
     write_row(&rt, &mut disk, 1);
     write_row(&rt, &mut disk, 2);
     assert_eq!(rt; answer_of(&mut disk, Call::Sync(2)), DONE);
     assert_eq!(rt; disk.moment(), 203);
-    let mut other = FileDisk::open(rt, alloc, folder.as_str(), 7)?;
+    let mut other = FileDisk::open(rt, alloc, folder.as_str(), 7, Access::Read)?;
     read_row(&rt, &mut other, 1);
     read_row(&rt, &mut other, 2);
     fs::remove_dir_all(&rt, folder.as_str())?;

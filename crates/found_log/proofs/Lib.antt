@@ -1,4 +1,9 @@
+mod FollowLaws
+mod ForeignLaws
 mod ReadLaws
-mod PageReads
-mod SettleLaws
+mod Refused
+pub mod SettleLaws
 mod SpelledLaws
+mod SpelledSoFar
+mod ThereLaws
+mod WithinLaws

@@ -1,13 +1,15 @@
--- A reader whose records are counted one after another.
-use Rattle.std.proofs.Common.{◌≡◌, ℕ, ◌+◌, Bool, true, false, List, [], ◌∷◌, ◌++◌, length, Option, Some, None, Result, Ok, Err, refl, sym, ap, subst, ◌∙◌, append_assoc, arith}
+-- A reader of whose records something is said, one after another.
+use Rattle.std.proofs.Common.{◌≡◌, ℕ, Bool, true, false, List, [], ◌∷◌, ◌++◌, Option, Some, None, Result, Ok, Err, inl, refl, sym, ap, subst, ◌∙◌, append_assoc}
 use Rattle.std.specs.Prelude.{IfSome, if◌then◌else◌}
-use Rattle.std.proofs.lemmas.List.{append-nil, length-append}
-use Rattle.segment_disk.specs.Tape.{Tape}
+use Rattle.std.proofs.lemmas.List.{append-nil}
+use Rattle.byte_position.specs.Geometry.{IsSegmentSize}
+use Rattle.segment_disk.specs.DiskImage.{image_as_read}
+use Rattle.segment_disk.specs.Tape.{Tape, state_now}
 use Rattle.wal_reader.specs.Cache.{log_of}
 use Rattle.wal_reader.specs.Decodes.{Decodes}
 use Rattle.wal_reader.specs.LogReader.{ReaderState, GivesRecords, IsNext, Knows, reader_state}
 use Rattle.wal_reader.specs.PageCursor.{IsLogOf}
-use Rattle.wal_reader.specs.Pages.{Pages}
+use Rattle.wal_reader.specs.Pages.{Pages, pages_in}
 use Rattle.wal_reader.specs.Standings.{found_as, given_as}
 use Rattle.wal_reader.specs.StepIn.{IsStepIn}
 use Rattle.wal_reader.specs.declared.found.Answer.{Answer}
@@ -20,24 +22,12 @@ use Rattle.wal_reader.specs.declared.standing.ReadErr.TheVariants.{Memory, Disk,
 use Rattle.wal_reader.specs.declared.standing.Standing.TheVariants.{NotBegun}
 use Rattle.wal_reader.specs.declared.standing.Step.{Step}
 use Rattle.wal_reader.specs.declared.standing.Step.TheVariants as steps
-use Rattle.flush_core.proofs.SettleCalls.{lifted}
+use Rattle.wal_reader.proofs.SettledLaws.{gives_something}
 use Rattle.found_log.specs.declared.fault.FindFault.{FindFault}
 use Rattle.found_log.specs.declared.fault.FindFault.TheVariants as faults
-use Rattle.found_log.specs.declared.reading.Records.{Records}
 use Rattle.found_log.specs.Foreign.{is_foreign, is_foreign_stop}
-use Rattle.written_log.specs.FoundLog.{end_behind, last_start_behind}
 use Rattle.found_log.specs.Found.{judged}
-use Rattle.found_log.specs.Reading.{IsReadLog, IsUnread}
-
--- ---- one record more
-
-end-more : (address : ℕ) (found : List FoundRecord) (f : FoundRecord) → end_behind address (found ++ f ∷ []) ≡ f.end.0
-end-more address [] f = refl
-end-more address (g ∷ found) f = end-more g.end.0 found f
-
-last_start-more : (address : ℕ) (found : List FoundRecord) (f : FoundRecord) → last_start_behind address (found ++ f ∷ []) ≡ f.start.0
-last_start-more address [] f = refl
-last_start-more address (g ∷ found) f = last_start-more g.start.0 found f
+use Rattle.found_log.specs.Reading.{IsUnread}
 
 -- ---- what a step says
 
@@ -52,6 +42,12 @@ refused_as fault = Err fault
 
 abbrev pub step_to : FoundRecord → Result Step ReadErr
 step_to found = Ok (given_as found)
+
+abbrev ok_of : Option FoundRecord → Result (Option FoundRecord) FindFault
+ok_of read = Ok read
+
+pub said_as : (step : Result Step ReadErr) (said : Result (Option FoundRecord) FindFault) (read : Option FoundRecord) (f : FoundRecord) → said ≡ judged step → said ≡ ok_of read → read ≡ Some f → judged step ≡ judged_as f
+said_as step said read f is ok some = sym is ∙ ok ∙ ap ok_of some
 
 same_said : (r s : FoundRecord) → judged_as r ≡ judged_as s → r ≡ s
 same_said r s is = cc
@@ -147,6 +143,14 @@ pub record IsAll (size : ℕ) (P : List FoundRecord → Type 0) (t : Tape) : Typ
   pub is_own : is_foreign answer ≡ false
   pub holds : P found
 
+-- a record was read behind others of which it is so
+pub record ReadsOne (size : ℕ) (P : List FoundRecord → Type 0) (f : FoundRecord) (t : Tape) : Type 0 where
+  pub before : List FoundRecord
+  pub others : List FoundRecord
+  pub answer : Answer
+  pub decodes : Decodes size (log_of t size) size None (before ++ f ∷ others) answer
+  pub holds : P before
+
 module _ (size : ℕ) (P : List FoundRecord → Type 0) where
   pub gave_none : (tape : Option Tape) (reader : Reader) → reader_state reader ≡ unread size → ((pages : Pages) → Knows reader pages) → P [] → GaveSo tape size reader P
   gave_none None reader is knows holds = tt
@@ -187,59 +191,29 @@ module _ (size : ℕ) (P : List FoundRecord → Type 0) where
         let end = ends_with (log_of t size) (reader_state reader) (reader_state next) step said (step_of t step steps gave.0).next in
         record { found = before.given; answer = end.answer; decodes = given_all (log_of t size) end.answer before end.gives; is_own = end.is_own; holds = before.holds }
 
-    foreign_by : (t : Tape) (fault : FindFault) → IsUnderway size (log_of t size) (reader_state reader) P → StopsBy (log_of t size) (reader_state reader) fault → IsUnread size fault t
-    foreign_by t faults.Memory before stops = tt
-    foreign_by t (faults.Disk count) before stops = tt
-    foreign_by t (faults.Beyond segment) before stops = stops
-    foreign_by t (faults.Foreign stop) before stops = record { found = before.given; decodes = given_all (log_of t size) (answers.Stopped stop) before stops.0; foreign = stops.1 }
+    foreign_by : (made : ℕ) (t : Tape) (fault : FindFault) → IsUnderway size (log_of t size) (reader_state reader) P → StopsBy (log_of t size) (reader_state reader) fault → IsUnread size made fault t
+    foreign_by made t faults.Memory before stops = tt
+    foreign_by made t (faults.Disk count) before stops = tt
+    foreign_by made t (faults.Beyond segment) before stops = stops
+    foreign_by made t (faults.Foreign stop) before stops = inl (record { found = before.given; decodes = given_all (log_of t size) (answers.Stopped stop) before stops.0; foreign = stops.1 })
 
-    pub gave_refused : (tape : Option Tape) (step : Result Step ReadErr) (fault : FindFault) → GaveSo tape size reader P → Steps tape reader next step → judged step ≡ refused_as fault → IfSome tape (IsUnread size fault)
-    gave_refused None step fault gave steps said = tt
-    gave_refused (Some t) step fault gave steps said = foreign_by t fault gave.1 (stops_by (log_of t size) (reader_state reader) (reader_state next) step fault said (step_of t step steps gave.0).next)
+    pub gave_refused : (made : ℕ) (tape : Option Tape) (step : Result Step ReadErr) (fault : FindFault) → GaveSo tape size reader P → Steps tape reader next step → judged step ≡ refused_as fault → IfSome tape (IsUnread size made fault)
+    gave_refused made None step fault gave steps said = tt
+    gave_refused made (Some t) step fault gave steps said = foreign_by made t fault gave.1 (stops_by (log_of t size) (reader_state reader) (reader_state next) step fault said (step_of t step steps gave.0).next)
 
--- ---- a reader whose records are counted
-
--- these records are counted so
-pub record AreCounted (size : ℕ) (records : Records) (found : List FoundRecord) : Type 0 where
-  pub count_is : records.count ≡ length found
-  pub end_is : records.end.0 ≡ end_behind size found
-  pub last_start_is : records.last_start.0 ≡ last_start_behind 0 found
-
--- the log of a disk that tells was counted as far as the reader has come
-abbrev pub ReadsLog : Option Tape → ℕ → Reader → Records → Type 0
-ReadsLog tape size reader records = GaveSo tape size reader (AreCounted size records)
-
--- a record more is counted
-pub record IsMore (old new : Records) (f : FoundRecord) : Type 0 where
-  pub count : new.count ≡ old.count + 1
-  pub end_is : new.end.0 ≡ f.end.0
-  pub start_is : new.last_start.0 ≡ f.start.0
-
-module _ (size : ℕ) where
-  pub reads_none : (tape : Option Tape) (reader : Reader) (records : Records) → reader_state reader ≡ unread size → ((pages : Pages) → Knows reader pages) → records.count ≡ 0 → records.end.0 ≡ size → records.last_start.0 ≡ 0 → ReadsLog tape size reader records
-  reads_none tape reader records is knows count end start = gave_none size (AreCounted size records) tape reader is knows (record { count_is = count; end_is = end; last_start_is = start })
-
-  counted_all : (records : Records) (t : Tape) → IsAll size (AreCounted size records) t → IsReadLog size (Ok records) t
-  counted_all records t all = record {
-    found = all.found;
-    answer = all.answer;
-    decodes = all.decodes;
-    is_own = all.is_own;
-    count_is = all.holds.count_is;
-    end_is = all.holds.end_is;
-    last_start_is = all.holds.last_start_is;
-  }
-
-  module _ (reader next : Reader) (sized : (reader_state reader).size ≡ size) (records : Records) where
-    pub reads_more : (tape : Option Tape) (new : Records) (f : FoundRecord) → ReadsLog tape size reader records → Steps tape reader next (Ok (given_as f)) → IsMore records new f → ReadsLog tape size next new
-    reads_more tape new f reads steps more = gave_more size (AreCounted size records) reader next sized (AreCounted size new) f (λ given before. record {
-      count_is = omega (arith, more.count, before.count_is, length-append given (f ∷ []));
-      end_is = more.end_is ∙ sym (end-more size given f);
-      last_start_is = more.start_is ∙ sym (last_start-more 0 given f);
-    }) tape reads steps
-
-    pub reads_ended : (tape : Option Tape) (step : Result Step ReadErr) → ReadsLog tape size reader records → Steps tape reader next step → judged step ≡ ended_as → IfSome tape (IsReadLog size (Ok records))
-    reads_ended tape step reads steps said = lifted tape (IsAll size (AreCounted size records)) (IsReadLog size (Ok records)) (counted_all records) (gave_all size (AreCounted size records) reader next sized tape step reads steps said)
-
-    pub reads_refused : (tape : Option Tape) (step : Result Step ReadErr) (fault : FindFault) → ReadsLog tape size reader records → Steps tape reader next step → judged step ≡ refused_as fault → IfSome tape (IsReadLog size (Err fault))
-    reads_refused tape step fault reads steps said = gave_refused size (AreCounted size records) reader next sized tape step fault reads steps said
+    -- a record is read behind those, and others behind it
+    pub gave_on : (f : FoundRecord) → IsSegmentSize size → (reader_state next).size ≡ size → (tape : Option Tape) → GaveSo tape size reader P → Steps tape reader next (Ok (given_as f)) → IfSome tape (ReadsOne size P f)
+    gave_on f valid next_sized None gave steps = tt
+    gave_on f valid next_sized (Some t) gave steps =
+        let one = step_of t (Ok (given_as f)) steps gave.0 in
+        let before = gave.1 in
+        let image = image_as_read (state_now t) in
+        let rest = gives_something image (reader_state next) (subst IsSegmentSize (sym next_sized) valid) in
+        let here = subst (λ (n : ℕ). GivesRecords (pages_in n image) (reader_state next) rest.0 rest.1) next_sized rest.2 in
+        record {
+          before = before.given;
+          others = rest.0;
+          answer = rest.1;
+          decodes = before.whole (f ∷ rest.0) rest.1 (one.next rest.0 rest.1 here);
+          holds = before.holds;
+        }

@@ -4,8 +4,10 @@ use Rattle.std.specs.Prelude.{IfSome, IsSome, List}
 use Rattle.std.proofs.lemmas.Bool.{false≢true}
 use Rattle.segment_disk.specs.Tape.{DiskState, Tape, IsNotMade, page_of_segment, state_now}
 use Rattle.flush_core.specs.Settled.{AreAllThere, HasNotSettled, HasSettled}
+use Rattle.flush_core.proofs.SettleCalls.{lifted}
 use Rattle.found_log.specs.declared.finding.FoundLog.{FoundLog}
-use Rattle.found_log.specs.Found.{IsFound}
+use Rattle.found_log.specs.Found.{FindsLog, IsFound}
+use Rattle.found_log.specs.Spelled.{spelled_entries}
 
 none_there : (page : Option (List ℕ)) → page ≡ None → IsSome page → ⊥
 none_there None is some = false≢true some
@@ -46,6 +48,5 @@ module _ (size end : ℕ) (new : Option Tape) (m0 m1 : ℕ) where
       let on_tape = subst (λ (t : Option Tape). HasNotSettled size end t new m0 m1) same.same_tape stopped in
       subst (λ (n : ℕ). HasNotSettled size end old new n m1) same.same_moment on_tape
 
-pub there_of : (size cap : ℕ) (log : FoundLog) (tape : Option Tape) → IfSome tape (IsFound size cap log) → IfSome tape (λ t. AreAllThere size (state_now t) log.made)
-there_of size cap log None found = tt
-there_of size cap log (Some t) found = found.counted.there
+pub there_of : (size sysid cap : ℕ) (log : FoundLog) (tape : Option Tape) → FindsLog size sysid cap tape log → IfSome tape (λ t. AreAllThere size (state_now t) log.made)
+there_of size sysid cap log tape finds = lifted tape (IsFound size sysid cap (spelled_entries log.spelled) log.made) (λ (t : Tape). AreAllThere size (state_now t) log.made) (λ t found. found.counted.there) finds.tells

@@ -1,4 +1,5 @@
 pub mod Foreign
 pub mod Found
+pub mod NobodysEntries
 pub mod Reading
 pub mod Spelled

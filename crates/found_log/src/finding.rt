@@ -1,72 +1,97 @@
 //! A log that a crash left, found and settled.
 
-ghost use Rattle.std.specs.Prelude.{◌≡◌, ◌≤◌, IfErr, IfOk, IfSome, OnOk};
-ghost use Rattle.segment_disk.specs.Cause.{HasCause};
+ghost use Rattle.std.specs.Prelude.{◌≡◌, ℕ, ◌≤◌, IfErr, IfOk, IfSome, OnErr, OnOk, length};
+ghost use Rattle.record_spelling.specs.Spelling.{word_at};
 ghost use Rattle.segment_disk.specs.Tape.{IsUncalled};
 ghost use Rattle.flush_core.specs.Settled.{HasSettled};
-ghost use Rattle.found_log.specs.Found.{HasFindCause, CountsSegments, IsFound, RefusesLog, LeavesUnsettled, page_holding, page_or_zeros};
+ghost use Rattle.found_log.specs.Found.{CountsSegments, FindsLog, HasFindCause, IsOfSystem, LeavesUnsettled, RefusesLog};
+ghost use Rattle.found_log.specs.Reading.{IsOtherFirst};
+ghost use Rattle.found_log.specs.Spelled.{spelled_entries};
 
 use crate::fault::FindFault;
-use crate::reading::read_records;
-use byte_position::{Geometry, PAGE_SIZE};
+use crate::reading::spell_records;
+use crate::spelling::SpelledEnd;
+use byte_position::Geometry;
 use flush_core::{SettleFault, count_segments, settle};
-use segment_disk::{Disk, Failed};
+use segment_disk::Disk;
 use std::alloc::Global;
+use wal_page::PageErr;
+use wal_reader::{DamageKind, Stopped};
 use wal_types::Lsn;
 
 /// A log that was found on a disk, and may be gone on with.
 #[derive(Drop)]
 pub struct FoundLog {
-    /// How many records it has.
-    pub count: u64,
-    /// Where the last of them ends, or where the log starts.
-    pub end: Lsn,
-    /// Where the last of them starts; 0 where there is none.
-    pub last_start: Lsn,
+    /// Its records, spelled anew: where they end.
+    pub spelled: SpelledEnd,
     /// The last segment that is there, 0 where none is.
     pub made: u64,
-    /// The page that holds the end, as it was read; zeros where it is not there.
-    pub page: Box<[u8; 8192]>,
+}
+
+impl FoundLog {
+    ghost use Rattle.segment_disk.specs.Tape.{state_now};
+    ghost use Rattle.flush_core.specs.Settled.{AreAllThere, HasNotSettled, TellsSettleFault};
+
+    /// Settles the log on the disk on which it was found: makes durable what was read, and zeroes
+    /// what a crash left behind the end. Want of memory comes before the first counted call of the
+    /// disk; the first that fails ends it.
+    pub fn settle<D: Disk>(
+        &self,
+        alloc: Global,
+        disk: &mut D,
+        geometry: Geometry,
+    ) -> Result<(), SettleFault>
+        // As many segments are there as were found.
+        requires there { IfSome (D.tape disk.old)
+            (λ t. AreAllThere geometry (state_now t) self.now.made) }
+        ensures settled { OnOk result (HasSettled geometry self.now.spelled.end.0 self.now.made
+            (D.tape disk.old) (D.tape disk.new) (D.moment disk.old) (D.moment disk.new)) }
+        ensures fault { IfErr result (λ fault. TellsSettleFault (D.tape disk.old)
+            (D.tape disk.new) (D.moment disk.old) (D.moment disk.new) (D.faults disk.old)
+            (D.faults disk.new) fault) }
+        ensures no_fault { OnOk result (D.faults disk.new ≡ D.faults disk.old) }
+        ensures stopped { OnErr result (HasNotSettled geometry self.now.spelled.end.0
+            (D.tape disk.old) (D.tape disk.new) (D.moment disk.old) (D.moment disk.new)) }
+    {
+        let mut page = [0; 8192];
+        match settle(alloc, disk, geometry, self.spelled.end, &mut page) {
+            Ok(_) => Ok(()),
+            Err(fault) => Err(fault),
+        }
+    }
 }
 
 /// Reads and judges a disk's log, from the start of segment 1 to its end. `cap` is how many
 /// segments it may have. The disk is only read.
 ///
-/// It is refused if the segment behind the last one allowed is there, and if it stops where this
-/// program cannot have left it so. Words that are zeros and a wrong CRC are no such stop: a crash
-/// leaves them, so the log ends there.
+/// Each record that is read is spelled again, so that what is told of the log is proved on a disk
+/// that tells nothing too.
+///
+/// The log is refused if the segment behind the last one allowed is there, if it stops where this
+/// program cannot have left it so, if a record is not what this program writes at its place, and if
+/// there is a record and page 0 of segment 1 has another system id. Words that are zeros and a
+/// wrong CRC are no reason: a crash leaves them, so the log ends there.
 ///
 /// What is read may come from the system's memory, and not be on the disk yet.
 pub fn find<D: Disk>(
     alloc: Global,
     disk: &mut D,
     geometry: Geometry,
+    sysid: u64,
     cap: u32,
 ) -> Result<FoundLog, FindFault>
-    ensures found { IfOk result (λ log. IfSome (D.tape disk.old) (IsFound geometry cap log)) }
+    requires few { cap ≤ 4096 }
+    ensures found { IfOk result (FindsLog geometry sysid cap (D.tape disk.old)) }
     ensures refused { IfErr result (λ fault. IfSome (D.tape disk.old)
-        (RefusesLog geometry cap fault)) }
-    ensures within { IfOk result (λ log. log.made ≤ cap) }
+        (RefusesLog geometry sysid cap fault)) }
     ensures uncalled { IsUncalled D.tape D.moment disk.old disk.new }
     ensures cause { HasFindCause (D.faults disk.old) (D.faults disk.new) result }
 {
-    let Ok(mut page) = Box::new(alloc, [0; 8192]) else {
-        return Err(FindFault::Memory);
-    };
+    let mut page = [0; 8192];
     let made = count_allowed(disk, geometry, cap, &mut page)?;
-    let records = read_records(alloc, disk, geometry)?;
-    match read_page_at(disk, geometry, records.end, &mut page) {
-        Ok(()) => Ok(FoundLog {
-            count: records.count,
-            end: records.end,
-            last_start: records.last_start,
-            made,
-            page,
-        }),
-        Err(_) => Err(FindFault::Disk {
-            faults: disk.faults(),
-        }),
-    }
+    let spelled = spell_records(alloc, disk, geometry, sysid, made)?;
+    check_system(disk, geometry, sysid, &spelled, &mut page)?;
+    Ok(FoundLog { spelled, made })
 }
 
 /// Finds a log, and settles it up to its end: makes durable what was read, and zeroes what a crash
@@ -78,22 +103,22 @@ pub fn find_and_settle<D: Disk>(
     alloc: Global,
     disk: &mut D,
     geometry: Geometry,
+    sysid: u64,
     cap: u32,
 ) -> Result<FoundLog, FindFault>
-    ensures found { IfOk result (λ log. IfSome (D.tape disk.old) (IsFound geometry cap log)) }
+    requires few { cap ≤ 4096 }
+    ensures found { IfOk result (FindsLog geometry sysid cap (D.tape disk.old)) }
     ensures refused { IfErr result (λ fault. IfSome (D.tape disk.old)
-        (RefusesLog geometry cap fault)) }
-    ensures within { IfOk result (λ log. log.made ≤ cap) }
-    ensures settled { IfOk result (λ log. HasSettled geometry log.end.0 log.made
+        (RefusesLog geometry sysid cap fault)) }
+    ensures settled { IfOk result (λ log. HasSettled geometry log.spelled.end.0 log.made
         (D.tape disk.old) (D.tape disk.new) (D.moment disk.old) (D.moment disk.new)) }
-    ensures unsettled { IfErr result (LeavesUnsettled geometry cap
+    ensures unsettled { IfErr result (LeavesUnsettled geometry sysid cap
         (D.tape disk.old) (D.tape disk.new) (D.moment disk.old) (D.moment disk.new)) }
     ensures cause { HasFindCause (D.faults disk.old) (D.faults disk.new) result }
 {
-    let log = find(alloc, disk, geometry, cap)?;
-    let mut room = [0; 8192];
-    match settle(alloc, disk, geometry, log.end, &mut room) {
-        Ok(_) => Ok(log),
+    let log = find(alloc, disk, geometry, sysid, cap)?;
+    match log.settle(alloc, disk, geometry) {
+        Ok(()) => Ok(log),
         Err(SettleFault::Memory) => Err(FindFault::Memory),
         Err(SettleFault::Disk { faults }) => Err(FindFault::Disk { faults }),
     }
@@ -108,8 +133,8 @@ fn count_allowed<D: Disk>(
 ) -> Result<u64, FindFault>
     ensures counted { IfOk result (λ made. IfSome (D.tape disk.old)
         (CountsSegments geometry cap made)) }
-    ensures refused { IfErr result (λ fault. IfSome (D.tape disk.old)
-        (RefusesLog geometry cap fault)) }
+    ensures refused { (sysid : ℕ) → IfErr result (λ fault. IfSome (D.tape disk.old)
+        (RefusesLog geometry sysid cap fault)) }
     ensures within { IfOk result (λ made. made ≤ cap) }
     ensures uncalled { IsUncalled D.tape D.moment disk.old disk.new }
     ensures cause { HasFindCause (D.faults disk.old) (D.faults disk.new) result }
@@ -133,22 +158,46 @@ fn count_allowed<D: Disk>(
     }
 }
 
-// Reads the page of an address; zeros where it is not there.
-fn read_page_at<D: Disk>(
+// Checks that a log is this system's, where it has a record.
+fn check_system<D: Disk>(
     disk: &mut D,
     geometry: Geometry,
-    at: Lsn,
+    sysid: u64,
+    spelled: &SpelledEnd,
     page: &mut [u8; 8192],
-) -> Result<(), Failed>
-    ensures page { OnOk result (IfSome (D.tape disk.old)
-        (λ t. page.new ≡ page_or_zeros (page_holding geometry t at.0))) }
+) -> Result<(), FindFault>
+    requires counted { spelled.now.count ≡ length (spelled_entries spelled.now) }
+    ensures own { OnOk result (IfSome (D.tape disk.old)
+        (IsOfSystem sysid (spelled_entries spelled.now))) }
+    ensures refused { IfErr result (λ fault. IfSome (D.tape disk.old)
+        (IsOtherFirst geometry sysid (spelled_entries spelled.now) fault)) }
     ensures uncalled { IsUncalled D.tape D.moment disk.old disk.new }
-    ensures cause { HasCause (D.faults disk.old) (D.faults disk.new) result }
+    ensures cause { HasFindCause (D.faults disk.old) (D.faults disk.new) result }
 {
-    let size = geometry.segment_size();
-    let number = (at.0 % size / PAGE_SIZE) as u32;
-    if !disk.read_page(geometry, at.0 / size, number, page)? {
-        *page = [0; 8192];
+    if spelled.count == 0 {
+        return Ok(());
     }
-    Ok(())
+    match disk.read_page(geometry, 1, 0, page) {
+        Ok(there) => {
+            if there && system_id_of(page) != sysid {
+                return Err(FindFault::Foreign(Stopped::Damaged {
+                    at: Lsn(geometry.segment_size()),
+                    kind: DamageKind::Page(PageErr::SysId),
+                }));
+            }
+            Ok(())
+        }
+        Err(_) => Err(FindFault::Disk {
+            faults: disk.faults(),
+        }),
+    }
+}
+
+// The system id in a long header.
+fn system_id_of(page: &[u8; 8192]) -> u64
+    ensures { result ≡ word_at page.now 3 }
+{
+    u64::from_le_bytes([
+        page[24], page[25], page[26], page[27], page[28], page[29], page[30], page[31],
+    ])
 }

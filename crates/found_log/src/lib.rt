@@ -7,8 +7,10 @@ mod fault;
 mod finding;
 mod foreign;
 mod reading;
+mod spelled_entries;
 mod spelling;
 
 pub use fault::FindFault;
 pub use finding::{FoundLog, find, find_and_settle};
-pub use spelling::{SpelledEnd, spell_end};
+pub use spelled_entries::SpelledEntries;
+pub use spelling::SpelledEnd;

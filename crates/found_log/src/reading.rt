@@ -1,31 +1,21 @@
-//! Reading all records of a log, of which nothing is kept but how many there are and where the last
-//! one starts and ends.
+//! Reading all records of a log, each of which is spelled anew and let go.
 
-ghost use Rattle.std.specs.Prelude.{◌≡◌, IfSome};
+ghost use Rattle.std.specs.Prelude.{◌≡◌, ◌≤◌, IfErr, IfOk, IfSome};
 ghost use Rattle.segment_disk.specs.Tape.{IsUncalled};
 ghost use Rattle.found_log.specs.Found.{HasFindCause, judged};
-ghost use Rattle.found_log.specs.Reading.{IsReadLog};
+ghost use Rattle.found_log.specs.Reading.{IsSpelledLog, IsUnread};
 
 use crate::fault::FindFault;
 use crate::foreign::is_foreign;
+use crate::spelling::SpelledEnd;
 use byte_position::Geometry;
 use segment_disk::Disk;
 use std::alloc::Global;
 use wal_reader::{FoundRecord, ReadErr, Reader, Step};
 use wal_types::Lsn;
 
-/// What is kept of the records that were read.
-#[derive(Clone, Copy, Debug)]
-pub(crate) struct Records {
-    pub(crate) count: u64,
-    /// Where the last one ends, or where the log starts.
-    pub(crate) end: Lsn,
-    /// Where the last one starts; 0 where there is none.
-    pub(crate) last_start: Lsn,
-}
-
-/// What a step of reading says: the next record, and none where the log ends.
-pub(crate) fn judge(step: Result<Step, ReadErr>) -> Result<Option<FoundRecord>, FindFault>
+// What a step of reading says: the next record, and none where the log ends.
+fn judge(step: Result<Step, ReadErr>) -> Result<Option<FoundRecord>, FindFault>
     ensures { result ≡ judged step }
 {
     match step {
@@ -52,33 +42,30 @@ pub(crate) fn judge(step: Result<Step, ReadErr>) -> Result<Option<FoundRecord>, 
     }
 }
 
-/// Reads a log from its start to its end.
-pub(crate) fn read_records<D: Disk>(
+/// Reads a log from its start to its end, of which the segments up to `made` are there, and spells
+/// each record anew. That takes as long as to read it.
+pub(crate) fn spell_records<D: Disk>(
     alloc: Global,
     disk: &mut D,
     geometry: Geometry,
-) -> Result<Records, FindFault>
-    ensures read { IfSome (D.tape disk.old) (IsReadLog geometry result) }
+    sysid: u64,
+    made: u64,
+) -> Result<SpelledEnd, FindFault>
+    requires few { made ≤ 4096 }
+    ensures spelled { IfOk result (IsSpelledLog geometry sysid made (D.tape disk.old)) }
+    ensures refused { IfErr result
+        (λ fault. IfSome (D.tape disk.old) (IsUnread geometry made fault)) }
     ensures uncalled { IsUncalled D.tape D.moment disk.old disk.new }
     ensures cause { HasFindCause (D.faults disk.old) (D.faults disk.new) result }
 {
-    let log_start = Lsn(geometry.segment_size());
-    let mut reader = Reader::new(geometry, log_start, None);
-    let mut records = Records {
-        count: 0,
-        end: log_start,
-        last_start: Lsn(0),
+    let mut reader = Reader::new(geometry, Lsn(geometry.segment_size()), None);
+    let Ok(mut end) = SpelledEnd::first(alloc, geometry) else {
+        return Err(FindFault::Memory);
     };
     'records: loop {
         match judge(reader.next(alloc, disk))? {
-            Some(record) => {
-                records = Records {
-                    count: records.count + 1,
-                    end: record.end,
-                    last_start: record.start,
-                };
-            }
-            None => return Ok(records),
+            Some(record) => end.follow(alloc, geometry, sysid, made, &record)?,
+            None => return Ok(end),
         }
     }
 }

@@ -1,5 +1,5 @@
 -- What a try to take an insertion lock leaves (PostgreSQL's xlog.c, WALInsertLockAcquire).
-use Rattle.std.specs.Prelude.{ℕ, ◌+◌, ◌%◌, ◌≢◌, ◌<◌, List, [], ◌∷◌, ◌++◌, slice_index}
+use Rattle.std.specs.Prelude.{ℕ, ◌+◌, ◌%◌, ◌≡◌, ◌≢◌, ◌<◌, List, [], ◌∷◌, ◌++◌, slice_index}
 use Rattle.wal_core.specs.Steps.{take_lock}
 use Rattle.wal_core.specs.Views.{View}
 use Rattle.wal_rule.specs.Stepping.{Meets}
@@ -19,3 +19,11 @@ HaveMetHeld v tries words = (tried : ℕ) → tried < tries → (slice_index wor
 -- eight words, of all locks
 abbrev pub AreHeldWords : View → List ℕ → Type 0
 AreHeldWords v words = HaveMetHeld v 8 words
+
+-- a lock that a pass with this view took: those that were tried before it were held
+pub record IsFirstFree (v : View) (lock : ℕ) : Type 0 where
+  pub tried : ℕ
+  pub words : List ℕ
+  pub lock_is : lock ≡ ((v.reserving).number % 8 + tried) % 8
+  pub few : tried < 8
+  pub held : HaveMetHeld v tried words

@@ -9,7 +9,7 @@ ghost use Rattle.std.specs.Prelude.{◌≡◌, ◌≢◌, ◌<◌, IfErr, IfOk};
 ghost use Rattle.wal_core.specs.Steps.{take_lock};
 ghost use Rattle.wal_rule.specs.Stepping.{Meets};
 ghost use Rattle.wal_rule.specs.SeatedPasses.{HasView, view_of};
-ghost use Rattle.insert_locks.specs.Taking.{AreHeldWords, with_lock};
+ghost use Rattle.insert_locks.specs.Taking.{AreHeldWords, IsFirstFree, with_lock};
 
 use machine_words::layout::LOCKS;
 use segment_disk::Disk;
@@ -27,6 +27,8 @@ pub fn try_take<'p, D: Disk>(seated: &mut SeatedPass<'p, D>) -> Result<u32, AllH
     // The pass holds this lock beside those that it held, and nothing else has changed for it.
     ensures taken { IfOk result (λ lock. (lock < 8)
         × HasView (with_lock lock (view_of seated.old)) seated.old seated.new) }
+    // It is the first one that was free, in the order of the tries.
+    ensures first { IfOk result (IsFirstFree (view_of seated.old)) }
     // None of the eight words is 0, and each was met where its lock was tried.
     ensures held { IfErr result (λ e. AreHeldWords (view_of seated.old) e.seen
         × HasView (view_of seated.old) seated.old seated.new) }

@@ -11,7 +11,7 @@ use std::alloc::Global;
 use std::sync::Wait;
 use std::test::Fail;
 use std::thread::Threads;
-use wal_log::{Closed, Pass, Setup, Wal};
+use wal_log::{Closed, Found, Pass, Setup, Wal};
 
 /// Segments of 1 MiB, of which the log may fill two, and a ring of four pages.
 pub const SETUP: Setup = Setup {
@@ -58,5 +58,35 @@ pub fn open(alloc: Global, setup: Setup, fail: Vec<u64>) -> Result<(Wal<MemDisk>
     match Wal::open(alloc, disk, setup) {
         Ok(opened) => Ok(opened),
         Err(_) => Err(Fail::from("a log on an empty disk")),
+    }
+}
+
+/// The log on a disk, gone on with by a backend for each list of jobs, side by side in so many
+/// threads, and what was found of it.
+pub fn gone_on<R: Threads + Wait + Sync>(
+    rt: &R,
+    alloc: Global,
+    setup: Setup,
+    disk: MemDisk,
+    work: Vec<Vec<Job>>,
+    threads: usize,
+) -> Result<(Found, Ended), Fail> {
+    let (log, mut first, found) = reopen(alloc, setup, disk)?;
+    if (first.spare() as usize) < work.len() {
+        return Err(Fail::from("a spare pass for each backend"));
+    }
+    let work = work_side_by_side(rt, alloc, &log, &mut first, work, threads)?;
+    let closed = log.close(first);
+    Ok((found, Ended { work, closed }))
+}
+
+// The log on a disk, with its first pass, and what was found of it.
+fn reopen(alloc: Global, setup: Setup, disk: MemDisk) -> Result<(Wal<MemDisk>, Pass, Found), Fail>
+    ensures pass { IfOk result (λ r. IsPassOfLog r.0 r.1) }
+    ensures view { IfOk result (λ r. view_of_pass r.1 ≡ first_view (opening_of_log r.0)) }
+{
+    match Wal::reopen(alloc, disk, setup) {
+        Ok(reopened) => Ok(reopened),
+        Err(_) => Err(Fail::from("a log to go on with")),
     }
 }

@@ -10,7 +10,7 @@ ghost use Rattle.wal_log.specs.Standing.{KeepsPass};
 ghost use Rattle.log_tests.specs.Pairs.{AreOfLog, KeepsBoth};
 
 use crate::filled::{SETUP, open};
-use crate::reading::{Found, records_on};
+use crate::reading::{ReadBack, records_on};
 use crate::records::record;
 use insert_locks::AllHeld;
 use log_workers::transaction;
@@ -45,7 +45,7 @@ struct Row {
     lens: [usize; 2],
     moment: u64,
     since: u64,
-    found: &'static [Found],
+    found: &'static [ReadBack],
 }
 
 const ROWS: &[Row] = &[
@@ -55,11 +55,11 @@ const ROWS: &[Row] = &[
         moment: 3,
         since: 3,
         found: &[
-            Found {
+            ReadBack {
                 start: FIRST.start.0,
                 xid: 1,
             },
-            Found {
+            ReadBack {
                 start: SECOND.start.0,
                 xid: 2,
             },
@@ -70,7 +70,7 @@ const ROWS: &[Row] = &[
         lens: [8, 8],
         moment: 5,
         since: 3,
-        found: &[Found {
+        found: &[ReadBack {
             start: FIRST.start.0,
             xid: 1,
         }],
@@ -368,7 +368,7 @@ fn leaves<R: Abort>(
     alloc: Global,
     disk: &MemDisk,
     since: u64,
-    found: &[Found],
+    found: &[ReadBack],
 ) -> Result<(), Fail> {
     for moment in since..=disk.moment() {
         for pick in [Pick::Old, Pick::New, Pick::Odd] {

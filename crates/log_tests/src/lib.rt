@@ -19,6 +19,8 @@ mod reading;
 #[cfg(test)]
 mod records;
 #[cfg(test)]
+mod reopening;
+#[cfg(test)]
 mod rows;
 #[cfg(test)]
 mod side_by_side;

@@ -9,14 +9,14 @@ use wal_types::Lsn;
 
 /// Where a record starts, and its transaction.
 #[derive(Clone, Copy, Debug, PartialEq, Eq, PartialOrd, Ord)]
-pub struct Found {
+pub struct ReadBack {
     pub start: u64,
     pub xid: u32,
 }
 
 /// The records, at most a thousand, that are read from a disk, up to the log's end or a record that
 /// is torn.
-pub fn records_on(alloc: Global, disk: &mut MemDisk) -> Result<Vec<Found>, Fail> {
+pub fn records_on(alloc: Global, disk: &mut MemDisk) -> Result<Vec<ReadBack>, Fail> {
     let geometry = Geometry::new(1 << 20).ok_or("1 MiB is a segment's size")?;
     let mut reader = Reader::new(geometry, Lsn(1 << 20), None);
     let mut found = Vec::new(alloc);
@@ -31,9 +31,9 @@ pub fn records_on(alloc: Global, disk: &mut MemDisk) -> Result<Vec<Found>, Fail>
 
 // The record that a step of a reader gives. Where it gives none the log ends, or is torn, or the
 // disk did not read: then a record that lies behind is missed.
-fn found_at(step: Result<Step, ReadErr>) -> Option<Found> {
+fn found_at(step: Result<Step, ReadErr>) -> Option<ReadBack> {
     match step {
-        Ok(Step::Record { start, value, .. }) => Some(Found {
+        Ok(Step::Record { start, value, .. }) => Some(ReadBack {
             start: start.0,
             xid: value.xid.0,
         }),

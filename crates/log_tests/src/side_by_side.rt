@@ -1,7 +1,7 @@
 //! Backends that share a log, each in a thread of its own.
 
 use crate::filled::{Ended, SETUP, filled};
-use crate::reading::{Found, end_behind, records_on};
+use crate::reading::{ReadBack, end_behind, records_on};
 use crate::records::record;
 use crate::told::{is_down_behind, records_told, rises, start_told};
 use log_workers::{CommitKind, Insertion, Job, LogCall, SegmentEnd, commits, transaction};
@@ -27,7 +27,7 @@ fn commits_of(alloc: Global, counts: &[u32]) -> Result<Vec<Vec<Job>>, Fail> {
 
 // The records that all backends were told, sorted. Each one's rise, and it was told of no other
 // fault than one of the disk.
-fn all_told<R: Abort>(rt: &R, alloc: Global, work: &[Vec<Job>]) -> Result<Vec<Found>, Fail> {
+fn all_told<R: Abort>(rt: &R, alloc: Global, work: &[Vec<Job>]) -> Result<Vec<ReadBack>, Fail> {
     let mut all = Vec::new(alloc);
     let mut first = 1u32;
     for jobs in work {
@@ -147,7 +147,7 @@ fn what_was_told_durable_outlives_a_fault(rt: HostRuntime) -> Result<(), Fail> {
     Ok(())
 }
 
-fn outlive<R: Abort>(rt: &R, alloc: Global, disk: &MemDisk, told: &[Found]) -> Result<(), Fail> {
+fn outlive<R: Abort>(rt: &R, alloc: Global, disk: &MemDisk, told: &[ReadBack]) -> Result<(), Fail> {
     for pick in [Pick::Old, Pick::New, Pick::Odd] {
         let mut left = disk.crash(alloc, disk.moment(), pick)?;
         let found = records_on(alloc, &mut left)?;

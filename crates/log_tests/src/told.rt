@@ -1,6 +1,6 @@
 //! What backends were told of their records.
 
-use crate::reading::Found;
+use crate::reading::ReadBack;
 use log_workers::{Job, LogAnswer};
 use std::alloc::Global;
 use std::test::Fail;
@@ -22,14 +22,14 @@ pub fn start_told(job: &Job) -> Option<Lsn> {
 
 /// The records of a backend's inserts and commits, in their order, up to the first call that was
 /// refused. The transactions of its calls have the numbers from `first` on.
-pub fn records_told(alloc: Global, jobs: &[Job], first: u32) -> Result<Vec<Found>, Fail> {
+pub fn records_told(alloc: Global, jobs: &[Job], first: u32) -> Result<Vec<ReadBack>, Fail> {
     let mut found = Vec::new(alloc);
     let mut xid = first;
     for job in jobs {
         let Some(start) = start_told(job) else {
             return Ok(found);
         };
-        found.push(Found {
+        found.push(ReadBack {
             start: start.0,
             xid,
         })?;
@@ -66,7 +66,7 @@ fn is_known_down(job: &Job) -> bool {
 }
 
 /// Whether each record starts behind the one before.
-pub fn rises(found: &[Found]) -> bool {
+pub fn rises(found: &[ReadBack]) -> bool {
     let mut last = 0;
     for record in found {
         if record.start <= last {

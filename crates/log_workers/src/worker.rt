@@ -22,6 +22,9 @@ use wal_types::Lsn;
 #[derive(Drop)]
 pub enum LogCall {
     Insert(Insertion),
+    /// Inserts the record so many times, once at least, or until that is refused. It is told what
+    /// the last insert was told.
+    Inserts(Insertion, u32),
     Commit(Insertion),
     CommitAsync(Insertion),
     Flush(Lsn),
@@ -107,6 +110,9 @@ fn answer<D: Disk, R: Wait>(
 {
     match call {
         LogCall::Insert(record) => LogAnswer::Inserted(log.insert(rt, pass, record.body())),
+        LogCall::Inserts(record, times) => {
+            LogAnswer::Inserted(insert_again(rt, log, pass, record, *times))
+        }
         LogCall::Commit(record) => LogAnswer::Committed(log.commit(rt, pass, record.body())),
         LogCall::CommitAsync(record) => {
             LogAnswer::CommittedAsync(log.commit_async(rt, pass, record.body()))
@@ -120,6 +126,27 @@ fn answer<D: Disk, R: Wait>(
             LogAnswer::FlushedBehind(told)
         }
     }
+}
+
+// Inserts a record so many times, once at least, or until that is refused.
+fn insert_again<D: Disk, R: Wait>(
+    rt: &R,
+    log: &Wal<D>,
+    pass: &mut Pass,
+    record: &Insertion,
+    times: u32,
+) -> Result<Receipt, InsertErr>
+    requires { IsPassOfLog log.now pass.old }
+    ensures pass { IsPassOfLog log.now pass.new }
+    ensures keeps { KeepsPass (view_of_pass pass.old) (view_of_pass pass.new) }
+{
+    for _again in 1..times {
+        let told = log.insert(rt, pass, record.body());
+        if told.is_err() {
+            return told;
+        }
+    }
+    log.insert(rt, pass, record.body())
 }
 
 // Flushes behind until nobody else is at work and nothing is left to flush, or until it is refused.

@@ -2,8 +2,10 @@
 #![tactic(auto)]
 
 use backend_cli::{OpenGate, pgwal};
+use command_line::{Request, asked};
+use command_words::Command;
 use segment_disk::Memory;
-use segment_files::{FileDisk, StandardSink, StandardSource};
+use segment_files::{Access, FileDisk, StandardSink, StandardSource};
 use std::alloc::AllocError;
 use std::fs::File;
 use std::io::ErrorKind;
@@ -48,6 +50,16 @@ fn words(rt: HostRuntime) -> Result<Vec<String>, AllocError> {
     Ok(words)
 }
 
+// What the folder of segment files is opened for: commands that list a log, and those that touch no
+// file, lock nobody out.
+fn access_for(request: &Request) -> Access {
+    match request {
+        Request::Command(Command::Dump(_) | Command::Redo(_) | Command::Replay(_)) => Access::Read,
+        Request::Command(_) => Access::Write,
+        _ => Access::Read,
+    }
+}
+
 // Runs the program over the system's source, sinks and disk, and answers its exit status.
 fn run<R: Threads + Wait + Sync>(threads: &R, rt: HostRuntime) -> Result<u8, Memory> {
     let alloc = rt.alloc();
@@ -55,7 +67,8 @@ fn run<R: Threads + Wait + Sync>(threads: &R, rt: HostRuntime) -> Result<u8, Mem
     let mut source = StandardSource::new(rt.stdin());
     let mut out = StandardSink::new(alloc, rt.stdout())?;
     let mut err = StandardSink::new(alloc, rt.stderr())?;
-    let disk = FileDisk::open(rt, alloc, FOLDER, process::id(rt.process()))?;
+    let access = access_for(&asked(alloc, &words)?);
+    let disk = FileDisk::open(rt, alloc, FOLDER, process::id(rt.process()), access)?;
     let ended = pgwal(
         threads,
         alloc,

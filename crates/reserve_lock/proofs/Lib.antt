@@ -5,3 +5,4 @@ pub mod Tries
 pub mod Placing
 pub mod SwitchRoom
 pub mod Since
+pub mod StartLaws

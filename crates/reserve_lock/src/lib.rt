@@ -11,6 +11,7 @@
 mod locking;
 mod places;
 mod reserving;
+mod starting;
 mod switching;
 
 pub use reserving::{ReserveErr, Reserved, try_reserve};

@@ -2,22 +2,39 @@
 // it locked, so only an even one is tried, by one exchange that sets its lowest bit. An exchange
 // that meets another word changes nothing. In both cases the word that was in the way is told:
 // PostgreSQL spins here (insertpos_lck), this call does not wait.
-// With the bit set the position is this pass's to store, and so is the last start (places.rt).
+// With the bit set the position is this pass's to store, and so is the last start (places.rt). The
+// address there is made before: nothing but steps is done while the position is locked.
 ghost use Rattle.std.specs.Prelude.{◌≡◌, ◌<◌, ◌^◌, IfErr, IfOk};
+ghost use Rattle.byte_position.specs.Position.{address_of};
 ghost use Rattle.wal_core.specs.Views.{Free};
 ghost use Rattle.wal_rule.specs.SeatedPasses.{StaysSeated, setup_of, view_of};
 ghost use Rattle.reserve_lock.specs.Reserved.{IsPositionBusy, IsPositionLocked};
 
+use crate::starting::start_at;
+use byte_position::Geometry;
 use segment_disk::Disk;
 use wal_rule::SeatedPass;
+use wal_types::Lsn;
+
+// A position that was locked, and the address of the byte there.
+#[derive(Clone, Copy)]
+pub(crate) struct LockedAt {
+    pub(crate) at: u64,
+    pub(crate) start: Lsn,
+}
 
 // The position that was locked; an error tells what was found in its place.
-pub(crate) fn lock_seen<'p, D: Disk>(seated: &mut SeatedPass<'p, D>) -> Result<u64, u64>
+#[inline(always)]
+pub(crate) fn lock_seen<'p, D: Disk>(
+    seated: &mut SeatedPass<'p, D>,
+    geometry: Geometry,
+) -> Result<LockedAt, u64>
     requires place { (view_of seated.old).reserving.place ≡ Free }
     // It is locked at a multiple of 8 behind all that the pass had seen, and within the log.
-    ensures locked { IfOk result (λ at. IsPositionLocked (setup_of seated.old) at
+    ensures locked { IfOk result (λ l. IsPositionLocked (setup_of seated.old) l.at
         (view_of seated.old) (view_of seated.new)) }
-    ensures low { IfOk result (λ at. at < 2 ^ 60) }
+    ensures start { IfOk result (λ l. l.start.0 ≡ address_of geometry l.at) }
+    ensures low { IfOk result (λ l. l.at < 2 ^ 60) }
     // It is not locked by this pass, which has seen reserved what it loaded, and knows no more.
     ensures busy { IfErr result (λ seen. IsPositionBusy seen (view_of seated.old)
         (view_of seated.new)) }
@@ -27,6 +44,11 @@ pub(crate) fn lock_seen<'p, D: Disk>(seated: &mut SeatedPass<'p, D>) -> Result<u
     if loaded % 2 == 1 {
         return Err(loaded);
     }
+    let start = start_at(geometry, loaded);
     let met = seated.lock_position(loaded);
-    if met == loaded { Ok(loaded) } else { Err(met) }
+    if met == loaded {
+        Ok(LockedAt { at: loaded, start })
+    } else {
+        Err(met)
+    }
 }

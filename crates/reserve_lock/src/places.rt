@@ -7,6 +7,7 @@
 // that ends at it. A step's kind `K` names the record, which no code has at hand: one that the body
 // spells.
 ghost use Rattle.std.specs.Prelude.{◌≡◌, ◌+◌, ◌%◌, ◌<◌, ◌≤◌, ◌^◌, length};
+ghost use Rattle.byte_position.specs.Position.{address_of};
 ghost use Rattle.wal_types.specs.declared.record.Record.{Record};
 ghost use Rattle.record_spelling.specs.Spelling.{assembled};
 ghost use Rattle.wal_page.specs.Order.{assembled_room_at};
@@ -19,6 +20,7 @@ ghost use Rattle.reserve_lock.specs.Reserved.{IsEntryReserved, full_view, stayed
 use record_spelling::Body;
 use segment_disk::Disk;
 use wal_rule::{OfKind, SeatedPass};
+use wal_types::Lsn;
 
 // Gives the position back as it was, where too few bytes are left for the record.
 pub(crate) fn give_back<'p, D: Disk, K: OfKind>(
@@ -49,11 +51,14 @@ pub(crate) fn stay_there<'p, D: Disk>(seated: &mut SeatedPass<'p, D>, at: u64)
 }
 
 // Reserves the record's place at the locked position, under the insertion locks that the pass
-// holds, and tells where the record before starts. The record takes up `room` bytes there.
+// holds, and tells where the record before starts. The record takes up `room` bytes there, from the
+// address `start` on.
+#[inline(always)]
 pub(crate) fn reserve_at<'p, D: Disk, K: OfKind>(
     seated: &mut SeatedPass<'p, D>,
     body: &Body,
     at: u64,
+    start: Lsn,
     room: u64,
 ) -> u64
     // The position is locked, the record ends within the log, and the pass holds an insertion lock
@@ -63,6 +68,7 @@ pub(crate) fn reserve_at<'p, D: Disk, K: OfKind>(
         × (assembled value ≡ body.now)
         × (K.kind ≡ store_position (view_of seated.old).working.locks value) }
     requires place { (view_of seated.old).reserving.place ≡ Locked at }
+    requires start { start.0 ≡ address_of (setup_of seated.old).segment_size at }
     requires room { room ≡ assembled_room_at (setup_of seated.old).segment_size at body.now }
     requires some { 1 ≤ length (view_of seated.old).working.locks }
     requires landed { (view_of seated.old).working.flight ≡ Landed }
@@ -75,7 +81,7 @@ pub(crate) fn reserve_at<'p, D: Disk, K: OfKind>(
     ensures stays { StaysSeated seated.old seated.new }
 {
     let prev = seated.load_prev();
-    seated.store_prev(seated.shape().geometry().to_lsn(at).0);
+    seated.store_prev(start.0);
     seated.store_position::<K>(at + room);
     prev
 }

@@ -5,6 +5,7 @@
 // for good, whatever fails later: its words are the pass's to copy, and the next record names its
 // start as prev. Nobody else reserves those bytes.
 ghost use Rattle.std.specs.Prelude.{◌≡◌, ℕ, ◌-◌, ◌%◌, ◌<◌, ◌≤◌, [], ◌∷◌, false, true, length, Contains, IfErr, IfOk};
+ghost use Rattle.byte_position.specs.Position.{address_of};
 ghost use Rattle.record_spelling.specs.Spelling.{RecordOf, is_assembled_switch};
 ghost use Rattle.wal_core.specs.Views.{Free, Landed, Locked};
 ghost use Rattle.wal_core.specs.Words.{log_limit};
@@ -13,8 +14,10 @@ ghost use Rattle.wal_page.specs.Placed.{placed_end};
 ghost use Rattle.wal_rule.specs.SeatedPasses.{StaysSeated, setup_of, view_of};
 ghost use Rattle.reserve_lock.specs.Reserved.{IsInsertReserved, IsPlaceReserved, TellsWhy, full_view};
 
-use crate::locking::lock_seen;
+use crate::locking::{LockedAt, lock_seen};
 use crate::places::{give_back, reserve_at};
+use crate::starting::end_behind;
+use byte_position::Geometry;
 use record_spelling::Body;
 use segment_disk::Disk;
 use std::marker::Brand;
@@ -44,6 +47,7 @@ pub struct Reserved<'a> {
 /// ReserveXLogInsertLocation). It tries once and never waits: where another pass has the position
 /// locked, or has moved it, the caller tries again. The lock stays held at each exit. A segment
 /// switch has a call of its own (`try_reserve_switch`), since it stands under all locks.
+#[inline(always)]
 pub fn try_reserve<'a, 'p, D: Disk>(
     seated: &mut SeatedPass<'p, D>,
     body: &'a Body,
@@ -64,11 +68,12 @@ pub fn try_reserve<'a, 'p, D: Disk>(
         (view_of seated.new) e) }
     ensures stays { StaysSeated seated.old seated.new }
 {
-    let at = match lock_seen(seated) {
-        Ok(at) => at,
+    let geometry = seated.shape().geometry();
+    let locked = match lock_seen(seated, geometry) {
+        Ok(locked) => locked,
         Err(seen) => return Err(ReserveErr::Busy { seen }),
     };
-    match reserve_locked(seated, body, at, u64::from(body.room())) {
+    match reserve_locked(seated, geometry, body, locked, u64::from(body.room())) {
         Ok(reserved) => Ok(reserved),
         Err(free) => Err(ReserveErr::Full { free }),
     }
@@ -77,40 +82,47 @@ pub fn try_reserve<'a, 'p, D: Disk>(
 // Reserves the record's place at the locked position, where it takes up `room` bytes, under the
 // insertion locks that the pass holds. Where too few bytes of the log are left, it gives the
 // position back and tells how many.
+#[inline(always)]
 pub(crate) fn reserve_locked<'a, 'p, D: Disk>(
     seated: &mut SeatedPass<'p, D>,
+    geometry: Geometry,
     body: &'a Body,
-    at: u64,
+    locked: LockedAt,
     room: u64,
 ) -> Result<Reserved<'a>, u64>
+    requires geometry { geometry ≡ (setup_of seated.old).segment_size }
     requires known { RecordOf body.now }
-    requires place { (view_of seated.old).reserving.place ≡ Locked at }
-    requires seen { (view_of seated.old).reserving.seen ≤ at }
-    requires within { at ≤ log_limit (setup_of seated.old) }
-    requires whole { at % 8 ≡ 0 }
-    requires room { room ≡ assembled_room_at (setup_of seated.old).segment_size at body.now }
+    requires place { (view_of seated.old).reserving.place ≡ Locked locked.at }
+    requires start { locked.start.0 ≡ address_of geometry locked.at }
+    requires seen { (view_of seated.old).reserving.seen ≤ locked.at }
+    requires within { locked.at ≤ log_limit (setup_of seated.old) }
+    requires whole { locked.at % 8 ≡ 0 }
+    requires room { room
+        ≡ assembled_room_at (setup_of seated.old).segment_size locked.at body.now }
     requires some { 1 ≤ length (view_of seated.old).working.locks }
     requires all { is_assembled_switch body.now ≡ true → (lock : ℕ) → lock < 8
         → Contains (view_of seated.old).working.locks lock }
     requires landed { (view_of seated.old).working.flight ≡ Landed }
     ensures reserved { IfOk result (λ r. (p : IsPlaceReserved (setup_of seated.old) body.now
         (view_of seated.old).working.locks (view_of seated.old) (view_of seated.new)
-        r.start.0 r.placed) × (p.at ≡ at)) }
+        r.start.0 r.placed) × (p.at ≡ locked.at)) }
     ensures end { IfOk result (λ r. r.end.0 ≡ placed_end r.placed) }
-    ensures full { IfErr result (λ free. (free ≡ log_limit (setup_of seated.old) - at)
-        × (free < room) × (view_of seated.new ≡ full_view at (view_of seated.old))) }
+    ensures full { IfErr result (λ free. (free ≡ log_limit (setup_of seated.old) - locked.at)
+        × (free < room) × (view_of seated.new ≡ full_view locked.at (view_of seated.old))) }
     ensures stays { StaysSeated seated.old seated.new }
 {
+    let at = locked.at;
+    let start = locked.start;
     let shape = seated.shape();
     let free = shape.limit() - at;
     if free < room {
         give_back::<D, Brand>(seated, body, at);
         return Err(free);
     }
-    let prev = reserve_at::<D, Brand>(seated, body, at, room);
+    let prev = reserve_at::<D, Brand>(seated, body, at, start, room);
     Ok(Reserved {
-        start: shape.geometry().to_lsn(at),
-        end: shape.geometry().to_end_lsn(at + room),
-        placed: Placed::new(shape.geometry(), shape.sysid(), body, at, Lsn(prev)),
+        start,
+        end: end_behind(geometry, at, start, room),
+        placed: Placed::new(geometry, shape.sysid(), body, at, Lsn(prev)),
     })
 }

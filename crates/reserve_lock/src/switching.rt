@@ -50,16 +50,18 @@ pub fn try_reserve_switch<'a, 'p, D: Disk>(
     ensures stays { StaysSeated seated.old seated.new }
 {
     let geometry = seated.shape().geometry();
-    let at = match lock_seen(seated) {
-        Ok(at) => at,
+    let locked = match lock_seen(seated, geometry) {
+        Ok(locked) => locked,
         Err(seen) => return Err(ReserveErr::Busy { seen }),
     };
+    let at = locked.at;
     let end = geometry.to_end_lsn(at);
     if end.0 % geometry.segment_size() == 0 {
         stay_there(seated, at);
         return Ok(SwitchTry::Stayed { end });
     }
-    match reserve_locked(seated, body, at, room_at(geometry, at, body)) {
+    let room = room_at(geometry, at, body);
+    match reserve_locked(seated, geometry, body, locked, room) {
         Ok(reserved) => Ok(SwitchTry::Switched(reserved)),
         Err(free) => Err(ReserveErr::Full { free }),
     }

@@ -2,31 +2,34 @@
 -- lines were told.
 use Rattle.std.specs.Prelude.{IfSome, IsSome, None}
 use Rattle.std.proofs.lemmas.Bool.{true≢false}
-use Rattle.std.proofs.Common.{◌≡◌, inl, inr, ℕ, ◌-◌, ◌^◌, ◌<◌, ◌≤◌, List, Option, Some, length, refl, sym, ap, ◌∙◌, subst, arith}
+use Rattle.std.proofs.Common.{◌≡◌, inl, inr, ℕ, ◌+◌, ◌-◌, ◌^◌, ◌<◌, ◌≤◌, List, Option, Some, length, refl, sym, ap, ◌∙◌, subst, arith}
 use mathlib.Core.Option.{Option as Maybe, none, some}
 use Rattle.segment_disk.specs.Cause.{Rose}
+use Rattle.segment_disk.specs.Assured.{SegmentAssures}
 use Rattle.segment_disk.specs.Tape.{DiskState, Tape}
 use Rattle.segment_disk.specs.declared.disk.Call.{Call}
 use Rattle.flush_core.specs.Pages.{HoldsNothing}
 use Rattle.wal_page.specs.Order.{Entry, IsChained, end_position, rooms_of}
+use Rattle.wal_page.proofs.OrderLaws.{rooms_of-append}
 use Rattle.wal_script.specs.Asked.{AskedLine}
 use Rattle.told_lines.specs.declared.told.Told.{Told}
-use Rattle.told_lines.specs.Told.{IsFullAnswer, IsRefused, SomeTold, TellsAll}
-use Rattle.told_lines.specs.Crash.{EachIsTimely, SurvivesCrashes}
+use Rattle.told_lines.specs.Told.{IsFullAnswer, IsRefused, SomeTold, TellsAll, order_from}
+use Rattle.told_lines.specs.Crash.{EachIsTimely, KeepsFound, SurvivesCrashes}
 use Rattle.told_lines.specs.Whole.{IsWhole}
-use Rattle.wal_core.specs.Suited.{BeganSuited, tape_from}
+use Rattle.wal_core.specs.Suited.{BeganSuited, IsLogAt, tape_from}
 use Rattle.wal_core.specs.Views.{View}
-use Rattle.wal_core.specs.Words.{Opening}
+use Rattle.wal_core.specs.Words.{Opening, found_position}
 use Rattle.wal_core.proofs.Tapes.{at_told, told_as}
 use Rattle.closed_log.specs.Closed.{IsClosedOn}
+use Rattle.closed_log.proofs.FoundKept.{keep}
 use Rattle.closed_log.proofs.Fronts.{no_other_words}
 use Rattle.wal_rule.specs.Slotted.{GoesOnFrom, first_on, slot_disk, slot_plain}
 use Rattle.wal_rule.specs.declared.writer.LogWriter.{LogWriter}
 use Rattle.wal_rule.proofs.SlotTapes.{tape_on_first}
-use Rattle.wal_rule.proofs.OpeningTold.{began_suited}
+use Rattle.wal_rule.proofs.OpeningTold.{found_suited}
 use Rattle.run_laws.specs.Counted.{all_reserved_count}
 use Rattle.run_laws.specs.Ended.{IsClosedLog, logged_at_end}
-use Rattle.run_laws.proofs.Counting.{order_counted}
+use Rattle.run_laws.proofs.Counting.{own_counted}
 use Rattle.run_laws.proofs.FullScripts.{too_much_asked}
 use Rattle.run_laws.proofs.LastFlush.{left_whole}
 use Rattle.run_laws.proofs.LineFaults.{run_stays_down}
@@ -37,9 +40,18 @@ use Rattle.run_laws.proofs.RefusedLines.{refused_for_want_of_room}
 use Rattle.run_laws.proofs.RunCrashes.{told_survive, told_timely}
 use Rattle.run_laws.proofs.RunOrder.{told_order, told_rise}
 use Rattle.run_laws.proofs.RunTells.{run_tells}
-use Rattle.run_laws.specs.Assured.{IsMachineRun, LeavesLogWords, RunAssures, TapeGoesOn, order_told}
+use Rattle.run_laws.specs.Assured.{HoldsSuited, IsMachineRun, LeavesLogWords, RunAssures, TapeGoesOn, order_told}
 use Rattle.run_laws.specs.ClosedRuns.{HasFlushedAll, IsRunClosed}
 use Rattle.run_laws.proofs.ClosedLogs.{closed_on, fault_rose, knows_no_fault, none_is_later, rooms_are_low}
+
+-- a disk without a segment is one that a log may go on on which found none
+pub empty_suited : (opening : Opening) (began : Option Tape) → opening.made ≡ 0
+    → HoldsNothing began → HoldsSuited opening began
+empty_suited opening None none_made nothing = tt
+empty_suited opening (Some b) none_made nothing = λ segment. subst
+    (SegmentAssures (opening.setup).segment_size
+    (λ segment. (1 ≤ segment) × (segment ≤ opening.made)) (IsLogAt opening.setup opening.found)
+    segment) (sym (nothing segment)) (λ made. omega (arith, none_made, made.0, made.1))
 
 -- a tape goes on from the one of the opening
 tape_goes_on : (began now : Option Tape) → (IsSome began → IsSome now)
@@ -79,7 +91,6 @@ module _ {D : Type 0} (tape : D → Option Tape) (moment faults : D → ℕ) (be
     writer = slot_plain tape moment w;
     views = (r.closes).views;
     id = (r.closes).id;
-    none_found = r.none_found;
     sound = (r.closes).sound;
     order_is = refl;
     here = (r.closes).here;
@@ -94,36 +105,41 @@ module _ {D : Type 0} (tape : D → Option Tape) (moment faults : D → ℕ) (be
   tells = run_tells opening order last_view closed script lists r.taken (faults (slot_disk w))
       (λ count is. let counted = ((r.closes).of_log).down count is in omega (arith, counted))
 
-  -- ---- on a disk that held nothing
+  -- ---- on a disk that held what the log may go on on
 
   -- the disk's tape, by what it held at first
   own : tape_from (first_on began) (slot_plain tape moment w).calls ≡ tape (slot_disk w)
   own = tape_on_first (first_on began) (tape (slot_disk w)) ((r.closes).of_log).on_first
 
-  began_on : HoldsNothing began → IfSome (tape (slot_disk w)) (BeganSuited opening)
-  began_on nothing = began_suited opening began (tape (slot_disk w)) r.none_made nothing r.counted
+  began_on : HoldsSuited opening began → IfSome (tape (slot_disk w)) (BeganSuited opening)
+  began_on suited = found_suited opening began (tape (slot_disk w)) suited r.counted
       ((r.closes).of_log).on_first ((r.closes).of_log).goes_on
 
-  closed_there : HoldsNothing began → (t : Tape) → tape (slot_disk w) ≡ Some t
+  closed_there : HoldsSuited opening began → (t : Tape) → tape (slot_disk w) ≡ Some t
       → IsClosedOn opening order t last_view
-  closed_there nothing t is = closed_on opening order last_view closed r.narrow t (own ∙ is)
-      (at_told (BeganSuited opening) (tape (slot_disk w)) t is (began_on nothing))
+  closed_there suited t is = closed_on opening order last_view closed r.narrow t (own ∙ is)
+      (at_told (BeganSuited opening) (tape (slot_disk w)) t is (began_on suited))
 
-  words : HoldsNothing began → IfSome (tape (slot_disk w))
+  words : HoldsSuited opening began → IfSome (tape (slot_disk w))
       (LeavesLogWords (opening.setup).segment_size (opening.setup).sysid order opening.moment)
-  words nothing = told_as (tape (slot_disk w)) (λ t is moment image from left k.
-      (no_other_words opening order t last_view (closed_there nothing t is) moment image from
+  words suited = told_as (tape (slot_disk w)) (λ t is moment image from left k.
+      (no_other_words opening order t last_view (closed_there suited t is) moment image from
       left).words k)
 
-  crash : HoldsNothing began → IfSome (tape (slot_disk w))
+  crash : HoldsSuited opening began → IfSome (tape (slot_disk w))
       (SurvivesCrashes (opening.setup).segment_size opening.moment order lists)
-  crash nothing = told_as (tape (slot_disk w)) (λ t is.
-      told_survive opening order t last_view (closed_there nothing t is) script lists r.taken)
+  crash suited = told_as (tape (slot_disk w)) (λ t is.
+      told_survive opening order t last_view (closed_there suited t is) script lists r.taken)
 
-  timely : HoldsNothing began → IfSome (tape (slot_disk w))
+  keeps : HoldsSuited opening began → IfSome (tape (slot_disk w))
+      (KeepsFound (opening.setup).segment_size opening.moment order opening.found)
+  keeps suited = told_as (tape (slot_disk w)) (λ t is.
+      keep opening order t last_view (closed_there suited t is))
+
+  timely : HoldsSuited opening began → IfSome (tape (slot_disk w))
       (λ t. EachIsTimely (opening.setup).segment_size opening.moment order t 1 script lists)
-  timely nothing = told_as (tape (slot_disk w)) (λ t is.
-      told_timely opening order t last_view (closed_there nothing t is) script lists r.taken)
+  timely suited = told_as (tape (slot_disk w)) (λ t is.
+      told_timely opening order t last_view (closed_there suited t is) script lists r.taken)
 
   -- ---- what is assured
 
@@ -158,11 +174,14 @@ module _ {D : Type 0} (tape : D → Option Tape) (moment faults : D → ℕ) (be
         (moment (slot_disk w)) (none_is_later opening order last_view closed);
     goes_on = tape_goes_on began (tape (slot_disk w)) ((r.closes).of_log).told
         ((r.closes).of_log).on_first ((r.closes).of_log).goes_on;
-    words = subst (λ (es : List Entry). HoldsNothing began → IfSome (tape (slot_disk w))
+    words = subst (λ (es : List Entry). HoldsSuited opening began → IfSome (tape (slot_disk w))
         (LeavesLogWords size (opening.setup).sysid es opening.moment)) order_is words;
-    crash = subst (λ (es : List Entry). HoldsNothing began → IfSome (tape (slot_disk w))
+    crash = subst (λ (es : List Entry). HoldsSuited opening began → IfSome (tape (slot_disk w))
         (SurvivesCrashes size opening.moment es lists)) order_is crash;
-    no_late_receipt = subst (λ (es : List Entry). HoldsNothing began
+    keeps_found = subst (λ (es : List Entry). HoldsSuited opening began
+        → IfSome (tape (slot_disk w)) (KeepsFound size opening.moment es opening.found)) order_is
+        keeps;
+    no_late_receipt = subst (λ (es : List Entry). HoldsSuited opening began
         → IfSome (tape (slot_disk w))
         (λ t. EachIsTimely size opening.moment es t 1 script lists)) order_is timely;
     full = too_much_asked opening order last_view closed script lists r.taken;
@@ -193,32 +212,41 @@ module _ {D : Type 0} (tape : D → Option Tape) (moment faults : D → ℕ) (be
         | inr top ↦ omega (arith, top, same, low)
       ])
 
-  whole : (slot_plain tape moment w).fault ≡ none → HoldsNothing began
+  whole : (slot_plain tape moment w).fault ≡ none → HoldsSuited opening began
       → HasFlushedAll (opening.setup).segment_size lists v
       → IsWhole (opening.setup).segment_size (tape (slot_disk w)) order
-  whole up nothing (inl p) = subst (λ (t : Option Tape). IsWhole size t order) own
+  whole up suited (inl p) = subst (λ (t : Option Tape). IsWhole size t order) own
       (left_whole opening order last_view closed script lists r.taken up p.0 p.1 p.2 r.narrow
-      (subst (λ (t : Option Tape). IfSome t (BeganSuited opening)) (sym own) (began_on nothing)))
-  whole up nothing (inr f) = absurd (knows_no_fault opening order last_view closed up f.0 f.1)
+      (subst (λ (t : Option Tape). IfSome t (BeganSuited opening)) (sym own) (began_on suited)))
+  whole up suited (inr f) = absurd (knows_no_fault opening order last_view closed up f.0 f.1)
 
   pub flushed_whole : HasFlushedAll (opening.setup).segment_size lists v
-      → faults (slot_disk w) ≡ opening.faults → opening.faults < 2 ^ 64 - 1 → HoldsNothing began
+      → faults (slot_disk w) ≡ opening.faults → opening.faults < 2 ^ 64 - 1
+      → HoldsSuited opening began
       → IsWhole (opening.setup).segment_size (tape (slot_disk w))
       (order_told opening script lists)
-  flushed_whole flushed same low nothing =
+  flushed_whole flushed same low suited =
       subst (IsWhole size (tape (slot_disk w))) order_is
-      (whole (none_met same low) nothing flushed)
+      (whole (none_met same low) suited flushed)
 
   -- ---- the order in numbers
 
-  pub records_counted : length (order_told opening script lists) ≡ all_reserved_count lists
-  records_counted = sym (ap length order_is)
-      ∙ order_counted opening order last_view closed script lists r.taken
+  pub records_counted : length (order_from (opening.setup).segment_size 1 script lists)
+      ≡ all_reserved_count lists
+  records_counted = own_counted opening last_view script lists r.taken
 
   pub position_told : position
       ≡ end_position (opening.setup).segment_size (order_told opening script lists)
   position_told = (r.closes).position_is ∙ (((r.closes).closed).free).position
       ∙ ap (end_position size) order_is
+
+  pub bytes_told : position ≡ found_position opening + rooms_of (opening.setup).segment_size
+      (order_from (opening.setup).segment_size 1 script lists)
+  bytes_told = omega (
+    arith,
+    position_told,
+    rooms_of-append size opening.found (order_from size 1 script lists),
+  )
 
   pub rooms_within : rooms_of (opening.setup).segment_size (order_told opening script lists)
       ≤ 2 ^ 42

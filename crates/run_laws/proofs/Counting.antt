@@ -7,7 +7,7 @@ use Rattle.wal_core.specs.Words.{Opening, log_limit}
 use Rattle.wal_core.specs.Views.{View}
 use Rattle.told_lines.specs.declared.told.Told.{Told}
 use Rattle.told_lines.specs.declared.told.Told.TheVariants.{Wrote, Hard, Flushed, Async, Idle, Switched, Stayed, Refused}
-use Rattle.told_lines.specs.Told.{entries_from, entries_of, entry_of, insert_by_start, sorted_by_start}
+use Rattle.told_lines.specs.Told.{entries_from, entries_of, entry_of, insert_by_start, order_from, sorted_by_start}
 use Rattle.told_lines.specs.Counts.{is_reserved, reserved_count}
 use Rattle.run_laws.specs.Counted.{all_reserved_count}
 use Rattle.run_laws.specs.Played.{Leaves, PassState, PlaysLines, state_at_first, pass_state_of}
@@ -124,11 +124,20 @@ length-sorted : (es : List Entry) → length (sorted_by_start es) ≡ length es
 length-sorted [] = refl
 length-sorted (e ∷ es) = length-insert e (sorted_by_start es) ∙ ap suc (length-sorted es)
 
+pub own_counted : (opening : Opening) (v : View) (script : List (List AskedLine))
+    (lists : List (List Told)) → HasTakenIn opening v script lists
+    → length (order_from (opening.setup).segment_size 1 script lists) ≡ all_reserved_count lists
+own_counted opening v script lists taken =
+    let size = (opening.setup).segment_size in
+    length-sorted (entries_from size 1 script lists)
+    ∙ all_counted size (log_limit opening.setup) 1 script lists taken.others taken.played
+
 pub order_counted : (opening : Opening) (order : List Entry) (v : View)
     → IsClosedLog opening order v → (script : List (List AskedLine)) (lists : List (List Told))
-    → HasTakenIn opening v script lists → length order ≡ all_reserved_count lists
+    → HasTakenIn opening v script lists
+    → length order ≡ length opening.found + all_reserved_count lists
 order_counted opening order v c script lists taken =
-    let size = (opening.setup).segment_size in
+    let own = order_from (opening.setup).segment_size 1 script lists in
     sym (ap length (told_order opening order v c script lists taken))
-    ∙ length-sorted (entries_from size 1 script lists)
-    ∙ all_counted size (log_limit opening.setup) 1 script lists taken.others taken.played
+    ∙ length-append opening.found own
+    ∙ ap (λ (n : ℕ). length opening.found + n) (own_counted opening v script lists taken)

@@ -16,7 +16,7 @@ use Rattle.run_laws.specs.Played.{AddsFull, AddsStay, behind_last_own}
 use Rattle.run_laws.proofs.OwnEnds.{StartsBelow, ends_within, own_starts_below}
 
 module _ (logged : Logged) (limit pass : ℕ) (chained : IsChained logged.size logged.order)
-    (limited : limit ≡ first_position logged.size + logged.capacity) (found all : List Entry) where
+    (limited : limit ≡ first_position logged.size + logged.capacity) (all : List Entry) where
   abbrev size : ℕ
   size = logged.size
 
@@ -25,18 +25,21 @@ module _ (logged : Logged) (limit pass : ℕ) (chained : IsChained logged.size l
   IsBelow own e = StartsBelow pass
       (behind_last_own logged.size (first_position logged.size) own) e
 
-  -- a front of the order ends at a byte position, and has these entries of the pass
+  -- a front of the order ends at a byte position, and has what was found and these entries of the
+  -- pass
   record FrontHas (at : ℕ) (own : List Entry) : Type 0 where
     front : ℕ
     within : front ≤ length logged.order
+    has_found : length logged.found ≤ front
     earlier : behind_last_own logged.size (first_position logged.size) own
         ≤ end_position logged.size (take front logged.order)
     no_later : All (IsBelow own) (take front logged.order)
     ends : end_position logged.size (take front logged.order) ≡ at
 
   front_has : (at : ℕ) (own front back : List Entry) → logged.order ≡ front ++ back
-      → at ≡ end_position logged.size front → entries_under pass front ≡ own → FrontHas at own
-  front_has at own front back parts end mine =
+      → length logged.found ≤ length front → at ≡ end_position logged.size front
+      → entries_under pass front ≡ own → FrontHas at own
+  front_has at own front back parts long end mine =
       let same : take (length front) logged.order ≡ front =
       ap (take (length front)) parts ∙ take-append_seam front back in
       let ends : end_position size (take (length front) logged.order) ≡ at =
@@ -51,6 +54,7 @@ module _ (logged : Logged) (limit pass : ℕ) (chained : IsChained logged.size l
       record {
         front = length front;
         within = omega (arith, ap length parts, length-append front back);
+        has_found = long;
         earlier = omega (arith, ends, end, own_within);
         no_later = subst (All (IsBelow own)) (sym same) own_below;
         ends = ends;
@@ -59,20 +63,21 @@ module _ (logged : Logged) (limit pass : ℕ) (chained : IsChained logged.size l
   -- where a pass stopped, such a front ends
   stopped : (stop : StopCause) (at : ℕ) (before after : PassLog)
       → after ≡ log_with_stop stop at before
-      → All (FrontEndsAt logged.size pass found logged.order all) after.stops
+      → All (FrontEndsAt logged.size pass logged.found logged.order all) after.stops
       → take (length before.entries) all ≡ before.entries → FrontHas at before.entries
   stopped stop at before after log_is ends own =
       let here : Stop =
       record { cause = stop; position = at; entries = length before.entries } in
-      let Ends = FrontEndsAt size pass found logged.order all in
+      let Ends = FrontEndsAt size pass logged.found logged.order all in
       let all_ends = subst (All Ends) (ap (λ (l : PassLog). l.stops) log_is) ends in
-      let end : FrontEndsAt size pass found logged.order all here =
+      let end : FrontEndsAt size pass logged.found logged.order all here =
       All-head Ends here [] (parts_all Ends before.stops (here ∷ []) all_ends).1 in
-      front_has at before.entries end.front end.back end.are end.end (end.own ∙ own)
+      front_has at before.entries end.front end.back end.are end.found_within end.end
+      (end.own ∙ own)
 
   pub full_cause : (value : Record) (free : ℕ) (before after : PassLog)
       → AddsFull logged.size limit pass value free before after
-      → All (FrontEndsAt logged.size pass found logged.order all) after.stops
+      → All (FrontEndsAt logged.size pass logged.found logged.order all) after.stops
       → take (length before.entries) all ≡ before.entries
       → MayBeFull logged pass
       (behind_last_own logged.size (first_position logged.size) before.entries) value free
@@ -81,6 +86,7 @@ module _ (logged : Logged) (limit pass : ℕ) (chained : IsChained logged.size l
       record {
         front = f.front;
         within = f.within;
+        has_found = f.has_found;
         earlier = f.earlier;
         no_later = f.no_later;
         left = omega (arith, f.ends, full.free_is, limited);
@@ -89,7 +95,7 @@ module _ (logged : Logged) (limit pass : ℕ) (chained : IsChained logged.size l
 
   pub stay_cause : (end : ℕ) (before after : PassLog)
       → AddsStay logged.size limit pass end before after
-      → All (FrontEndsAt logged.size pass found logged.order all) after.stops
+      → All (FrontEndsAt logged.size pass logged.found logged.order all) after.stops
       → take (length before.entries) all ≡ before.entries
       → MayStay logged pass
       (behind_last_own logged.size (first_position logged.size) before.entries) end
@@ -98,6 +104,7 @@ module _ (logged : Logged) (limit pass : ℕ) (chained : IsChained logged.size l
       record {
         front = f.front;
         within = f.within;
+        has_found = f.has_found;
         earlier = f.earlier;
         no_later = f.no_later;
         end_is = stay.end_is ∙ ap (end_address_of size) (sym f.ends);

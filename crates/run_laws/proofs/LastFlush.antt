@@ -1,14 +1,14 @@
--- Where the disk did not fail, what reaches all ends that lines were told reaches the order's end.
-use Rattle.std.proofs.Common.{◌≡◌, ℕ, ◌+◌, ◌^◌, ◌<◌, ◌≤◌, All, Contains, cond, Bool, true, false, leb, List, [], ◌∷◌, Option, Some, None, option_to_list, refl, subst, IfSome, arith}
-use Rattle.std.proofs.lemmas.List.Elements.{All-append, All-cons, All-contains, All-head, All-nil, All-tail}
+-- Where the disk did not fail, what reaches all ends that lines were told reaches the order's end:
+-- what was found is flushed from the opening on.
+use Rattle.std.proofs.Common.{◌≡◌, ℕ, ◌+◌, ◌^◌, ◌<◌, ◌≤◌, All, Contains, cond, Bool, true, false, leb, List, [], ◌∷◌, Option, Some, None, option_to_list, refl, ap, subst, IfSome, arith}
+use Rattle.std.proofs.lemmas.List.Elements.{All-append, All-cons, All-contains, All-head, All-nil, All-tail, All-weaker}
 use mathlib.Core.Option.{none, some}
 use Rattle.segment_disk.specs.declared.disk.Call.{Call}
 use Rattle.segment_disk.specs.Tape.{Tape}
 use Rattle.byte_position.specs.Position.{end_address_of, first_position}
-use Rattle.byte_position.proofs.EndAddresses.{end_address_of-le}
 use Rattle.wal_types.specs.declared.answers.Cause.TheVariants.{Full, Disk, Down}
 use Rattle.wal_page.specs.Order.{Entry, FollowsFrom, end_position, finish_of, position_behind, rooms_of}
-use Rattle.wal_page.proofs.OrderLaws.{rooms_of_cons}
+use Rattle.wal_page.proofs.OrderLaws.{rooms_of-append, rooms_of_cons}
 use Rattle.wal_script.specs.Asked.{Asked, AskedLine, Insert, Commit, Flush, CommitAsync, WriteBehind, Switch}
 use Rattle.wal_core.specs.Words.{Opening, flushed_word, moment_word}
 use Rattle.wal_core.specs.Suited.{BeganSuited, tape_from}
@@ -24,7 +24,7 @@ use Rattle.told_lines.specs.Whole.{IsWhole}
 use Rattle.run_laws.specs.Ended.{HasTakenIn, IsClosedLog, logged_at_end}
 use Rattle.run_laws.specs.Reached.{EndsBy, ReachesAll}
 use Rattle.run_laws.proofs.RefusedLines.{no_fault, tells_no_fault}
-use Rattle.run_laws.proofs.RunOrder.{accounted, told_order, valid}
+use Rattle.run_laws.proofs.RunOrder.{begins, own_follow, told_own}
 
 -- what holds of all entries holds of them in any order
 module _ (P : Entry → Type 0) where
@@ -165,9 +165,10 @@ module _ (opening : Opening) (order : List Entry) (v : View) (c : IsClosedLog op
   abbrev EndsThere : Entry → Type 0
   EndsThere e = finish_of (opening.setup).segment_size e ≤ p.upto
 
-  all_ended : All EndsThere order
-  all_ended =
-      subst (All EndsThere) (told_order opening order v c script lists taken)
+  -- those that this run reserved end so low
+  own_ended : All EndsThere (begins opening order v c script lists taken).0
+  own_ended =
+      subst (All EndsThere) (told_own opening order v c script lists taken)
       (all_sorted EndsThere (entries_from size 1 script lists)
       (all_end (logged_at_end opening order 0) refl p.upto 1 script lists
       (tells_no_fault opening order v c script lists taken up) reaches.ends))
@@ -175,15 +176,19 @@ module _ (opening : Opening) (order : List Entry) (v : View) (c : IsClosedLog op
   pub flush_reaches : end_address_of (opening.setup).segment_size
       (end_position (opening.setup).segment_size order) ≤ flushed_word c.words
   flush_reaches =
-      let size_is = valid opening order v c script lists taken in
+      let first = begins opening order v c script lists taken in
       let right = told_rightly opening c.words (some c.writer) c.views c.sound c.id v c.here in
       let Promised = IsPromised (flushed_word c.words) (moment_word c.words) in
       let promised = All-contains Promised (v.writing).promises p right.own_promised was in
-      let begun = end_address_of-le size size_is (first_position size) size (omega arith) in
-      let ended = order_ends size p.upto (first_position size) order
-      (accounted opening order v c script lists taken).chained all_ended
-      (omega (arith, begun, reaches.begun)) in
-      omega (arith, ended, promised.upto_low)
+      let flushed = flushed_word c.words in
+      let all = All-weaker EndsThere (λ (e : Entry). finish_of size e ≤ flushed)
+      (λ e low. omega (arith, low, promised.upto_low)) first.0 own_ended in
+      let end = end_position size opening.found + rooms_of size first.0 in
+      let same : end ≡ end_position size order =
+      omega (arith, rooms_of-append size opening.found first.0, ap (rooms_of size) first.1) in
+      subst (λ (n : ℕ). end_address_of size n ≤ flushed) same
+      (order_ends size flushed (end_position size opening.found) first.0
+      (own_follow opening order v c script lists taken) all ((c.sound).durable).found_low)
 
   whole_of : (opening.setup).sysid < 2 ^ 64 → (calls : Option (List Call)) → (c.writer).calls ≡ calls
       → IfSome (tape_from c.first calls) (BeganSuited opening)

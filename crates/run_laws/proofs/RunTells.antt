@@ -27,14 +27,14 @@ IsWithin logged p = p.upto ≤ end_address_of logged.size (end_position logged.s
 abbrev ArePromised : Logged → Joined → Type 0
 ArePromised logged j = All (IsWithin logged) j.promises
 
-abbrev AreFilled : Logged → List Entry → Joined → Type 0
-AreFilled logged found j =
-    All (FrontEndsAt logged.size j.number found logged.order j.entries) j.stops
+abbrev AreFilled : Logged → Joined → Type 0
+AreFilled logged j =
+    All (FrontEndsAt logged.size j.number logged.found logged.order j.entries) j.stops
 
-module _ (logged : Logged) (limit : ℕ) (found : List Entry) where
+module _ (logged : Logged) (limit : ℕ) where
   -- a pass of which both hold, which knows faults that the disk told, and saw what was reserved
   record IsRight (w : View) : Type 0 where
-    stops : AreFilled logged found (joined_of w)
+    stops : AreFilled logged (joined_of w)
     promised : ArePromised logged (joined_of w)
     faulty : (faults : ℕ) → KnowsFault faults (pass_state_of w) → IsFault logged faults
     seen_low : (w.reserving).seen ≤ end_position logged.size logged.order
@@ -53,9 +53,9 @@ module _ (logged : Logged) (limit : ℕ) (found : List Entry) where
   all_tell size_is chained limited pass (lines ∷ script) (told ∷ lists) (w ∷ others) played right =
       let here = All-head IsRight w others right in
       let entries = (w.reserving).entries in (
-        tells logged limit pass size_is chained limited found entries lines told
+        tells logged limit pass size_is chained limited entries lines told
             (state_at_first (played.1).seen) (pass_state_of w) (played.1).plays refl (
-              subst (λ (n : ℕ). All (FrontEndsAt logged.size n found logged.order entries)
+              subst (λ (n : ℕ). All (FrontEndsAt logged.size n logged.found logged.order entries)
                   (w.reserving).stops) played.0 here.stops,
               here.promised,
             ) here.faulty here.seen_low,
@@ -116,13 +116,13 @@ module _ (opening : Opening) (order : List Entry) (v : View) (c : IsClosedLog op
       (v.reserving).joined right.joined_promised
 
   abbrev FilledThere : View → Type 0
-  FilledThere w = AreFilled (logged_at_end opening order last) opening.found (joined_of w)
+  FilledThere w = AreFilled (logged_at_end opening order last) (joined_of w)
 
   abbrev PromisedThere : View → Type 0
   PromisedThere w = ArePromised (logged_at_end opening order last) (joined_of w)
 
   abbrev Right : View → Type 0
-  Right = IsRight (logged_at_end opening order last) (log_limit opening.setup) opening.found
+  Right = IsRight (logged_at_end opening order last) (log_limit opening.setup)
 
   rights : (others : List View) → All (IsKnownTo opening v) others → All FilledThere others
       → All PromisedThere others → All Right others
@@ -142,12 +142,11 @@ module _ (opening : Opening) (order : List Entry) (v : View) (c : IsClosedLog op
   pub run_tells : TellsAll (logged_at_end opening order last) 1 script lists
   run_tells =
       let part = (accounted opening order v c script lists taken).part in
-      let stops = subst (All (AreFilled logged opening.found)) taken.joined part.joined_stops in
+      let stops = subst (All (AreFilled logged)) taken.joined part.joined_stops in
       let promised = subst (All (ArePromised logged)) taken.joined promised_of in
-      all_tell logged (log_limit opening.setup) opening.found
-      (valid opening order v c script lists taken)
+      all_tell logged (log_limit opening.setup) (valid opening order v c script lists taken)
       (accounted opening order v c script lists taken).chained refl 1 script lists taken.others
       taken.played
       (rights taken.others taken.known
-      (unmapped (AreFilled logged opening.found) taken.others stops)
+      (unmapped (AreFilled logged) taken.others stops)
       (unmapped (ArePromised logged) taken.others promised))

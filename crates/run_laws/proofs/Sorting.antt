@@ -1,5 +1,5 @@
 -- What the passes of an order reserved, put together pass by pass and sorted, is the order.
-use Rattle.std.proofs.Common.{◌≡◌, ◌≢◌, ◌⊎◌, ℕ, suc, zero, ◌+◌, ◌<◌, ◌≤◌, cond, Bool, true, false, leb, ltb, ltb-true, ltb-false, All, List, [], ◌∷◌, ◌++◌, Some, IsSome, inl, inr, refl, sym, ap, ◌∙◌, subst, arith}
+use Rattle.std.proofs.Common.{◌≡◌, ◌≢◌, ◌⊎◌, ℕ, suc, zero, ◌+◌, ◌<◌, ◌≤◌, cond, Bool, true, false, leb, ltb, ltb-true, ltb-false, All, List, [], ◌∷◌, ◌++◌, None, Some, IsSome, inl, inr, refl, sym, ap, ◌∙◌, subst, arith}
 use Rattle.std.proofs.lemmas.Bool.{le-leb, lt-leb}
 use Rattle.std.proofs.lemmas.List.Elements.{All-head, All-tail}
 use Rattle.wal_page.specs.Order.{Entry, FollowsFrom, position_behind}
@@ -26,6 +26,29 @@ hit n e es h = ap (λ (b : Bool). cond b (e ∷ entries_under n es) (entries_und
 miss : (n : ℕ) (e : Entry) (es : List Entry) → is_pass n e.pass ≡ false
     → entries_under n (e ∷ es) ≡ entries_under n es
 miss n e es h = ap (λ (b : Bool). cond b (e ∷ entries_under n es) (entries_under n es)) h
+
+-- ---- behind entries that are nobody's
+
+module _ (found back : List Entry) where
+  pub under_behind : (n : ℕ) → All (λ e. e.pass ≡ None) found
+      → entries_under n (found ++ back) ≡ entries_under n back
+  under_behind n nobodys = none_of found nobodys
+    where
+      none_of : (es : List Entry) → All (λ e. e.pass ≡ None) es
+          → entries_under n (es ++ back) ≡ entries_under n back
+      none_of [] all = refl
+      none_of (e ∷ es) all =
+          miss n e (es ++ back) (ap (is_pass n) (All-head (λ (x : Entry). x.pass ≡ None) e es all))
+          ∙ none_of es (All-tail (λ (x : Entry). x.pass ≡ None) e es all)
+
+  pub under_from_behind : (pass n : ℕ) → All (λ e. e.pass ≡ None) found
+      → under_from pass n (found ++ back) ≡ under_from pass n back
+  under_from_behind pass zero nobodys = refl
+  under_from_behind pass (suc n) nobodys =
+      ap (λ (l : List Entry). l ++ under_from (pass + 1) n (found ++ back))
+      (under_behind pass nobodys)
+      ∙ ap (λ (l : List Entry). entries_under pass back ++ l)
+      (under_from_behind (pass + 1) n nobodys)
 
 -- ---- what starts behind a position
 

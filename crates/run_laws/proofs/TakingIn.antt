@@ -149,7 +149,7 @@ one_more_taken_in opening v w script lists lines told taken number alone plays r
     }
 
 module _ (first : DiskState) (opening : Opening) (words : List ℕ) (views : List View) (id : ℕ) (v : View)
-    (none : opening.found ≡ []) (here : HasAt views id v) where
+    (here : HasAt views id v) where
   -- the writer at home is the one that the state speaks of
   closed_at_home : (writer : Plain) (home : Option Plain) → some writer ≡ home
       → (k : IsSound first opening words home views)
@@ -162,7 +162,6 @@ module _ (first : DiskState) (opening : Opening) (words : List ℕ) (views : Lis
         writer = writer;
         views = views;
         id = id;
-        none_found = none;
         sound = k;
         order_is = refl;
         here = here;
@@ -171,7 +170,7 @@ module _ (first : DiskState) (opening : Opening) (words : List ℕ) (views : Lis
 
 pub last_closes : {first : DiskState} (opening : Opening) (words : List ℕ) (home : Option Plain) (views : List View)
     (k : IsSound first opening words home views) (id : ℕ) (v : View) → HasAt views id v
-    → IsLastPass opening v → opening.found ≡ [] → IsClosedLog opening k.order v
-last_closes {first} opening words home views k id v here last none =
+    → IsLastPass opening v → IsClosedLog opening k.order v
+last_closes {first} opening words home views k id v here last =
     let c = closed opening words home views k id v here last in
-    closed_at_home first opening words views id v none here k.writer home (sym c.at_home) k c
+    closed_at_home first opening words views id v here k.writer home (sym c.at_home) k c

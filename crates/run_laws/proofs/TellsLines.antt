@@ -37,7 +37,7 @@ behind_more size behind (f ∷ es) e = behind_more size (position_behind size f)
 module _ (logged : Logged) (limit pass : ℕ) (valid : IsSegmentSize logged.size)
     (chained : IsChained logged.size logged.order)
     (limited : limit ≡ first_position logged.size + logged.capacity)
-    (found all : List Entry) where
+    (all : List Entry) where
   abbrev size : ℕ
   size = logged.size
 
@@ -49,7 +49,7 @@ module _ (logged : Logged) (limit pass : ℕ) (valid : IsSegmentSize logged.size
   IsWithin p = p.upto ≤ end_address_of logged.size (end_position logged.size logged.order)
 
   abbrev pub Ends : Stop → Type 0
-  Ends f = FrontEndsAt logged.size pass found logged.order all f
+  Ends f = FrontEndsAt logged.size pass logged.found logged.order all f
 
   start_position : (value : Record) (start : Lsn) (before after : PassLog)
       → (r : Reserves logged.size limit pass value start.0 before after)
@@ -94,8 +94,8 @@ module _ (logged : Logged) (limit pass : ℕ) (valid : IsSegmentSize logged.size
         → RefusesRecordLine logged.size limit pass value cause reserved before after
         → MayRefuseRecord logged pass behind value cause reserved
     refuses value (Full free) None l =
-        full_cause logged limit pass chained limited found all value free before.log after.log l
-        held.0 own
+        full_cause logged limit pass chained limited all value free before.log after.log l held.0
+        own
     refuses value (Full free) (Some start) l = absurd l
     refuses value (Disk faults) None l = absurd l
     refuses value (Disk faults) (Some start) l =
@@ -180,8 +180,7 @@ module _ (logged : Logged) (limit pass : ℕ) (valid : IsSegmentSize logged.size
     fits Switch (Idle upto) l = absurd l
     fits Switch (Switched start end) l = placed switch_record start end before.log after.log l
     fits Switch (Stayed end) l =
-        stay_cause logged limit pass chained limited found all end.0 before.log after.log l held.0
-        own
+        stay_cause logged limit pass chained limited all end.0 before.log after.log l held.0 own
     fits Switch (Refused cause reserved) l = (
       refuses switch_record cause reserved
           (refused_as_record logged.size limit pass cause reserved before after l),

@@ -1,15 +1,14 @@
 -- What is assured of a run, by what its lines were told.
-use Rattle.std.specs.Prelude.{◌≡◌, ℕ, ◌*◌, ◌<◌, ◌≤◌, List, ◌++◌, IfSome, Option, None, Some}
+use Rattle.std.specs.Prelude.{◌≡◌, ℕ, ◌+◌, ◌*◌, ◌<◌, ◌≤◌, List, ◌++◌, IfSome, Option, None, Some}
 use mathlib.Core.Option.{some}
 use Rattle.segment_disk.specs.declared.disk.Call.{Call}
 use Rattle.segment_disk.specs.DiskImage.{DiskImage, LeftAt}
 use Rattle.segment_disk.specs.ImageWords.{image_word}
-use Rattle.segment_disk.specs.Tape.{DiskState, Tape}
-use Rattle.flush_core.specs.Pages.{HoldsNothing}
+use Rattle.segment_disk.specs.Tape.{DiskState, Tape, state_now}
 use Rattle.wal_page.specs.Log.{IsLawfulWord}
-use Rattle.wal_page.specs.Order.{Entry, IsChained}
+use Rattle.wal_page.specs.Order.{Entry, IsChained, rooms_of}
 use Rattle.wal_core.specs.Sound.{IsSound}
-use Rattle.wal_core.specs.Suited.{tape_from}
+use Rattle.wal_core.specs.Suited.{IsSuited, tape_from}
 use Rattle.wal_core.specs.Views.{HasAt, Plain, View}
 use Rattle.wal_core.specs.Words.{Opening}
 use Rattle.wal_script.specs.Asked.{AskedLine}
@@ -18,13 +17,19 @@ use Rattle.told_lines.specs.Told.{EachStaysDown, IsFullAnswer, RiseInLineOrder, 
 use Rattle.told_lines.specs.Counts.{TellsOneFault}
 use Rattle.told_lines.specs.Moments.{EachRises}
 use Rattle.told_lines.specs.CatchingUp.{EachCatchesUp}
-use Rattle.told_lines.specs.Crash.{EachIsTimely, SurvivesCrashes}
+use Rattle.told_lines.specs.Crash.{EachIsTimely, KeepsFound, SurvivesCrashes}
 use Rattle.told_lines.specs.Rooms.{all_rooms_asked, capacity_of}
 use Rattle.run_laws.specs.Ended.{HasTakenIn, logged_at_end}
 
--- the order that the lines were told; backend b has pass b + 1
+-- the whole order: what the opening found, and behind it what the lines were told; backend b has
+-- pass b + 1
 abbrev pub order_told : Opening → List (List AskedLine) → List (List Told) → List Entry
-order_told opening script lists = order_from (opening.setup).segment_size 1 script lists
+order_told opening script lists =
+    opening.found ++ order_from (opening.setup).segment_size 1 script lists
+
+-- the disk held at the opening what the log may go on on, where it tells what it holds
+abbrev pub HoldsSuited : Opening → Option Tape → Type 0
+HoldsSuited opening began = IfSome began (λ t. IsSuited opening (state_now t))
 
 -- a disk tells what it holds where it told it before: what it held at first is as it was, and its
 -- calls are those before and some behind them
@@ -72,13 +77,16 @@ pub record RunAssures (opening : Opening) (began now : Option Tape) (moment faul
   pub caught_up : EachCatchesUp script lists
   pub moments : EachRises opening.moment script lists moment
   pub goes_on : TapeGoesOn began now
-  pub words : HoldsNothing began → IfSome now (LeavesLogWords (opening.setup).segment_size
+  pub words : HoldsSuited opening began → IfSome now (LeavesLogWords (opening.setup).segment_size
       (opening.setup).sysid (order_told opening script lists) opening.moment)
-  pub crash : HoldsNothing began → IfSome now (SurvivesCrashes (opening.setup).segment_size
+  pub crash : HoldsSuited opening began → IfSome now (SurvivesCrashes (opening.setup).segment_size
       opening.moment (order_told opening script lists) lists)
-  pub no_late_receipt : HoldsNothing began → IfSome now
+  pub keeps_found : HoldsSuited opening began → IfSome now (KeepsFound
+      (opening.setup).segment_size opening.moment (order_told opening script lists) opening.found)
+  pub no_late_receipt : HoldsSuited opening began → IfSome now
       (λ t. EachIsTimely (opening.setup).segment_size opening.moment
       (order_told opening script lists) t 1 script lists)
   pub full : SomeTold IsFullAnswer lists
       → capacity_of (opening.setup).segment_size (opening.setup).cap_segments
-      < all_rooms_asked (opening.setup).segment_size script
+      < rooms_of (opening.setup).segment_size opening.found
+      + all_rooms_asked (opening.setup).segment_size script

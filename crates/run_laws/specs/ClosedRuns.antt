@@ -1,5 +1,5 @@
 -- A run of several backends whose log was closed.
-use Rattle.std.specs.Prelude.{◌≡◌, ◌⊎◌, ℕ, ◌^◌, ◌<◌, Contains, List, [], length, IfSome, Option}
+use Rattle.std.specs.Prelude.{◌≡◌, ◌⊎◌, ℕ, ◌^◌, ◌<◌, Contains, List, length, IfSome, Option}
 use Rattle.segment_disk.specs.Tape.{Tape}
 use Rattle.wal_core.specs.Words.{Opening}
 use Rattle.wal_core.specs.Views.{FlushPromise, View}
@@ -17,16 +17,13 @@ HasFlushedAll size lists v =
     ((p : FlushPromise) × Contains v.writing.promises p × ReachesAll size p.upto lists)
     ⊎ ((faults : ℕ) × KnowsDown faults v)
 
--- a log that held nothing at the opening was closed by this pass, with this writer and this number
--- of the position; the pass had taken in those that played the script; `began` is the disk's tape
--- at the opening
+-- a log was closed by this pass, with this writer and this number of the position; the pass had
+-- taken in those that played the script; `began` is the disk's tape at the opening
 pub record IsRunClosed {D : Type 0} (tape : D → Option Tape) (moment faults : D → ℕ)
     (began : Option Tape) (opening : Opening) (v : View) (w : LogWriter D) (position : ℕ)
     (script : List (List AskedLine)) (lists : List (List Told)) : Type 0 where
   pub closes : ClosesWith tape moment faults began opening v w position
   pub taken : HasTakenIn opening v script lists
-  pub none_found : opening.found ≡ []
-  pub none_made : opening.made ≡ 0
   -- a page tells the system id in eight bytes
   pub narrow : (opening.setup).sysid < 2 ^ 64
   pub counted : IfSome began (λ t. opening.moment ≡ length t.calls)

@@ -16,15 +16,14 @@ use Rattle.wal_core.specs.Sound.{IsSound}
 use Rattle.machine_laws.specs.ClosedLogs.{IsClosed}
 use Rattle.run_laws.specs.Played.{KnowsFault, PassState, PlaysAllLines, pass_state_of}
 
--- a log that held nothing at the opening was closed with this order, in a sound state in which this
--- was the last pass, with its writer at home, on a disk that held this at first
+-- a log was closed with this order, in a sound state in which this was the last pass, with its
+-- writer at home, on a disk that held this at first
 pub record IsClosedLog (opening : Opening) (order : List Entry) (v : View) : Type 0 where
   pub first : DiskState
   pub words : List ℕ
   pub writer : Plain
   pub views : List View
   pub id : ℕ
-  pub none_found : opening.found ≡ []
   pub sound : IsSound first opening words (some writer) views
   pub order_is : sound.order ≡ order
   pub here : HasAt views id v
@@ -72,6 +71,7 @@ abbrev pub logged_at_end : Opening → List Entry → ℕ → Logged
 logged_at_end opening order last = record {
   size = (opening.setup).segment_size;
   capacity = capacity_of (opening.setup).segment_size (opening.setup).cap_segments;
+  found = opening.found;
   order = order;
   faults_at_open = opening.faults;
   last = last;

@@ -1,22 +1,28 @@
 //! What is assured of a run whose log was closed; proved by functions that do nothing.
 
-ghost use Rattle.std.specs.Prelude.{◌≡◌, ℕ, ◌-◌, ◌^◌, ◌<◌, ◌≤◌, List, Option, length};
+ghost use Rattle.std.specs.Prelude.{◌≡◌, ℕ, ◌+◌, ◌-◌, ◌^◌, ◌<◌, ◌≤◌, List, Option, length};
 ghost use mathlib.Core.Option.{none, some};
 ghost use Rattle.segment_disk.specs.Cause.{Rose};
 ghost use Rattle.segment_disk.specs.Tape.{Tape};
 ghost use Rattle.flush_core.specs.Pages.{HoldsNothing};
 ghost use Rattle.wal_page.specs.Order.{end_position, rooms_of};
-ghost use Rattle.wal_core.specs.Words.{Opening};
+ghost use Rattle.wal_core.specs.Words.{Opening, found_position};
 ghost use Rattle.wal_core.specs.Views.{View};
 ghost use Rattle.wal_rule.specs.Slotted.{slot_disk, slot_plain};
 ghost use Rattle.wal_rule.specs.declared.writer.LogWriter.{LogWriter};
 ghost use Rattle.wal_script.specs.Asked.{AskedLine};
 ghost use Rattle.told_lines.specs.declared.told.Told.{Told};
-ghost use Rattle.told_lines.specs.Told.{IsFullAnswer, IsRefused, SomeTold};
+ghost use Rattle.told_lines.specs.Told.{order_from, IsFullAnswer, IsRefused, SomeTold};
 ghost use Rattle.told_lines.specs.Whole.{IsWhole};
 ghost use Rattle.run_laws.specs.Counted.{all_reserved_count};
-ghost use Rattle.run_laws.specs.Assured.{RunAssures, order_told};
+ghost use Rattle.run_laws.specs.Assured.{HoldsSuited, RunAssures, order_told};
 ghost use Rattle.run_laws.specs.ClosedRuns.{HasFlushedAll, IsRunClosed};
+
+/// A disk that holds nothing is one that a log may go on on whose opening found no segment there.
+pub fn empty_disks_are_suited()
+    ensures suited { (opening : Opening) (began : Option Tape) → opening.made ≡ 0
+        → HoldsNothing began → HoldsSuited opening began }
+{}
 
 /// All that is assured of a run that opened its log, whether its disk failed or not.
 pub fn closed_runs_assure<D>()
@@ -45,8 +51,8 @@ pub fn faults_are_counted<D>()
         → Rose opening.faults (faults (slot_disk w)) }
 {}
 
-/// Where all was flushed and no fault was counted, on a disk that held nothing and tells what it
-/// holds, all of the order is there for good.
+/// Where all was flushed and no fault was counted, on a disk that tells what it holds, and held at
+/// the opening what the log may go on on, all of the order is there for good.
 pub fn flushed_runs_are_whole<D>()
     ensures whole { (tape : D → Option Tape) (moment faults : D → ℕ) (began : Option Tape)
         (opening : Opening) (v : View) (w : LogWriter D) (position : ℕ)
@@ -54,24 +60,32 @@ pub fn flushed_runs_are_whole<D>()
         → IsRunClosed tape moment faults began opening v w position script lists
         → HasFlushedAll (opening.setup).segment_size lists v
         → faults (slot_disk w) ≡ opening.faults → opening.faults < 2 ^ 64 - 1
-        → HoldsNothing began
+        → HoldsSuited opening began
         → IsWhole (opening.setup).segment_size (tape (slot_disk w))
         (order_told opening script lists) }
 {}
 
-/// The order has an entry for each answer that says that a record was reserved, and ends at the
-/// position at which the log was closed.
+/// The order of what the lines were told has an entry for each answer that says that a record was
+/// reserved. Behind what was found it ends at the position at which the log was closed, so what it
+/// takes up is what lies between the found end and that position.
 pub fn closed_runs_are_summed_up<D>()
     ensures records { (tape : D → Option Tape) (moment faults : D → ℕ) (began : Option Tape)
         (opening : Opening) (v : View) (w : LogWriter D) (position : ℕ)
         (script : List (List AskedLine)) (lists : List (List Told))
         → IsRunClosed tape moment faults began opening v w position script lists
-        → length (order_told opening script lists) ≡ all_reserved_count lists }
+        → length (order_from (opening.setup).segment_size 1 script lists)
+        ≡ all_reserved_count lists }
     ensures position { (tape : D → Option Tape) (moment faults : D → ℕ) (began : Option Tape)
         (opening : Opening) (v : View) (w : LogWriter D) (position : ℕ)
         (script : List (List AskedLine)) (lists : List (List Told))
         → IsRunClosed tape moment faults began opening v w position script lists
         → position ≡ end_position (opening.setup).segment_size (order_told opening script lists) }
+    ensures bytes { (tape : D → Option Tape) (moment faults : D → ℕ) (began : Option Tape)
+        (opening : Opening) (v : View) (w : LogWriter D) (position : ℕ)
+        (script : List (List AskedLine)) (lists : List (List Told))
+        → IsRunClosed tape moment faults began opening v w position script lists
+        → position ≡ found_position opening + rooms_of (opening.setup).segment_size
+        (order_from (opening.setup).segment_size 1 script lists) }
     ensures within { (tape : D → Option Tape) (moment faults : D → ℕ) (began : Option Tape)
         (opening : Opening) (v : View) (w : LogWriter D) (position : ℕ)
         (script : List (List AskedLine)) (lists : List (List Told))

@@ -1,10 +1,10 @@
 //! How a run ends where its disk did not fail, and why its log was full; proved by functions that
 //! do nothing.
 
-ghost use Rattle.std.specs.Prelude.{◌≡◌, ℕ, ◌^◌, ◌<◌, ◌≤◌, Contains, IfSome, List};
+ghost use Rattle.std.specs.Prelude.{◌≡◌, ℕ, ◌+◌, ◌^◌, ◌<◌, ◌≤◌, Contains, IfSome, List};
 ghost use mathlib.Core.Option.{none};
 ghost use Rattle.byte_position.specs.Position.{end_address_of};
-ghost use Rattle.wal_page.specs.Order.{Entry, end_position};
+ghost use Rattle.wal_page.specs.Order.{Entry, end_position, rooms_of};
 ghost use Rattle.wal_script.specs.Asked.{AskedLine};
 ghost use Rattle.told_lines.specs.declared.told.Told.{Told};
 ghost use Rattle.told_lines.specs.Told.{IsFullAnswer, IsRefused, SomeTold};
@@ -24,19 +24,20 @@ pub fn refusals_without_a_fault()
         → (c.writer).fault ≡ none → SomeTold IsRefused lists → SomeTold IsFullAnswer lists }
 {}
 
-/// Where a line found the log full, the script's records take up more than the log has for them,
-/// on any disk.
+/// Where a line found the log full, what was found and the script's records take up more than the
+/// log has for records, on any disk.
 pub fn full_logs_have_too_much_asked_of_them()
     ensures more { (opening : Opening) (order : List Entry) (v : View)
         → IsClosedLog opening order v → (script : List (List AskedLine))
         (lists : List (List Told)) → HasTakenIn opening v script lists
         → SomeTold IsFullAnswer lists
         → capacity_of (opening.setup).segment_size (opening.setup).cap_segments
-        < all_rooms_asked (opening.setup).segment_size script }
+        < rooms_of (opening.setup).segment_size opening.found
+        + all_rooms_asked (opening.setup).segment_size script }
 {}
 
-/// Where the disk did not fail, a promise to the first pass of all that the lines were told of is
-/// one of all of the order.
+/// Where the disk did not fail, a promise to the first pass of all that the lines were told of
+/// leaves all of the order flushed: what was found is so from the opening on.
 pub fn last_flush_reaches()
     ensures reach { (opening : Opening) (order : List Entry) (v : View)
         (c : IsClosedLog opening order v) (script : List (List AskedLine))

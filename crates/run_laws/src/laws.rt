@@ -11,7 +11,7 @@ ghost use Rattle.wal_page.specs.Order.{Entry, IsChained, end_position};
 ghost use Rattle.wal_script.specs.Asked.{AskedLine};
 ghost use Rattle.told_lines.specs.declared.told.Told.{Told};
 ghost use Rattle.told_lines.specs.Counts.{TellsOneFault, own_faults_of, reserved_count};
-ghost use Rattle.told_lines.specs.Told.{entries_of, order_from, AllDown, EachStaysDown, Logged, MayBeFull, RiseInLineOrder, StaysDown, TellsAll};
+ghost use Rattle.told_lines.specs.Told.{entries_of, AllDown, EachStaysDown, Logged, MayBeFull, RiseInLineOrder, StaysDown, TellsAll};
 ghost use Rattle.segment_disk.specs.Tape.{DiskState};
 ghost use Rattle.wal_core.specs.Words.{Opening, log_limit};
 ghost use Rattle.wal_core.specs.Views.{HasAt, Plain, View};
@@ -24,6 +24,7 @@ ghost use Rattle.wal_core.specs.PassLogs.{PassLog};
 ghost use Rattle.run_laws.specs.Counted.{all_reserved_count};
 ghost use Rattle.run_laws.specs.Played.{AddsFull, KnowsFault, PassState, PlaysAllLines, PlaysLine, PlaysLines, behind_last_own, pass_state_of};
 ghost use Rattle.run_laws.specs.Ended.{HasTakenIn, IsClosedLog, logged_at_end};
+ghost use Rattle.run_laws.specs.Assured.{order_told};
 
 /// Lines are played one after another: one more may follow.
 pub fn lines_are_played_one_by_one()
@@ -62,13 +63,11 @@ pub fn passes_are_taken_in()
         → HasTakenIn opening new script lists }
 {}
 
-/// Where one pass is left of a log that held nothing at first, has all numbers and is about
-/// nothing, the log is closed.
+/// Where one pass is left of a log, has all numbers and is about nothing, the log is closed.
 pub fn last_passes_close_logs()
     ensures close { (first : DiskState) (opening : Opening) (words : List ℕ) (home : Option Plain)
         (views : List View) (k : IsSound first opening words home views) (id : ℕ) (v : View)
-        → HasAt views id v → IsLastPass opening v → opening.found ≡ []
-        → IsClosedLog opening k.order v }
+        → HasAt views id v → IsLastPass opening v → IsClosedLog opening k.order v }
 {}
 
 /// The entries that a pass reserves are those that its lines are told.
@@ -91,12 +90,12 @@ pub fn faults_are_told_again()
         (lists : List (List Told)) → HasTakenIn opening v script lists → EachStaysDown lists }
 {}
 
-/// The reserved order is that of what the script's lines are told.
+/// The order is what was found, and behind it that of what the script's lines are told.
 pub fn orders_are_told()
     ensures order { (opening : Opening) (order : List Entry) (v : View)
         → IsClosedLog opening order v → (script : List (List AskedLine))
         (lists : List (List Told)) → HasTakenIn opening v script lists
-        → order_from (opening.setup).segment_size 1 script lists ≡ order }
+        → order_told opening script lists ≡ order }
 {}
 
 /// What each backend's lines are told to have reserved rises in the order of the lines.
@@ -114,13 +113,13 @@ pub fn own_entries_end_within()
         ≤ end_position size front }
 {}
 
-/// There are as many entries as answers that say that a record was reserved: of all backends
-/// together, and of each.
+/// There are as many entries, beside those found, as answers that say that a record was reserved:
+/// of all backends together, and of each.
 pub fn records_are_counted()
     ensures all { (opening : Opening) (order : List Entry) (v : View)
         → IsClosedLog opening order v → (script : List (List AskedLine))
         (lists : List (List Told)) → HasTakenIn opening v script lists
-        → length order ≡ all_reserved_count lists }
+        → length order ≡ length opening.found + all_reserved_count lists }
     ensures one { (size limit pass : ℕ) (lines : List AskedLine) (told : List Told)
         (before after : PassState) → PlaysLines size limit pass before lines told after
         → length (entries_of size pass lines told) ≡ reserved_count told }
@@ -138,13 +137,14 @@ pub fn faults_are_told_once()
 {}
 
 /// A line that is told that the log is full had too few bytes left behind a front of the order,
-/// which has what the line's pass had reserved, and nothing that it reserved later.
+/// which has all that was found, what the line's pass had reserved, and nothing that it reserved
+/// later.
 pub fn full_has_its_cause()
     ensures cause { (logged : Logged) (limit pass : ℕ) → IsChained logged.size logged.order
-        → limit ≡ first_position logged.size + logged.capacity → (found all : List Entry)
+        → limit ≡ first_position logged.size + logged.capacity → (all : List Entry)
         (value : Record) (free : ℕ) (before after : PassLog)
         → AddsFull logged.size limit pass value free before after
-        → All (FrontEndsAt logged.size pass found logged.order all) after.stops
+        → All (FrontEndsAt logged.size pass logged.found logged.order all) after.stops
         → take (length before.entries) all ≡ before.entries
         → MayBeFull logged pass
         (behind_last_own logged.size (first_position logged.size) before.entries) value free }

@@ -17,6 +17,7 @@ fn named<'a>(command: &'a str, topic: Option<&'a str>) -> GivenWords<'a> {
         cap: None,
         list: false,
         writer: None,
+        append: false,
         crash: None,
         rmgr: None,
         xid: None,

@@ -1,5 +1,6 @@
 ghost use Rattle.std.specs.Prelude.{◌≡◌, ◌<◌, ◌/◌, ◌^◌, None, IfOk};
 
+use crate::lock::{Access, Lockable};
 use crate::segments::SegmentFiles;
 use byte_position::Geometry;
 use segment_disk::{Disk, Failed, Memory, count_fault};
@@ -21,17 +22,24 @@ pub struct FileDisk<R: Files> {
 
 impl<R: Files + Drop> FileDisk<R>
 where
-    R::File: FileExt,
+    R::File: FileExt + Lockable,
 {
-    /// Takes its room, and touches no file. The folder is made by the first `create` that needs it.
-    /// The number of the process is part of the names that its files have while they are made.
-    pub fn open(rt: R, alloc: Global, folder: &str, process: u32) -> Result<FileDisk<R>, Memory>
+    /// Takes its room, and touches no file. A writer makes the folder, where it is missing, and locks
+    /// it by its first call; where another one has it, that call fails, and may be made again. The
+    /// number of the process is part of the names that its files have while they are made.
+    pub fn open(
+        rt: R,
+        alloc: Global,
+        folder: &str,
+        process: u32,
+        access: Access,
+    ) -> Result<FileDisk<R>, Memory>
         ensures tape { IfOk result (λ disk. ⟦<FileDisk<R> as Disk>⟧.tape disk ≡ None) }
         ensures moment { IfOk result (λ disk. ⟦<FileDisk<R> as Disk>⟧.moment disk ≡ 0) }
         ensures faults { IfOk result (λ disk. ⟦<FileDisk<R> as Disk>⟧.faults disk ≡ 0) }
     {
         Ok(FileDisk {
-            files: SegmentFiles::new(rt, alloc, folder, process)?,
+            files: SegmentFiles::new(rt, alloc, folder, process, access)?,
             moment: 0,
             faults: 0,
         })
@@ -40,7 +48,7 @@ where
 
 impl<R: Files> Disk for FileDisk<R>
 where
-    R::File: FileExt,
+    R::File: FileExt + Lockable,
 {
     ghost use Rattle.std.specs.Prelude.{None};
 

@@ -1,5 +1,6 @@
 ghost use Rattle.std.specs.Prelude.{◌≡◌, ◌<◌, ◌/◌, ◌^◌, IsFalse, IsTrue, OnErr, OnOk};
 
+use crate::lock::{Access, Lockable};
 use byte_position::Geometry;
 use std::alloc::{AllocError, Global};
 use std::fs::{DirBuilder, Files, OpenFile, OpenOptions};
@@ -26,6 +27,9 @@ const FOLDER_MODE: u32 = 0o700;
 /// `XLogFileInitInternal` and `durable_rename`). A link replaces nothing: of two processes that
 /// make one segment, one fails.
 ///
+/// Of two that write in one folder at once one alone locks it, before it looks into it for the
+/// first time: what a writer has read of it nobody else changes. Who only reads takes no lock.
+///
 /// The folder's own name may be lost too, so it is put on the disk once, before anything in it is
 /// promised, also where the folder was there already: who made it may not have synced it.
 #[derive(Drop)]
@@ -33,7 +37,10 @@ pub struct Folder<R: Files> {
     rt: R,
     // The number of this process, which its temporary names have.
     process: u32,
+    access: Access,
     name: String,
+    // The folder, as a writer has it open and locked.
+    locked: Option<R::File>,
     // Room for two paths, so that no call but the first takes memory.
     path: String,
     temporary: String,
@@ -52,14 +59,22 @@ fn join(path: &mut String, folder: &str, name: &str) -> Result<(), AllocError> {
 
 impl<R: Files + Drop> Folder<R> {
     /// Takes room for the paths and for a piece of zeros.
-    pub fn new(rt: R, alloc: Global, name: &str, process: u32) -> Result<Folder<R>, AllocError> {
+    pub fn new(
+        rt: R,
+        alloc: Global,
+        name: &str,
+        process: u32,
+        access: Access,
+    ) -> Result<Folder<R>, AllocError> {
         let name = if name.is_empty() { "." } else { name };
         let mut path = String::new(alloc);
         join(&mut path, name, "000000010000000000000000")?;
         Ok(Folder {
             rt,
             process,
+            access,
             name: String::from_str(alloc, name)?,
+            locked: None,
             path,
             temporary: format!(in alloc; "{name}/xlogtemp.{process}.{MOST_NAMES}")?,
             zeros: vec![in alloc; 0; PIECE]?,
@@ -69,20 +84,55 @@ impl<R: Files + Drop> Folder<R> {
     }
 }
 
-impl<R: Files> Folder<R> {
+impl<R: Files> Folder<R>
+where
+    R::File: Lockable,
+{
+    /// Comes before each call. A writer has locked the folder behind it.
+    ///
     /// An error for good once a sync has failed, or a write of pages that were answered Ok: the
     /// system may have dropped what it could not write, and would answer Ok to the next sync
     /// (PostgreSQL stops for this, by its `data_sync_elevel`).
-    pub fn check(&self) -> io::Result<()>
-        ensures { OnOk result (IsFalse self.now.has_failed) }
+    pub fn check(&mut self) -> io::Result<()>
+        ensures fails { OnOk result (IsFalse self.old.has_failed) }
+        ensures stays { IsTrue self.old.has_failed → IsTrue self.new.has_failed }
     {
         if self.has_failed {
-            Err(ErrorKind::Other.into())
-        } else {
-            Ok(())
+            return Err(ErrorKind::Other.into());
+        }
+        match self.access {
+            Access::Write if self.locked.is_none() => self.lock(),
+            _ => Ok(()),
         }
     }
 
+    /// Comes before each call that changes what the folder holds, and fails for who only reads.
+    pub fn check_change(&mut self) -> io::Result<()>
+        ensures fails { OnOk result (IsFalse self.old.has_failed) }
+        ensures stays { IsTrue self.old.has_failed → IsTrue self.new.has_failed }
+    {
+        match self.access {
+            Access::Read => Err(ErrorKind::PermissionDenied.into()),
+            Access::Write => self.check(),
+        }
+    }
+
+    // Locks the folder, which is made where it is missing, until it is closed. The system closes it
+    // where the process ends, however that comes: a killed one leaves no lock.
+    fn lock(&mut self) -> io::Result<()>
+        ensures stays { IsTrue self.old.has_failed → IsTrue self.new.has_failed }
+    {
+        self.make_folders()?;
+        // With the dot, nothing but a folder is opened.
+        join(&mut self.path, self.name.as_str(), ".")?;
+        let folder = fs::open(&self.rt, self.path.as_str())?;
+        folder.try_lock()?;
+        self.locked = Some(folder);
+        Ok(())
+    }
+}
+
+impl<R: Files> Folder<R> {
     /// Hands on the answer of a call after whose failure nothing may answer Ok.
     pub fn noted(&mut self, answer: io::Result<()>) -> io::Result<()>
         ensures same { result ≡ answer }

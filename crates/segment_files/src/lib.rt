@@ -4,11 +4,13 @@
 
 mod disk;
 mod folder;
+mod lock;
 mod pages;
 mod segments;
 mod sink;
 mod source;
 
 pub use disk::FileDisk;
+pub use lock::{Access, Lockable};
 pub use sink::StandardSink;
 pub use source::StandardSource;

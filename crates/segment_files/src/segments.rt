@@ -2,6 +2,7 @@ ghost use Rattle.std.specs.Prelude.{◌<◌, ◌/◌, ◌^◌, IsTrue, OnErr};
 ghost use Rattle.segment_files.specs.Failing.{FailsForGood};
 
 use crate::folder::Folder;
+use crate::lock::{Access, Lockable};
 use crate::pages;
 use crate::pages::{PagesAhead, PagesHeld};
 use byte_position::Geometry;
@@ -53,9 +54,10 @@ impl<R: Files + Drop> SegmentFiles<R> {
         alloc: Global,
         folder: &str,
         process: u32,
+        access: Access,
     ) -> Result<SegmentFiles<R>, AllocError> {
         Ok(SegmentFiles {
-            folder: Folder::new(rt, alloc, folder, process)?,
+            folder: Folder::new(rt, alloc, folder, process, access)?,
             writing: None,
             held: PagesHeld::new(alloc)?,
             is_synced: true,
@@ -67,14 +69,14 @@ impl<R: Files + Drop> SegmentFiles<R> {
 
 impl<R: Files> SegmentFiles<R>
 where
-    R::File: FileExt,
+    R::File: FileExt + Lockable,
 {
     /// Makes a file of zeros, which is on the disk under its name at Ok. Fails where it is there.
     pub fn create(&mut self, geometry: Geometry, segment: u64) -> io::Result<()>
         requires { segment < 2 ^ 64 / geometry }
         ensures { FailsForGood self.old.folder.has_failed self.new.folder.has_failed result }
     {
-        self.folder.check()?;
+        self.folder.check_change()?;
         self.leave_written()?;
         let file = self.folder.make_segment(geometry, segment)?;
         self.writing = Some(OpenSegment {
@@ -96,7 +98,7 @@ where
         requires { segment < 2 ^ 64 / geometry }
         ensures { FailsForGood self.old.folder.has_failed self.new.folder.has_failed result }
     {
-        self.folder.check()?;
+        self.folder.check_change()?;
         self.turn_to(geometry, segment)?;
         if !self.held.is_followed_by(page) {
             self.write_held()?;
@@ -112,7 +114,7 @@ where
         requires { segment < 2 ^ 64 / geometry }
         ensures { FailsForGood self.old.folder.has_failed self.new.folder.has_failed result }
     {
-        self.folder.check()?;
+        self.folder.check_change()?;
         self.turn_to(geometry, segment)?;
         self.folder.settle()?;
         self.sync_written()

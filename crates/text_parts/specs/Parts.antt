@@ -1,5 +1,5 @@
 -- What is left of a text that is cut at a separator.
-use Rattle.std.specs.Prelude.{ℕ, ◌+◌, List, [], Option, Some, None, length, ◌==◌}
+use Rattle.std.specs.Prelude.{ℕ, ◌+◌, ◌≡◌, ◌<◌, List, [], Option, Some, None, length, get_or, false, ◌==◌}
 use Rattle.std.specs.Borrow.{Bor}
 use Rattle.std.specs.List.{slice_split}
 
@@ -12,3 +12,7 @@ parts_left separator (Some text) = slice_split (λ c. c == separator) text.now
 abbrev pub bytes_left : Option (Bor (List ℕ)) → ℕ
 bytes_left None = 0
 bytes_left (Some text) = length text.now + 1
+
+-- no separator stands below a place of a text
+abbrev pub LacksBefore : ℕ → List ℕ → ℕ → Type 0
+LacksBefore separator text place = (k : ℕ) → k < place → (get_or text k 0 == separator) ≡ false

@@ -2,5 +2,6 @@
 #![tactic(auto)]
 
 mod parts;
+mod search;
 
 pub use parts::{Parts, cut};

@@ -2,6 +2,7 @@ ghost use Rattle.std.specs.Prelude.{◌≡◌, ◌≤◌, ◌∷◌, ◌==◌, l
 ghost use Rattle.std.specs.List.{slice_split};
 ghost use Rattle.text_parts.specs.Parts.{bytes_left, parts_left};
 
+use crate::search::first_part_len;
 use std::marker::Model;
 
 /// The parts of a text between its separators, from the left; contracts see those that are left.
@@ -55,8 +56,10 @@ pub fn cut(text: &[u8], separator: u8) -> (&[u8], Option<&[u8]>)
         ≡ result.0.now ∷ parts_left separator result.1 }
     ensures fewer { bytes_left result.1 ≤ length text.now }
 {
-    match text.iter().position(|&byte| byte == separator) {
-        Some(end) => (&text[..end], Some(&text[end + 1..])),
-        None => (text, None),
+    let end = first_part_len(text, separator);
+    if end < text.len() {
+        (&text[..end], Some(&text[end + 1..]))
+    } else {
+        (text, None)
     }
 }

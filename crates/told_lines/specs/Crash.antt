@@ -15,7 +15,7 @@ use Rattle.wal_reader.specs.declared.found.FoundRecord.{FoundRecord}
 use Rattle.wal_reader.specs.Pages.{pages_in}
 use Rattle.wal_reader.specs.Decodes.{Decodes}
 use Rattle.written_log.specs.Torn.{NoTornPass}
-use Rattle.written_log.specs.Written.{found_from}
+use Rattle.written_log.specs.Written.{found_from, found_of}
 use Rattle.wal_script.specs.Asked.{AskedLine}
 use Rattle.told_lines.specs.declared.told.Told.{Told}
 use Rattle.told_lines.specs.declared.told.Told.TheVariants.{Wrote, Hard, Flushed, Async, Idle, Switched, Stayed, Refused}
@@ -56,6 +56,19 @@ SurvivesCrashes size opening order lists tape =
     → (found : List FoundRecord) (answer : Answer)
     → Decodes size (pages_in size image) size None found answer
     → IsFrontWithTold size moment order lists found
+
+-- ---- what the opening found is there
+
+-- from the opening on, whatever a crash at a moment leaves decodes to records that begin with those
+-- of the entries that the opening found, all of them; with the same premise, and of a run that
+-- failed too
+abbrev pub KeepsFound : ℕ → ℕ → List Entry → List Entry → Tape → Type 0
+KeepsFound size opening order entries tape =
+    (moment : ℕ) (image : DiskImage) → opening ≤ moment → LeftAt tape moment image
+    → NoTornPass size (pages_in size image) order
+    → (found : List FoundRecord) (answer : Answer)
+    → Decodes size (pages_in size image) size None found answer
+    → take (length entries) found ≡ found_of size entries
 
 -- ---- no receipt is late
 

@@ -72,11 +72,13 @@ IsRising [] = Unit {0}
 IsRising (e ∷ []) = Unit {0}
 IsRising (e ∷ f ∷ es) = (e.start < f.start) × IsRising (f ∷ es)
 
--- the log that lines are told of: its segment size, how many bytes it has for records, the order of
--- its entries, and the disk's counts of faults at the opening and at the end
+-- the log that lines are told of: its segment size, how many bytes it has for records, the entries
+-- that its opening found, the order of all its entries, which begins with those, and the disk's
+-- counts of faults at the opening and at the end
 pub record Logged : Type 0 where
   pub size : ℕ
   pub capacity : ℕ
+  pub found : List Entry
   pub order : List Entry
   pub faults_at_open : ℕ
   pub last : ℕ
@@ -93,12 +95,14 @@ pub record IsFault (logged : Logged) (faults : ℕ) : Type 0 where
   pub rose : Rose logged.faults_at_open faults
   pub upto : faults ≤ logged.last
 
--- too few bytes were left for the record behind some front of the order, which has the backend's
--- earlier entries (they end at byte position `behind`) and none of its later ones
+-- too few bytes were left for the record behind some front of the order, which has all that was
+-- found, the backend's earlier entries (they end at byte position `behind`) and none of its later
+-- ones
 pub record MayBeFull (logged : Logged) (pass behind : ℕ) (value : Record) (free : ℕ)
     : Type 0 where
   pub front : ℕ
   pub within : front ≤ length logged.order
+  pub has_found : length logged.found ≤ front
   pub earlier : behind ≤ end_position logged.size (take front logged.order)
   pub no_later : All (λ e. e.pass ≡ Some pass → e.start < behind) (take front logged.order)
   pub left : free + rooms_of logged.size (take front logged.order) ≡ logged.capacity
@@ -117,11 +121,12 @@ MayRefuseRecord logged pass behind value (Down faults) None = IsFault logged fau
 MayRefuseRecord logged pass behind value (Down faults) (Some start) =
     IsFault logged faults × (start.0 ≡ address_of logged.size (position_of logged.size start.0))
 
--- the log stood at this address, a segment's start, behind some front of the order, which has the
--- backend's earlier entries and none of its later ones
+-- the log stood at this address, a segment's start, behind some front of the order, which has all
+-- that was found, the backend's earlier entries and none of its later ones
 pub record MayStay (logged : Logged) (pass behind end : ℕ) : Type 0 where
   pub front : ℕ
   pub within : front ≤ length logged.order
+  pub has_found : length logged.found ≤ front
   pub earlier : behind ≤ end_position logged.size (take front logged.order)
   pub no_later : All (λ e. e.pass ≡ Some pass → e.start < behind) (take front logged.order)
   pub end_is : end ≡ end_address_of logged.size (end_position logged.size (take front logged.order))

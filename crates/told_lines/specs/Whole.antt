@@ -13,8 +13,8 @@ DecodesTo size image es =
     Decodes size (pages_in size image) size None (found_of size es)
     (ended size (end_position size es))
 
--- where the disk told nothing but an empty log at the start and did not fail, every image that a
--- crash may leave at the last moment, and the disk as it is read, decode to the whole order
+-- where the disk tells what it holds, every image that a crash may leave at the last moment, and
+-- the disk as it is read, decode to the whole order
 abbrev pub IsWhole : ℕ → Option Tape → List Entry → Type 0
 IsWhole size None es = Unit {0}
 IsWhole size (Some t) es =

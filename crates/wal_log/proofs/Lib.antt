@@ -1,5 +1,6 @@
 pub mod AddingNothing
 pub mod AheadLaws
+pub mod AwaitLaws
 pub mod BeginLaws
 pub mod BehindLaws
 pub mod Closes
@@ -14,6 +15,7 @@ pub mod Keeping
 pub mod NextWord
 pub mod Opens
 pub mod PageLaws
+pub mod Reopens
 pub mod Passing
 pub mod Plain
 pub mod Trying

@@ -7,7 +7,7 @@ use Rattle.wal_core.specs.Views.{Taken, View}
 use Rattle.wal_rule.specs.declared.seated.SeatedPass.{SeatedPass}
 use Rattle.wal_rule.specs.SeatedPasses.{HasView, StaysSeated, view_of}
 use Rattle.wal_rule.specs.Stepping.{Meets}
-use Rattle.word_ring.specs.Mapped.{IsOldPageUnwritten, LooksAt, looked_view, staged_view}
+use Rattle.word_ring.specs.Mapped.{IsOldPageUnwritten, LooksAt, MapsOn, looked_view, staged_view}
 use Rattle.word_ring.specs.Ring.{confirmed_view, end_of_page}
 use Rattle.wal_log.specs.Copying.{MapsPage, MeetsOldPage, MeetsOther, mapped_view}
 use Rattle.wal_log.proofs.Seated.{further_seated, seat_stays, view_is}
@@ -93,6 +93,22 @@ mapped_maps at written a b stays is = record {
   view_is = is;
   rises = omega arith;
 }
+
+-- and more behind it
+pub further_maps : {D : Type 0} → (a b : SeatedPass D) → StaysSeated a b
+    → MapsOn (view_of a) (view_of b) → MapsPage a b
+further_maps a b stays maps = record {
+  stays = stays;
+  confirmed = maps.confirmed;
+  written = maps.written;
+  view_is = maps.view_is;
+  rises = maps.rises;
+}
+
+pub further_no_less : (v w : View) → MapsOn v w → v.mapping.confirmed ≤ w.mapping.confirmed
+further_no_less v w maps =
+    let high = ap (λ (x : View). x.mapping.confirmed) maps.view_is in
+    omega (arith, maps.rises, high)
 
 module _ {D : Type 0} (page at written : ℕ) (a b : SeatedPass D) where
   -- the page asked for was mapped

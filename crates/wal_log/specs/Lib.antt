@@ -7,6 +7,7 @@ pub mod Hands
 pub mod Writing
 pub mod Logs
 pub mod Opening
+pub mod Reopening
 pub mod Flushing
 pub mod Inserting
 pub mod Switching

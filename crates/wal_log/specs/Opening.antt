@@ -11,7 +11,7 @@ use Rattle.wal_core.specs.Opened.{first_view}
 use Rattle.wal_rule.specs.Tables.{began_of_table}
 use Rattle.wal_log.specs.declared.opening.OpenFault.{OpenFault}
 use Rattle.wal_log.specs.declared.opening.OpenFaultKind.{OpenFaultKind}
-use Rattle.wal_log.specs.declared.opening.OpenFaultKind.TheVariants.{BadSetup, Memory, Disk, NotEmpty}
+use Rattle.wal_log.specs.declared.opening.OpenFaultKind.TheVariants.{BadSetup, Memory, Disk, NotEmpty, Beyond, Foreign}
 use Rattle.wal_log.specs.declared.wal.Wal.{Wal}
 use Rattle.wal_log.specs.Logs.{IsPassOfLog, opening_of_log, table_of}
 
@@ -35,6 +35,8 @@ module _ {D : Type 0} (tape : D → Option Tape) (moment faults : D → ℕ) whe
   TellsOpenFault setup old new NotEmpty = IsSetup setup × IsUncalled tape moment old new
       × (faults new ≡ faults old)
       × IfSome (tape old) (λ t. IsSome (page_of_segment (state_now t 1) 0))
+  TellsOpenFault setup old new (Beyond segment) = ⊥
+  TellsOpenFault setup old new (Foreign stop) = ⊥
 
   abbrev pub RefusesOpening : Setup → D → OpenFault D → Type 0
   RefusesOpening setup disk fault = TellsOpenFault setup disk fault.disk fault.kind

@@ -9,7 +9,8 @@ use Rattle.word_ring.specs.Copied.{rest_of}
 use Rattle.insert_locks.specs.Holding.{AreLocks}
 use Rattle.wal_rule.specs.declared.seated.SeatedPass.{SeatedPass}
 use Rattle.wal_rule.specs.Downs.{KnowsDown}
-use Rattle.wal_rule.specs.SeatedPasses.{StandsAtRest, StaysSeated, hand_of, setup_of, view_of}
+use Rattle.insert_locks.specs.Watching.{with_sight}
+use Rattle.wal_rule.specs.SeatedPasses.{HasView, StandsAtRest, StaysSeated, hand_of, setup_of, view_of}
 use Rattle.wal_log.specs.PassLogs.{log_of_pass}
 
 -- ---- what stays of its view
@@ -116,3 +117,9 @@ pub record AddsNothing {D : Type 0} (old new : SeatedPass D) : Type 0 where
   pub works : WorksOn old new
   pub log : log_of_pass (view_of new) ≡ log_of_pass (view_of old)
   pub flushed : (view_of new).writing.flushed ≡ (view_of old).writing.flushed
+
+-- it has seen no less of the order reserved, and is else as it was
+pub record SeesMore {D : Type 0} (old new : SeatedPass D) : Type 0 where
+  pub seen : ℕ
+  pub rises : ((view_of old).reserving).seen ≤ seen
+  pub view : HasView (with_sight seen (view_of old)) old new

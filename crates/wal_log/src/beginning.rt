@@ -47,6 +47,7 @@ pub enum TryErr {
 
 // Takes an insertion lock, and reserves the record's place under it. Where it reserves nothing, no
 // lock stays held.
+#[inline(always)]
 pub(crate) fn try_begin<'p, 'a, D: Disk>(
     seated: &mut SeatedPass<'p, D>,
     body: &'a Body,
@@ -76,6 +77,7 @@ pub(crate) fn try_begin<'p, 'a, D: Disk>(
 // Reserves the record's place under a lock that the pass holds, or releases the lock. The pass
 // knows of no failed disk. It leaves what `try_begin` leaves: the record in flight under the lock,
 // or a pass that is about nothing.
+#[inline(always)]
 fn reserve_under<'p, 'a, D: Disk>(
     seated: &mut SeatedPass<'p, D>,
     lock: u32,

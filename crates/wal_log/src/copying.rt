@@ -28,7 +28,15 @@ use std::sync::Wait;
 use wal_page::Placed;
 use wal_rule::SeatedPass;
 use wal_types::Lsn;
-use word_ring::{MapTry, Presence, confirm, copy_page, try_map};
+use word_ring::{MapTry, Presence, confirm, copy_page, map_ahead, try_map};
+
+// How many pages are mapped behind one that was needed, as far as their buffers are free: so most
+// copies find their page, and need no turn.
+const AHEAD: u32 = 32;
+
+// How often a page's end word is looked at, where somebody else has a turn that the page needs,
+// before a turn is tried again: tries of all who wait would stand in the way of who has it.
+const LOOKS: u32 = 64;
 
 /// Why a copy stopped.
 #[derive(Clone, Copy, Debug, PartialEq, Eq)]
@@ -63,6 +71,7 @@ pub struct Copied {
 
 // Copies a record's words, as long as any is left. Where a page's buffer is wanted whose page is
 // not written, it writes that itself. The record's last word ends at `end`.
+#[inline(always)]
 pub(crate) fn copy_whole<'p, 'a, D: Disk, R: Wait>(
     rt: &R,
     seated: &mut SeatedPass<'p, D>,
@@ -107,6 +116,7 @@ fn reset_behind(backoff: &Backoff, copied: u32) {
 
 // Copies a record's next words, at most so many, and tells its progress if words are left, unless
 // none was asked for. It does not wait. The record's last word ends at `end`.
+#[inline(always)]
 pub(crate) fn copy_front<'p, 'a, D: Disk>(
     seated: &mut SeatedPass<'p, D>,
     held: Held,
@@ -177,8 +187,8 @@ fn copy_some<'p, 'a, D: Disk>(
     }
 }
 
-// Meets a page's end, and maps the pages up to it that are not mapped yet, or tells why that could
-// not be done.
+// Meets a page's end, and maps the pages up to it that are not mapped yet, and some behind it, or
+// tells why that could not be done.
 fn reach_page<'p, D: Disk>(seated: &mut SeatedPass<'p, D>, page: u64) -> Result<(), Absent>
     // The pass is not mapping, and is not behind it. Of its view only the highest end met and the
     // written address loaded have changed.
@@ -196,7 +206,7 @@ fn reach_page<'p, D: Disk>(seated: &mut SeatedPass<'p, D>, page: u64) -> Result<
         };
         match try_map(seated, page) {
             MapTry::There => return Ok(()),
-            MapTry::Mapped => {}
+            MapTry::Mapped => map_ahead(seated, AHEAD),
             MapTry::Taken { turn } => {
                 return Err(Absent {
                     page,
@@ -217,7 +227,9 @@ fn reach_page<'p, D: Disk>(seated: &mut SeatedPass<'p, D>, page: u64) -> Result<
     }
 }
 
-// Pauses where somebody has the turn to map; else makes room, or pauses if that cannot be done.
+// Waits for the page where somebody has the turn to map; else makes room. Where somebody has the
+// turn to write, who makes room too, it waits for the page, and where a copy is missing it pauses.
+#[inline(never)]
 fn wait_for_page<'p, 'a, D: Disk>(
     seated: &mut SeatedPass<'p, D>,
     held: Held,
@@ -234,15 +246,41 @@ fn wait_for_page<'p, 'a, D: Disk>(
         (λ e. MeetsFault (view_of seated.old) (view_of seated.new) e) }
     ensures copies_on { CopyGoesOn placed.now placed.now seated.old seated.new }
 {
+    let page = placed.next_lsn().0 / PAGE_SIZE;
     if absent.turn != 0 {
-        return wait_up(seated, backoff);
+        return await_page(seated, page, backoff);
     }
     let upto = (absent.written / PAGE_SIZE + 1) * PAGE_SIZE;
     match write_early(seated, held, placed, upto) {
         Ok(()) => Ok(()),
         Err(WriteErr::Fault(fault)) => Err(fault),
-        Err(_) => wait_up(seated, backoff),
+        Err(WriteErr::Turn { .. }) => await_page(seated, page, backoff),
+        Err(WriteErr::Behind { .. }) => wait_up(seated, backoff),
     }
+}
+
+// Pauses, and looks at a page's end word, again and again until it is the page's own, but so many
+// times at most, unless the disk has failed.
+fn await_page<'p, D: Disk>(
+    seated: &mut SeatedPass<'p, D>,
+    page: u64,
+    backoff: &Backoff,
+) -> Result<(), Fault>
+    requires low { page < 2 ^ 40 }
+    requires up { KnowsNoFault (view_of seated.old) }
+    ensures ends { MatchResult result (λ _. KnowsNoFault (view_of seated.new))
+        (λ e. FindsDown (view_of seated.old) (view_of seated.new) e) }
+    // Its locks and its copy the pass has as before, and its log is as it was.
+    ensures stays { StaysAtWork seated.old seated.new }
+    ensures log { log_of_pass (view_of seated.new) ≡ log_of_pass (view_of seated.old) }
+{
+    for _look in 0..LOOKS {
+        wait_up(seated, backoff)?;
+        if let Presence::Present = confirm(seated, page) {
+            return Ok(());
+        }
+    }
+    Ok(())
 }
 
 // Pauses, unless the disk has failed. Its locks and its copy the pass has as before.

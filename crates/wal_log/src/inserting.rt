@@ -11,7 +11,7 @@ ghost use Rattle.wal_rule.specs.SeatedPasses.{StandsAtRest, setup_of, view_of};
 ghost use Rattle.wal_log.specs.Beginning.{IsPlaceBegun};
 ghost use Rattle.wal_log.specs.Inserting.{AnswersInsert, RefusesInsert, insert_err_of_fault};
 ghost use Rattle.wal_log.specs.Logs.{IsPassOfLog, setup_of_log};
-ghost use Rattle.wal_log.specs.Standing.{ComesToRest, GoesOnSeated, KeepsPass};
+ghost use Rattle.wal_log.specs.Standing.{ComesToRest, GoesOnSeated, KeepsPass, SeesMore};
 ghost use Rattle.wal_log.specs.declared.inserting.InsertErr.TheVariants.{Down};
 
 use crate::beginning::{Begun, TryErr, try_begin};
@@ -22,9 +22,13 @@ use crossbeam_utils::Backoff;
 use insert_locks::Held;
 use record_spelling::Body;
 use segment_disk::Disk;
+use std::hint::spin_loop;
 use std::sync::Wait;
 use wal_rule::{Pass, SeatedPass};
 use wal_types::{Lsn, Receipt};
+
+// How often a busy position is looked at before a pause.
+const LOOKS: u32 = 20;
 
 /// Why a record was not inserted. It has its place all the same where a start is told: what was
 /// reserved stays reserved.
@@ -139,9 +143,25 @@ fn begin<'p, 'a, D: Disk, R: Wait>(
                     start: None,
                 });
             }
-            Err(TryErr::Busy { .. }) => backoff.snooze(),
+            Err(TryErr::Busy { .. }) => await_position(seated, &backoff),
             Err(TryErr::AllHeld(_)) => backoff.snooze(),
         }
     }
     unreachable!()
+}
+
+// Looks at the position until nobody has it locked, or pauses if it is locked after so many looks:
+// who has it locked makes three steps more.
+#[inline(never)]
+fn await_position<'p, D: Disk>(seated: &mut SeatedPass<'p, D>, backoff: &Backoff)
+    // The pass has seen what was reserved then, and is else as it was.
+    ensures sees { SeesMore seated.old seated.new }
+{
+    for _look in 0..LOOKS {
+        if seated.load_position() % 2 == 0 {
+            return;
+        }
+        spin_loop();
+    }
+    backoff.snooze();
 }

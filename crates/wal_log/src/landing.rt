@@ -23,6 +23,7 @@ use wal_types::Lsn;
 
 // Copies the words that are left of a record, and gives its locks back; or gives the copy up. The
 // record's last word ends at `end`.
+#[inline(always)]
 pub(crate) fn land<'p, 'a, D: Disk, R: Wait>(
     rt: &R,
     seated: &mut SeatedPass<'p, D>,

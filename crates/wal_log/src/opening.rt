@@ -16,6 +16,7 @@ use machine_words::{LogShape, MachineWords};
 use segment_disk::Disk;
 use std::alloc::Global;
 use wal_core::Setup;
+use wal_reader::Stopped;
 use wal_rule::{Founding, LogTable, LogWriter, OpenErr, Pass};
 
 /// Why a log was not opened. The disk comes back.
@@ -31,12 +32,17 @@ pub enum OpenFaultKind {
     /// No log can have this setup: segments of a power of two bytes from 1 MiB to 1 GiB, a ring of
     /// 4 to 64 pages, 1 to 4,096 segments, a system id that is not 0, and 1 to 65,536 passes.
     BadSetup,
-    /// There is no memory for the shared words. The disk was not read.
+    /// There is no memory. At an opening the disk was not read.
     Memory,
-    /// The read of the first page failed: the disk's count of faults then.
+    /// The disk failed, at an opening the read of the first page: the disk's count of faults then.
     Disk { faults: u64 },
-    /// Page 0 of segment 1 is there.
+    /// Page 0 of segment 1 is there. A reopening never tells it.
     NotEmpty,
+    /// A segment is there behind the last one that the log may have. A reopening alone tells it,
+    /// as the next.
+    Beyond { segment: u64 },
+    /// What is there is no log that this program left, whatever a crash did to it.
+    Foreign(Stopped),
 }
 
 impl<D: Disk> Wal<D> {

@@ -64,6 +64,7 @@ pub(crate) fn check_crc(start: Lsn, bytes: &[u8]) -> Result<(), Answer>
 /// What the bytes of a record say, and the place behind it: `timeline` is that of the page in which
 /// it ends.
 #[tactic(auto, unfolding(crate::specs::Spelled::IsSpelled))]
+#[inline(always)]
 pub(crate) fn found(
     alloc: Global,
     geometry: Geometry,

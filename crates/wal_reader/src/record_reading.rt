@@ -82,6 +82,7 @@ pub(crate) fn read_record<D: Disk>(
 }
 
 // Reads a record that the held page has whole.
+#[inline(always)]
 fn read_in_page(
     alloc: Global,
     cache: &PageCache,
@@ -115,7 +116,9 @@ fn part_of_page(page: &[u8; 8192], offset: u32, count: u32) -> &[u8]
     &page[offset as usize..(offset + count) as usize]
 }
 
-// Reads a record whose bytes stand on further pages too.
+// Reads a record whose bytes stand on further pages too. A call of its own, so that a record that a
+// page has whole pays nothing for it.
+#[inline(never)]
 fn read_over_pages<D: Disk>(
     alloc: Global,
     buffers: &mut Buffers,

@@ -76,6 +76,7 @@ pub(crate) fn open_page<D: Disk>(
 
 /// The size that the record at a cursor claims. Where an end was given, the record's last byte is
 /// below it.
+#[inline(always)]
 pub(crate) fn claimed(
     cache: &PageCache,
     cursor: PageCursor,

@@ -1,16 +1,16 @@
 -- What several steps leave of a pass, as one plain update of the view before the first.
-use Rattle.std.proofs.Common.{◌≡◌, ℕ, ◌+◌, List, sym, ap, ◌∙◌, subst}
+use Rattle.std.proofs.Common.{◌≡◌, ℕ, ◌+◌, ◌≤◌, max, List, refl, sym, ap, ◌∙◌, subst, arith}
 use Rattle.std.specs.Borrow.{Bor}
 use mathlib.Core.Option.{none}
 use Rattle.wal_rule.specs.declared.seated.SeatedPass.{SeatedPass}
 use Rattle.wal_rule.specs.declared.table.LogTable.{LogTable}
 use Rattle.wal_rule.specs.declared.writer.LogWriter.{LogWriter}
-use Rattle.wal_rule.specs.SeatedPasses.{HasView, Steps, setup_of, view_of}
+use Rattle.wal_rule.specs.SeatedPasses.{HasView, Steps, hand_of, setup_of, view_of}
 use Rattle.wal_rule.specs.Tables.{setup_of_table}
 use Rattle.wal_core.specs.Views.{Away, Published, Ready, Stage, Taken, Zeroing, View}
 use Rattle.wal_core.specs.Steps.{clear_end, publish_end, publish_initialised_end, view_behind}
 use Rattle.word_ring.specs.Ring.{confirmed_view}
-use Rattle.word_ring.specs.Mapped.{looked_view, staged_view}
+use Rattle.word_ring.specs.Mapped.{MapsOn, further_view, looked_view, staged_view}
 
 pub at_stage : (v : View) (s : Stage) → (v.mapping).stage ≡ s → v ≡ staged_view s v
 at_stage v s is = ap (λ (t : Stage). staged_view t v) is
@@ -38,16 +38,15 @@ module _ {D : Type 0} (p : SeatedPass D) (at written : ℕ) where
   abbrev v : View
   v = view_of p
 
-  -- a page is replaced: its buffer is cleared, zeroed and published, and the turn given back
+  -- a page is replaced: its buffer is cleared, zeroed and published
   pub replaced : (v.mapping).stage ≡ Ready at written
-      → (cleared zeroed published shown left : SeatedPass D)
+      → (cleared zeroed published shown : SeatedPass D)
       → Steps clear_end 0 p cleared
       → HasView (staged_view (Zeroing at 1024) (view_of cleared)) cleared zeroed
       → Steps publish_end 0 zeroed published
       → Steps publish_initialised_end 0 published shown
-      → HasView (staged_view Away (view_of shown)) shown left
-      → HasView (confirmed_view (at + 8192) (staged_view Away v)) p left
-  replaced is cleared zeroed published shown left by_clear by_zeros by_publish by_end by_release =
+      → HasView (confirmed_view (at + 8192) (staged_view Taken v)) p shown
+  replaced is cleared zeroed published shown by_clear by_zeros by_publish by_end =
       let a : HasView (staged_view (Zeroing at 0) v) p cleared =
       has_same_view (view_behind v clear_end 0 none) (staged_view (Zeroing at 0) v) p cleared
       (ap (λ (w : View). view_behind w clear_end 0 none) (at_stage v (Ready at written) is))
@@ -58,11 +57,8 @@ module _ {D : Type 0} (p : SeatedPass D) (at written : ℕ) where
       let c : HasView (staged_view (Published at) v) p published =
       then_view (λ (w : View). view_behind w publish_end 0 none)
       (staged_view (Zeroing at 1024) v) p zeroed published b by_publish in
-      let e : HasView (confirmed_view (at + 8192) (staged_view Taken v)) p shown =
       then_view (λ (w : View). view_behind w publish_initialised_end 0 none)
-      (staged_view (Published at) v) p published shown c by_end in
-      then_view (staged_view Away) (confirmed_view (at + 8192) (staged_view Taken v)) p shown left
-      e by_release
+      (staged_view (Published at) v) p published shown c by_end
 
   -- the turn was taken, and both addresses loaded
   looked : (taken behind : SeatedPass D) → HasView (staged_view Taken v) p taken
@@ -72,7 +68,7 @@ module _ {D : Type 0} (p : SeatedPass D) (at written : ℕ) where
       then_view (λ (w : View). staged_view (Ready at written) (looked_view at written w))
       (staged_view Taken v) p taken behind by_take by_look
 
-  module _ (is : (v.mapping).stage ≡ Away) (taken behind left : SeatedPass D)
+  module _ (is : (v.mapping).stage ≡ Away) (taken behind : SeatedPass D)
       (by_take : HasView (staged_view Taken v) p taken)
       (by_look : HasView (staged_view (Ready at written)
       (looked_view at written (view_of taken))) taken behind) where
@@ -80,21 +76,127 @@ module _ {D : Type 0} (p : SeatedPass D) (at written : ℕ) where
     away = ap (looked_view at written) (sym (at_stage v Away is))
 
     -- and the turn is given back
-    pub tried : HasView (staged_view Away (view_of behind)) behind left
+    pub tried : (left : SeatedPass D) → HasView (staged_view Away (view_of behind)) behind left
         → HasView (looked_view at written v) p left
-    tried by_release =
+    tried left by_release =
         has_same_view (staged_view Away (looked_view at written v)) (looked_view at written v)
         p left away
         (then_view (staged_view Away) (staged_view (Ready at written) (looked_view at written v))
         p behind left (looked taken behind by_take by_look) by_release)
 
-    -- or a page mapped
-    pub mapped : HasView (confirmed_view (at + 8192) (staged_view Away (view_of behind)))
-        behind left → HasView (confirmed_view (at + 8192) (looked_view at written v)) p left
-    mapped by_replace =
+    -- or a page mapped before that
+    pub mapped : (shown left : SeatedPass D)
+        → HasView (confirmed_view (at + 8192) (staged_view Taken (view_of behind))) behind shown
+        → HasView (staged_view Away (view_of shown)) shown left
+        → HasView (confirmed_view (at + 8192) (looked_view at written v)) p left
+    mapped shown left by_replace by_release =
         has_same_view (confirmed_view (at + 8192) (staged_view Away (looked_view at written v)))
         (confirmed_view (at + 8192) (looked_view at written v)) p left
         (ap (confirmed_view (at + 8192)) away)
-        (then_view (λ (w : View). confirmed_view (at + 8192) (staged_view Away w))
-        (staged_view (Ready at written) (looked_view at written v)) p behind left
-        (looked taken behind by_take by_look) by_replace)
+        (then_view (staged_view Away)
+        (confirmed_view (at + 8192) (staged_view Taken (looked_view at written v)))
+        p shown left
+        (then_view (λ (w : View). confirmed_view (at + 8192) (staged_view Taken w))
+        (staged_view (Ready at written) (looked_view at written v)) p behind shown
+        (looked taken behind by_take by_look) by_replace) by_release)
+
+-- ---- several pages under one turn
+
+module _ {D : Type 0} (p : SeatedPass D) where
+  abbrev first : View
+  first = view_of p
+
+  -- with the turn had, so many pages were mapped
+  pub record MappedSome (q : SeatedPass D) : Type 0 where
+    pub confirmed : ℕ
+    pub written : ℕ
+    pub rises : (first.mapping).confirmed ≤ confirmed
+    pub view : HasView (staged_view Taken (further_view confirmed written first)) p q
+
+  pub mapped_none : (first.mapping).stage ≡ Taken → MappedSome p
+  mapped_none is = record {
+    confirmed = (first.mapping).confirmed;
+    written = (first.writing).written;
+    rises = omega arith;
+    view = record {
+      same_table = refl;
+      me_is = ap (λ (w : View). (w, hand_of p)) (at_stage first Taken is);
+    };
+  }
+
+  module _ (q looked left : SeatedPass D) (some : MappedSome q) (at written : ℕ)
+      (by_look : HasView (staged_view (Ready at written) (looked_view at written (view_of q)))
+      q looked) where
+    behind_look : HasView (staged_view (Ready at written)
+        (further_view (max some.confirmed at) written first)) p looked
+    behind_look =
+        then_view (λ (w : View). staged_view (Ready at written) (looked_view at written w))
+        (staged_view Taken (further_view some.confirmed some.written first)) p q looked some.view
+        by_look
+
+    -- one more was
+    pub mapped_more : HasView (confirmed_view (at + 8192) (staged_view Taken (view_of looked)))
+        looked left → MappedSome left
+    mapped_more by_replace = record {
+      confirmed = max (max some.confirmed at) (at + 8192);
+      written = written;
+      rises = (let rises = some.rises in omega (arith, rises));
+      view = then_view (λ (w : View). confirmed_view (at + 8192) (staged_view Taken w))
+          (staged_view (Ready at written)
+          (further_view (max some.confirmed at) written first)) p looked left behind_look
+          by_replace;
+    }
+
+    -- or none, and the turn was given back
+    pub mapped_no_more : HasView (staged_view Away (view_of looked)) looked left
+        → (confirmed loaded : ℕ) × ((first.mapping).confirmed ≤ confirmed)
+        × HasView (staged_view Away (further_view confirmed loaded first)) p left
+    mapped_no_more by_release = (
+      max some.confirmed at,
+      written,
+      (let rises = some.rises in omega (arith, rises)),
+      then_view (staged_view Away) (staged_view (Ready at written)
+          (further_view (max some.confirmed at) written first)) p looked left behind_look
+          by_release,
+    )
+
+  -- so many pages as were asked for were mapped, and the turn was given back
+  pub mapped_all : (q left : SeatedPass D) → MappedSome q
+      → HasView (staged_view Away (view_of q)) q left
+      → (confirmed loaded : ℕ) × ((first.mapping).confirmed ≤ confirmed)
+      × HasView (staged_view Away (further_view confirmed loaded first)) p left
+  mapped_all q left some by_release = (
+    some.confirmed,
+    some.written,
+    some.rises,
+    then_view (staged_view Away)
+        (staged_view Taken (further_view some.confirmed some.written first)) p q left some.view
+        by_release,
+  )
+
+-- ---- beside somebody else's turn, and with the turn had
+
+pub maps_nothing : (v w : View) → w ≡ v → MapsOn v w
+maps_nothing v w is = record {
+  confirmed = (v.mapping).confirmed;
+  written = (v.writing).written;
+  rises = omega arith;
+  view_is = is;
+}
+
+pub maps_with_turn : {D : Type 0} (p taken left : SeatedPass D)
+    → ((view_of p).mapping).stage ≡ Away → HasView (staged_view Taken (view_of p)) p taken
+    → ((confirmed written : ℕ) × (((view_of taken).mapping).confirmed ≤ confirmed)
+    × HasView (staged_view Away (further_view confirmed written (view_of taken))) taken left)
+    → MapsOn (view_of p) (view_of left)
+maps_with_turn p taken left is by_take (confirmed, written, rises, by_map) =
+    let took = view_is (staged_view Taken (view_of p)) p taken by_take in
+    let same = ap (λ (w : View). (w.mapping).confirmed) took in record {
+      confirmed = confirmed;
+      written = written;
+      rises = omega (arith, rises, same);
+      view_is = view_is (staged_view Away (further_view confirmed written (view_of taken))) taken
+          left by_map
+          ∙ ap (λ (w : View). staged_view Away (further_view confirmed written w)) took
+          ∙ ap (further_view confirmed written) (sym (at_stage (view_of p) Away is));
+    }

@@ -24,6 +24,20 @@ written_view written v = record v { writing = record v.writing { written = writt
 abbrev pub looked_view : (at written : ℕ) → View → View
 looked_view at written v = written_view written (confirmed_view at v)
 
+-- it met this as the highest end of a page, and as written
+abbrev pub further_view : (confirmed written : ℕ) → View → View
+further_view confirmed written v = record v {
+  mapping = record v.mapping { confirmed = confirmed };
+  writing = record v.writing { written = written };
+}
+
+-- of a view at most the highest end met, which is no less, and the written address changed
+pub record MapsOn (old new : View) : Type 0 where
+  pub confirmed : ℕ
+  pub written : ℕ
+  pub rises : (old.mapping).confirmed ≤ confirmed
+  pub view_is : new ≡ further_view confirmed written old
+
 -- ---- a try
 
 -- the buffer of the page at an address holds a page that is not all written

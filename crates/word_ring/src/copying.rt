@@ -21,6 +21,9 @@ use wal_rule::SeatedPass;
 // How many words are made of a record at once, before they are stored one by one.
 const RUN: usize = 64;
 
+// So many at most are a short record's: less room has to be cleared for them.
+const SHORT: usize = 20;
+
 /// Copies the words of a record that are left, at most so many, up to the end of the page of the
 /// next one, which lies at the address `next`. The pass has met that page. The record's last word
 /// ends at `end`. Answers how many it copied.
@@ -57,7 +60,28 @@ pub fn copy_page<'p, 'a, D: Disk>(
 }
 
 // Copies so many words, which lie on one page, the first of them to this place.
+#[inline(always)]
 fn copy_words<'p, 'a, D: Disk>(
+    seated: &mut SeatedPass<'p, D>,
+    placed: &mut Placed<'a>,
+    place: usize,
+    count: usize,
+)
+    requires may { MayCopy count place seated.old placed.old }
+    requires low { place + count < 2 ^ 20 }
+    ensures copied { HasCopied count seated.old seated.new placed.old placed.new }
+{
+    if count > SHORT {
+        copy_long(seated, placed, place, count);
+        return;
+    }
+    let mut words = [0; SHORT];
+    copy_run(seated, placed, place, &mut words[..count]);
+}
+
+// The same, run by run.
+#[inline(never)]
+fn copy_long<'p, 'a, D: Disk>(
     seated: &mut SeatedPass<'p, D>,
     placed: &mut Placed<'a>,
     place: usize,

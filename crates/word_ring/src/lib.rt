@@ -14,4 +14,4 @@ mod mapping;
 
 pub use confirming::{Presence, confirm};
 pub use copying::copy_page;
-pub use mapping::{MapTry, try_map};
+pub use mapping::{MapTry, map_ahead, try_map};

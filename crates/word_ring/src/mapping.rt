@@ -1,6 +1,6 @@
 // The next page is mapped, by one try (PostgreSQL's xlog.c, AdvanceXLInsertBuffer), with the turn
-// to map (word 10, WALBufMappingLock), which is given back at each exit. The page begins at the
-// initialised end (12). The page in its buffer must end at or below the written address (13). Both
+// to map (word 10, WALBufMappingLock), which is given back at each exit; or several pages under one
+// turn (`map_ahead`). The page begins at the initialised end (12). The page in its buffer must end at or below the written address (13). Both
 // are loaded. Then the buffer's end word is cleared, its words are zeroed, the page's end is
 // stored, and the initialised end behind it: so pages are mapped one at a time, in rising order.
 // From the clearing on, until the page's end is stored, nobody else stores into the buffer.
@@ -12,7 +12,7 @@ ghost use Rattle.wal_core.specs.Steps.{buffer_of, take_mapping_turn};
 ghost use Rattle.wal_core.specs.Views.{Away, Ready, Taken, Zeroing};
 ghost use Rattle.wal_rule.specs.SeatedPasses.{HasView, StaysSeated, setup_of, view_of};
 ghost use Rattle.wal_rule.specs.Stepping.{Meets};
-ghost use Rattle.word_ring.specs.Mapped.{LooksAt, TriesMapping, looked_view, staged_view};
+ghost use Rattle.word_ring.specs.Mapped.{LooksAt, MapsOn, TriesMapping, further_view, looked_view, staged_view};
 ghost use Rattle.word_ring.specs.Ring.{confirmed_view};
 
 use byte_position::PAGE_SIZE;
@@ -38,6 +38,7 @@ pub enum MapTry {
 
 /// Tries once to map the page at the initialised end, so that one page more is there of those up to
 /// the one asked for.
+#[inline(never)]
 pub fn try_map<'p, D: Disk>(seated: &mut SeatedPass<'p, D>, page: u64) -> MapTry
     // The pass has not the turn to map, and has it no more behind the try. Of its view only the
     // highest end met and the written address loaded have changed, and neither if the turn was
@@ -62,8 +63,47 @@ pub fn try_map<'p, D: Disk>(seated: &mut SeatedPass<'p, D>, page: u64) -> MapTry
         MapTry::Unwritten { written }
     } else {
         replace(seated, at);
+        give_turn_back(seated);
         MapTry::Mapped
     }
+}
+
+/// Maps the pages at the initialised end under one turn, at most so many, as far as the pages in
+/// their buffers are written; none if somebody else has the turn. So copies that reach them later
+/// need no turn, and do not stand in each other's way.
+#[inline(never)]
+pub fn map_ahead<'p, D: Disk>(seated: &mut SeatedPass<'p, D>, most: u32)
+    // The pass has not the turn to map, and has it no more behind the call. Of its view only the
+    // highest end met, which is no less, and the written address loaded have changed.
+    requires away { (view_of seated.old).mapping.stage ≡ Away }
+    ensures maps { MapsOn (view_of seated.old) (view_of seated.new) }
+    ensures stays { StaysSeated seated.old seated.new }
+{
+    let turn = take_turn(seated);
+    if turn != 0 {
+        return;
+    }
+    map_on(seated, most);
+}
+
+// Maps so many pages at most, one behind another, with the turn had, and gives it back.
+fn map_on<'p, D: Disk>(seated: &mut SeatedPass<'p, D>, most: u32)
+    requires taken { (view_of seated.old).mapping.stage ≡ Taken }
+    ensures view { (confirmed written : ℕ)
+        × ((view_of seated.old).mapping.confirmed ≤ confirmed)
+        × HasView (staged_view Away (further_view confirmed written (view_of seated.old)))
+        seated.old seated.new }
+{
+    for _mapped in 0..most {
+        let (at, written) = look(seated);
+        let ring = u64::from(seated.shape().ring_pages()) * PAGE_SIZE;
+        if written + ring < at + PAGE_SIZE {
+            give_turn_back(seated);
+            return;
+        }
+        replace(seated, at);
+    }
+    give_turn_back(seated);
 }
 
 // Takes the turn to map where it is free, which is where the word met is 0. Else the pass has what
@@ -100,13 +140,13 @@ fn give_turn_back<'p, D: Disk>(seated: &mut SeatedPass<'p, D>)
     seated.release_mapping_turn();
 }
 
-// Maps the page at an address in place of the one in its buffer, which is written, and gives the
-// turn back. The pass has the turn, and behind it has met the new page's end.
+// Maps the page at an address in place of the one in its buffer, which is written. The pass has the
+// turn, and behind it has met the new page's end.
 fn replace<'p, D: Disk>(seated: &mut SeatedPass<'p, D>, at: u64)
     requires ready { (written : ℕ) × ((view_of seated.old).mapping.stage ≡ Ready at written)
         × (at + 8192 ≤ written + (setup_of seated.old).ring_pages * 8192) }
     requires low { at < 2 ^ 60 }
-    ensures view { HasView (confirmed_view (at + 8192) (staged_view Away (view_of seated.old)))
+    ensures view { HasView (confirmed_view (at + 8192) (staged_view Taken (view_of seated.old)))
         seated.old seated.new }
 {
     let end = BUFFER_ENDS + buffer_at(seated.shape(), at);
@@ -114,7 +154,6 @@ fn replace<'p, D: Disk>(seated: &mut SeatedPass<'p, D>, at: u64)
     zero_page(seated, at);
     seated.publish_end(end, at + PAGE_SIZE);
     seated.publish_initialised_end(at + PAGE_SIZE);
-    give_turn_back(seated);
 }
 
 // Zeroes the words of the buffer of the page at an address, whose end word is cleared: a word that

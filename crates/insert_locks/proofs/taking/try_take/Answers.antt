@@ -47,3 +47,12 @@ returns-clause-held g c = (
       c.loop-tried.invariant.1 tried (omega (arith, less, ended))),
   c.loop-tried.invariant.2,
 )
+
+pub returns-then-word-eq0-clause-first : goal.returns-then-word-eq0-clause-first
+returns-then-word-eq0-clause-first g c = record {
+  tried = c.loop-tried.tried;
+  words = c.loop-tried.seen;
+  lock_is = ap (λ (n : ℕ). (n % 8 + c.loop-tried.tried) % 8) (c.args.seated.now).numbered;
+  few = c.loop-tried-test.true;
+  held = c.loop-tried.invariant.1;
+}

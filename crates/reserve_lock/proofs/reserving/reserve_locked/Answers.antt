@@ -1,6 +1,7 @@
 use Rattle.std.proofs.Common.{refl, ap, ◌∙◌, arith}
+use Rattle.wal_page.proofs.PaddingLaws.{le-assembled_room_at}
 use Rattle.wal_core.specs.Words.{log_limit}
-use Rattle.wal_rule.specs.SeatedPasses.{view_of}
+use Rattle.wal_rule.specs.SeatedPasses.{setup_of, view_of}
 use Rattle.reserve_lock.proofs.Records.{read_same, read_under, record_read}
 use Rattle.reserve_lock.proofs.reserving.reserve_locked.Goals as goal
 
@@ -17,13 +18,19 @@ reserve_at-prev-requires-clause-kind g c = (
   refl,
 )
 
+pub end_behind-requires-clause-some : goal.end_behind-requires-clause-some
+end_behind-requires-clause-some g c =
+    let bound = (le-assembled_room_at (setup_of c.args.seated.now).segment_size c.args.locked.at
+    c.args.body.now).0 in
+    omega (arith, bound, c.requires.room)
+
 pub returns-clause-reserved : goal.returns-clause-reserved
 returns-clause-reserved g c =
     let entry = c.reserve_at-prev.ensures.entry in
     let short = c.if-free-room.false in
     let limit = c.limit.ensures.limit ∙ ap log_limit c.shape-shape.ensures in (
       record {
-        at = c.args.at;
+        at = c.args.locked.at;
         prev = c.reserve_at-prev.result;
         reserved = entry;
         behind_seen = c.requires.seen;

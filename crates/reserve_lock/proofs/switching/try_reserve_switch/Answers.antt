@@ -13,7 +13,7 @@ use Rattle.reserve_lock.proofs.Steps.{same_setup}
 use Rattle.reserve_lock.proofs.SwitchRoom.{few_left, has_every_lock, some_left}
 use Rattle.reserve_lock.proofs.switching.try_reserve_switch.Given.{Over}
 use Rattle.reserve_lock.proofs.switching.try_reserve_switch.Goals as goal
-use Rattle.reserve_lock.proofs.switching.try_reserve_switch.Goals.{After-room_at}
+use Rattle.reserve_lock.proofs.switching.try_reserve_switch.Goals.{After-room_at-room}
 
 pub reserve_locked-requires-clause-known : goal.reserve_locked-requires-clause-known
 reserve_locked-requires-clause-known g c = switch_known c.args.body.now c.requires.switch
@@ -21,17 +21,17 @@ reserve_locked-requires-clause-known g c = switch_known c.args.body.now c.requir
 pub reserve_locked-requires-clause-all : goal.reserve_locked-requires-clause-all
 reserve_locked-requires-clause-all g c = λ switches.
     subst (λ (locks : List ℕ). (lock : ℕ) → lock < 8 → Contains locks lock)
-    (sym (locks_since (setup_of c.args.seated.now) c.in-Ok.at (view_of c.args.seated.now)
+    (sym (locks_since (setup_of c.args.seated.now) c.in-Ok.locked.at (view_of c.args.seated.now)
     (view_of c.lock_seen.new.seated) c.in-Ok.ensures.locked every_lock c.requires.holds))
     has_every_lock
 
 -- the log does not stand at a segment's start
-not_at_start : (g : Over) (c : After-room_at g)
-    → end_form (setup_of c.args.seated.now) c.in-Ok.at
+not_at_start : (g : Over) (c : After-room_at-room g)
+    → end_form (setup_of c.args.seated.now) c.in-Ok.locked.at
     % (setup_of c.args.seated.now).segment_size ≢ 0
 not_at_start g c = λ starts.
     let setup = setup_of c.args.seated.now in
-    let at = c.in-Ok.at in
+    let at = c.in-Ok.locked.at in
     let geometry = c.geometry-geometry.ensures
     ∙ ap (λ (s : Setup). s.segment_size) c.shape.ensures in
     let end = c.to_end_lsn-end.ensures ∙ ap (λ (n : ℕ). end_address_of n at) geometry in
@@ -46,7 +46,7 @@ returns-in-Ok-reserve_locked-clause-answers g c =
     let old = view_of c.args.seated.now in
     let mid = view_of c.lock_seen.new.seated in
     let new = view_of c.reserve_locked.new.seated in
-    let at = c.in-Ok.at in
+    let at = c.in-Ok.locked.at in
     let r = c.in-Ok-reserve_locked.reserved in
     let given = c.in-Ok-reserve_locked.ensures.reserved in
     let same = same_setup c.args.seated.now c.lock_seen.new.seated
@@ -54,7 +54,7 @@ returns-in-Ok-reserve_locked-clause-answers g c =
     let locked = subst (λ (s : Setup). IsPositionLocked s at old mid) (sym same)
     c.in-Ok.ensures.locked in
     let inside = not_at_start g
-    (goal.at.returns-in-Ok-reserve_locked-clause-answers g c).After-room_at in (
+    (goal.at.returns-in-Ok-reserve_locked-clause-answers g c).After-room_at-room in (
       subst (λ (s : Setup). IsSwitchReserved s c.args.body.now old new r.start.0 r.placed) same
           (switch_since own at old mid locked c.args.body.now new r.start.0 r.placed given.0
           given.1 c.requires.holds (switch_ends c.args.body.now c.requires.switch)
@@ -65,7 +65,7 @@ returns-in-Ok-reserve_locked-clause-answers g c =
 pub returns-in-Err-reserve_locked-clause-no_room : goal.returns-in-Err-reserve_locked-clause-no_room
 returns-in-Err-reserve_locked-clause-no_room g c =
     let setup = setup_of c.args.seated.now in
-    let at = c.in-Ok.at in
+    let at = c.in-Ok.locked.at in
     let body = c.args.body.now in
     let free = c.in-Err-reserve_locked.free in
     let locked = c.in-Ok.ensures.locked in
@@ -74,13 +74,18 @@ returns-in-Err-reserve_locked-clause-no_room g c =
     c.in-Ok.ensures.stays.same_table in
     let geometry = c.geometry-geometry.ensures ∙ ap (λ (s : Setup). s.segment_size) c.shape.ensures in
     let size = c.segment_size.ensures.value ∙ geometry in
-    let room = c.room_at.ensures ∙ ap (λ (n : ℕ). assembled_room_at n at body) geometry in
+    let room = c.room_at-room.ensures ∙ ap (λ (n : ℕ). assembled_room_at n at body) geometry in
     let valid = subst IsSegmentSize size c.segment_size.ensures.valid in
     let left = full.0 ∙ ap (λ (s : Setup). log_limit s - at) same in (
       some_left setup valid at free locked.within left
           (not_at_start g
-          (goal.at.returns-in-Err-reserve_locked-clause-no_room g c).After-room_at),
+          (goal.at.returns-in-Err-reserve_locked-clause-no_room g c).After-room_at-room),
       few_left setup valid at free body locked.whole (switch_ends body c.requires.switch)
           (switch_size body c.requires.switch) locked.within left
           (subst (λ (n : ℕ). free < n) room full.1),
     )
+
+pub reserve_locked-requires-clause-geometry : goal.reserve_locked-requires-clause-geometry
+reserve_locked-requires-clause-geometry g c =
+    c.geometry-geometry.ensures ∙ ap (λ (s : Setup). s.segment_size) (c.shape.ensures
+    ∙ sym (same_setup c.args.seated.now c.lock_seen.new.seated c.in-Ok.ensures.stays.same_table))

@@ -3,6 +3,6 @@ use Rattle.run_laws.proofs.laws.full_has_its_cause.Goals as goal
 
 pub returns : goal.returns
 returns c = record {
-  cause = λ logged limit pass chained limited found all value free before after full ends own.
-      full_cause logged limit pass chained limited found all value free before after full ends own;
+  cause = λ logged limit pass chained limited all value free before after full ends own.
+      full_cause logged limit pass chained limited all value free before after full ends own;
 }

@@ -6,6 +6,7 @@ use Rattle.wal_log.specs.declared.beginning.TryErr.TheVariants as tries
 use Rattle.wal_log.specs.declared.inserting.InsertErr.TheVariants.{Down}
 use Rattle.wal_log.specs.Beginning.{AnswersBeginTry}
 use Rattle.wal_log.specs.Standing.{GoesOnSeated}
+use Rattle.wal_log.proofs.AwaitLaws.{tried_and_looked}
 use Rattle.wal_log.proofs.BeginLaws.{answers_since, refused_try}
 use Rattle.wal_log.proofs.Keeping.{further_pass}
 use Rattle.wal_log.proofs.Seated.{same_setup}
@@ -111,9 +112,11 @@ pub loop-preserved-in-Err-Busy : goal.loop-preserved-in-Err-Busy
 loop-preserved-in-Err-Busy g c =
     let told = rw c.in-Err-Busy.field-0-is at c.in-Err-Busy.ensures.begins in record {
       goes_on = (tt, tt);
-      tried = tried_in_vain_again c.args.seated.now c.loop.seated c.try_begin.new.seated
+      tried = tried_and_looked c.args.seated.now c.try_begin.new.seated c.await_position.new.seated
+          (tried_in_vain_again c.args.seated.now c.loop.seated c.try_begin.new.seated
           c.loop.invariant.tried c.try_begin.ensures.goes_on told.1
-          (told.0.1.log_is ∙ c.loop.invariant.tried.log) c.try_begin.ensures.sets_none;
+          (told.0.1.log_is ∙ c.loop.invariant.tried.log) c.try_begin.ensures.sets_none)
+          c.await_position.ensures.sees;
     }
 
 pub loop-preserved : goal.loop-preserved

@@ -20,7 +20,7 @@ publish_initialised_end-requires-clause-may g c = (
 
 pub returns : goal.returns
 returns g c = record {
-  view = replaced c.args.seated.now c.args.at c.requires.ready.0 c.requires.ready.1 _ _ _ _ _
+  view = replaced c.args.seated.now c.args.at c.requires.ready.0 c.requires.ready.1 _ _ _ _
       c.clear_end.ensures.steps c.zero_page.ensures.view c.publish_end.ensures.steps
-      c.publish_initialised_end.ensures.steps c.give_turn_back.ensures.view;
+      c.publish_initialised_end.ensures.steps;
 }

@@ -33,8 +33,8 @@ returns-then-page-at-clause-tries g c =
       c.look-at.result.1,
       omega (arith, there),
       view_is _ _ _ (tried c.args.seated.now c.look-at.result.0 c.look-at.result.1
-          c.requires.away _ _ _ (c.take_turn-turn.ensures.taken c.if-turn-ne0.false)
-          c.look-at.ensures.view c.give_turn_back.ensures.view),
+          c.requires.away _ _ (c.take_turn-turn.ensures.taken c.if-turn-ne0.false)
+          c.look-at.ensures.view _ c.give_turn_back.ensures.view),
       looks g at c.if-turn-ne0.false,
     )
 
@@ -52,8 +52,8 @@ returns-then-written-ring-clause-tries g c =
       omega (arith, below),
       omega (arith, far, ring, pages, shape),
       view_is _ _ _ (tried c.args.seated.now c.look-at.result.0 c.look-at.result.1
-          c.requires.away _ _ _ (c.take_turn-turn.ensures.taken c.if-turn-ne0.false)
-          c.look-at.ensures.view c.give_turn_back-then-written-ring.ensures.view),
+          c.requires.away _ _ (c.take_turn-turn.ensures.taken c.if-turn-ne0.false)
+          c.look-at.ensures.view _ c.give_turn_back-then-written-ring.ensures.view),
       looks g at c.if-turn-ne0.false,
     )
 
@@ -71,8 +71,9 @@ returns-else-written-ring-clause-tries g c =
       c.look-at.result.1,
       omega (arith, below),
       view_is _ _ _ (mapped c.args.seated.now c.look-at.result.0 c.look-at.result.1
-          c.requires.away _ _ _ (c.take_turn-turn.ensures.taken c.if-turn-ne0.false)
-          c.look-at.ensures.view c.replace.ensures.view),
+          c.requires.away _ _ (c.take_turn-turn.ensures.taken c.if-turn-ne0.false)
+          c.look-at.ensures.view _ _ c.replace.ensures.view
+          c.give_turn_back-else-written-ring.ensures.view),
       looks g at c.if-turn-ne0.false,
       λ old. omega (arith, far, ring, pages, shape, old),
     )

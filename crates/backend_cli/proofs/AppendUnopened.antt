@@ -1,0 +1,94 @@
+-- What a run has to show that was to go on with a log which was not opened.
+use Rattle.std.proofs.Common.{◌≡◌, ℕ, ◌+◌, List, [], Ok, Option, Some, None, refl, subst, inl, inr}
+use Rattle.std.specs.Prelude.{IfSome, IsSome}
+use Rattle.segment_disk.specs.Tape.{IsUncalled, Tape, page_of_segment, state_now}
+use Rattle.found_log.specs.Found.{RefusesLog}
+use Rattle.found_log.specs.declared.fault.FindFault.TheVariants as finding
+use Rattle.wal_core.specs.Sound.{IsSetup}
+use Rattle.wal_core.specs.declared.setup.Setup.{Setup}
+use Rattle.wal_log.specs.Reopening.{HasFoundAndSettled, TellsReopenFault}
+use Rattle.wal_log.specs.declared.opening.OpenFaultKind.{OpenFaultKind}
+use Rattle.wal_log.specs.declared.opening.OpenFaultKind.TheVariants as kinds
+use Rattle.wal_script.specs.Asked.{AskedLine}
+use Rattle.command_words.specs.declared.commands.ScriptRunOptions.{ScriptRunOptions}
+use Rattle.backend_cli.specs.Appending.{AppendHolds, PrintsNothing}
+use Rattle.backend_cli.specs.Outcome.{outcome_unopened}
+use Rattle.backend_cli.specs.Outside.{IsUntouched, Outside, SourceView, outside_of}
+use Rattle.backend_cli.specs.Prepared.{IsUnprepared}
+use Rattle.backend_cli.specs.Reading.{ScriptMeans}
+use Rattle.backend_cli.specs.Setups.{run_setup}
+use Rattle.backend_cli.specs.declared.outcome.Outcome.{Outcome}
+use Rattle.backend_cli.specs.declared.outcome.Outcome.TheVariants.{Done, OutOfMemory, Usage, SourceFault, ScriptRefused, NotEmpty, BeyondCap, DiskFault, Stopped, LogFull, SinkFault}
+
+-- a segment behind the last one allowed is there
+beyond_there : (size sysid cap segment : ℕ) (tape : Option Tape)
+    → IfSome tape (RefusesLog size sysid cap (finding.Beyond segment))
+    → IfSome tape (λ t. IsSome (page_of_segment (state_now t (cap + 1)) 0))
+beyond_there size sysid cap segment None refuses = refuses
+beyond_there size sysid cap segment (Some t) refuses =
+    subst (λ (n : ℕ). IsSome (page_of_segment (state_now t n) 0)) refuses.0 refuses.1
+
+module _ {D : Type 0} (tape : D → Option Tape) (moment faults : D → ℕ)
+    (options : ScriptRunOptions) (passes : ℕ) (can_be : IsSetup (run_setup options.run passes))
+    (disk now : D) {O : Type 0} (sunk : O → Option (List ℕ)) (sink_faults : O → ℕ) (out : O)
+    (before after : SourceView) (script : List (List AskedLine))
+    (means : ScriptMeans options.writer before after (Ok script)) where
+  -- the outside of a run that played nothing
+  abbrev unplayed : Outside
+  unplayed = outside_of before after tape moment faults disk now sunk sink_faults out out
+
+  untouched : IsUncalled tape moment disk now → IsUntouched unplayed
+  untouched uncalled = record {
+    tape_same = uncalled.same_tape;
+    moment_same = uncalled.same_moment;
+    nothing_printed = refl;
+    sink_faults_same = refl;
+  }
+
+  prints_nothing : PrintsNothing unplayed
+  prints_nothing = record { nothing_printed = refl; sink_faults_same = refl }
+
+  settled : HasFoundAndSettled (run_setup options.run passes) (tape disk) (tape now) (moment disk)
+      (moment now) → HasFoundAndSettled (run_setup options.run 0) (tape disk) (tape now)
+      (moment disk) (moment now)
+  settled h = record { log = h.log; found = h.found; settled = h.settled }
+
+  pub unappended_holds : (kind : OpenFaultKind)
+      → TellsReopenFault tape moment faults (run_setup options.run passes) disk now kind
+      → AppendHolds unplayed options (outcome_unopened kind) []
+  unappended_holds kinds.BadSetup tells = absurd (tells.0 can_be)
+  unappended_holds kinds.Memory (is_setup, same, inl uncalled) =
+      ((means.1).faults_same, same, inl (untouched uncalled))
+  unappended_holds kinds.Memory (is_setup, same, inr done) =
+      ((means.1).faults_same, same, inr ((script, means), prints_nothing, settled done))
+  unappended_holds (kinds.Disk told) (is_setup, told_is, rose, inl uncalled) =
+      ((script, means), rose, inl (untouched uncalled))
+  unappended_holds (kinds.Disk told) (is_setup, told_is, rose, inr begun) =
+      ((script, means), rose, inr (prints_nothing, begun))
+  unappended_holds kinds.NotEmpty tells = absurd tells
+  unappended_holds (kinds.Beyond segment) (is_setup, uncalled, same, refuses) = (
+    (script, means),
+    beyond_there options.run.geometry 1 options.run.cap_segments segment (tape disk) refuses,
+    same,
+    untouched uncalled,
+  )
+  unappended_holds (kinds.Foreign stop) (is_setup, uncalled, same, refuses) =
+      ((script, means), refuses, same, untouched uncalled)
+
+-- a run for which nothing was made ready touched nothing but its source
+pub unprepared_holds : (options : ScriptRunOptions) (outside : Outside) (outcome : Outcome)
+    → IsUnprepared options.writer outside.source_before outside.source_after outcome
+    → outside.disk_after ≡ outside.disk_before → IsUntouched outside
+    → AppendHolds outside options outcome []
+unprepared_holds options outside OutOfMemory why same untouched = (why, same, inl untouched)
+unprepared_holds options outside SourceFault why same untouched = (why, same, untouched)
+unprepared_holds options outside (ScriptRefused refusal) why same untouched =
+    (why, same, untouched)
+unprepared_holds options outside Done why same untouched = absurd why
+unprepared_holds options outside Usage why same untouched = absurd why
+unprepared_holds options outside NotEmpty why same untouched = absurd why
+unprepared_holds options outside BeyondCap why same untouched = absurd why
+unprepared_holds options outside DiskFault why same untouched = absurd why
+unprepared_holds options outside (Stopped stop) why same untouched = absurd why
+unprepared_holds options outside LogFull why same untouched = absurd why
+unprepared_holds options outside SinkFault why same untouched = absurd why

@@ -1,0 +1,107 @@
+-- What a crash leaves of a run is a disk that this program left.
+use Rattle.std.proofs.Common.{◌≡◌, ◌≢◌, ℕ, ◌*◌, ◌^◌, ◌<◌, ◌≤◌, List, ◌++◌, length, take, Some, inl, inr, sym, ap, subst, ◌∙◌, arith}
+use Rattle.std.proofs.lemmas.Bool.{cases_lt}
+use Rattle.std.proofs.Math.Nat.{mul-le-mul_right}
+use Rattle.std.proofs.Math.Seq.{take-append_seam}
+use mathlib.Core.Option.{none, some, some-injective}
+use Rattle.byte_position.specs.Position.{end_address_of, first_position}
+use Rattle.byte_position.proofs.EndAddresses.{end_address_of-le_address_of}
+use Rattle.byte_position.proofs.Rising.{address_of-bound, position_of-le_self}
+use Rattle.byte_position.proofs.SegmentSizes.{segment_size_tests}
+use Rattle.byte_position.proofs.Segments.{first_position-usable}
+use Rattle.segment_disk.specs.declared.disk.Call.{Call}
+use Rattle.segment_disk.specs.Assured.{IsNowhere, TapeAssures}
+use Rattle.segment_disk.specs.Tape.{Tape, after_calls, state_at, state_now}
+use Rattle.wal_page.specs.Order.{Entry, end_position}
+use Rattle.flush_core.specs.SettledLog.{IsZeroOrLogWord}
+use Rattle.wal_core.specs.declared.setup.Setup.{Setup}
+use Rattle.wal_core.specs.Durable.{IsLawfulAt}
+use Rattle.wal_core.specs.Locked.{HasWriteTurn, IsWriteTurn, StandsTo}
+use Rattle.wal_core.specs.Sound.{IsSetup}
+use Rattle.wal_core.specs.Suited.{BeganSuited, IsSuited, tape_from}
+use Rattle.wal_core.specs.Views.{Hold, Idle, Out, Plain, Turned}
+use Rattle.wal_core.specs.Words.{Opening, log_limit}
+use Rattle.wal_core.proofs.Tapes.{at_suited}
+use Rattle.wal_script.specs.Asked.{AskedLine}
+use Rattle.told_lines.specs.declared.told.Told.{Told}
+use Rattle.run_laws.specs.Assured.{RunAssures, TapeGoesOn, order_told}
+use Rattle.reopened_log.specs.Again.{CrashedRunsWereLeft}
+use Rattle.reopened_log.proofs.LeftAgain.{crashed_logs_were_left}
+use Rattle.reopened_log.proofs.Surviving.{some_tape}
+
+-- ---- sizes
+
+-- a log ends far below the last address that is read
+ends_low : (setup : Setup) → IsSetup setup → (position : ℕ) → position ≤ log_limit setup → end_address_of setup.segment_size position ≤ 2 ^ 60
+ends_low setup is position within =
+    let size = setup.segment_size in
+    let first = first_position size in
+    let below = position_of-le_self size size in
+    let most = (segment_size_tests size is.size).2 in
+    let whole = ap (λ (n : ℕ). setup.cap_segments * n) (first_position-usable size is.size) in
+    let few : setup.cap_segments * first ≤ 4096 * first = mul-le-mul_right first is.cap_high in
+    omega (arith, within, below, most, whole, few, end_address_of-le_address_of size is.size position, address_of-bound size is.size position)
+
+some_id : (n : ℕ) → n ≢ 0 → 0 < n
+some_id n other = elim (cases_lt 0 n) [ inl lt ↦ lt | inr nothing ↦ absurd (other (omega (arith, nothing))) ]
+
+-- ---- the writer
+
+none_at_home : (w : Plain) → some w ≡ none → ⊥
+none_at_home w same = cc
+
+home_of : (turn holder : ℕ) (home writer : Plain) (id number : ℕ) (hold : Hold) → HasWriteTurn hold → StandsTo turn holder (some home) writer id number hold → some home ≡ some writer
+home_of turn holder home writer id number Idle has stands = absurd has
+home_of turn holder home writer id number Turned has stands = stands.2
+home_of turn holder home writer id number (Out l) has stands = absurd (none_at_home home stands.2)
+
+-- a writer that is at home is the one of which the state speaks
+same_writer : (turn : ℕ) (home writer : Plain) (writers : List (ℕ × Hold)) → IsWriteTurn turn (some home) writer writers → home ≡ writer
+same_writer turn home writer writers is = some-injective home writer (elim (cases_lt 0 turn) [
+  | inr free ↦ is.free (omega (arith, free))
+  | inl taken ↦ (let holder = is.held (λ nothing. omega (arith, taken, nothing)) in home_of turn is.holder home writer is.holder holder.0.0 holder.0.1 holder.2 (is.each is.holder holder.0 holder.1))
+])
+
+-- ---- what the disk held at the opening
+
+module _ (opening : Opening) (began now : Tape) (goes_on : TapeGoesOn (Some began) (Some now)) (counted : opening.moment ≡ length began.calls) where
+  state_then : state_at now opening.moment ≡ state_now began
+  state_then =
+      let is : now ≡ record began { calls = began.calls ++ goes_on.0 } = some_tape now (record began { calls = began.calls ++ goes_on.0 }) goes_on.1 in
+      ap (λ (t : Tape). state_at t opening.moment) is
+      ∙ ap (λ (n : ℕ). after_calls began.at_first (take n (began.calls ++ goes_on.0))) counted
+      ∙ ap (λ (calls : List Call). after_calls began.at_first calls) (take-append_seam began.calls goes_on.0)
+
+  began_suited : IsSuited opening (state_now began) → BeganSuited opening now
+  began_suited suited = subst (IsSuited opening) (sym state_then) suited
+
+-- ---- a run
+
+module _ (opening : Opening) (last faults : ℕ) (began now : Tape) (script : List (List AskedLine)) (lists : List (List Told)) (run : RunAssures opening (Some began) (Some now) last faults script lists) where
+  abbrev size : ℕ
+  size = (opening.setup).segment_size
+
+  abbrev sysid : ℕ
+  sysid = (opening.setup).sysid
+
+  setup_is : IsSetup opening.setup
+  setup_is = run.machine.sound.setup_is
+
+  bounded : end_address_of (opening.setup).segment_size (end_position (opening.setup).segment_size (order_told opening script lists)) ≤ 2 ^ 60
+  bounded = subst (λ (es : List Entry). end_address_of size (end_position size es) ≤ 2 ^ 60) run.machine.order_is (ends_low opening.setup setup_is (end_position size run.machine.sound.order) run.machine.sound.reserved.within)
+
+  home_is : run.machine.writer ≡ run.machine.sound.writer
+  home_is = same_writer _ run.machine.writer run.machine.sound.writer _ run.machine.sound.locks.writing
+
+  writer_tape : tape_from run.machine.first (run.machine.sound.writer).calls ≡ Some now
+  writer_tape = ap (λ (w : Plain). tape_from run.machine.first w.calls) (sym home_is) ∙ run.machine.tape_is
+
+  assures : BeganSuited opening now → TapeAssures (opening.setup).segment_size IsNowhere (IsZeroOrLogWord (opening.setup).segment_size (opening.setup).sysid (order_told opening script lists)) opening.moment now
+  assures suited = subst (λ (es : List Entry). TapeAssures size IsNowhere (IsZeroOrLogWord size sysid es) opening.moment now) run.machine.order_is
+      (at_suited run.machine.first opening run.machine.sound.writer (TapeAssures size IsNowhere (IsLawfulAt opening.setup run.machine.sound.order) opening.moment) now writer_tape suited run.machine.sound.durable.lawful)
+
+pub crashed_runs_were_left : CrashedRunsWereLeft
+crashed_runs_were_left opening moment last faults began now crashed script lists run suited counted narrow since crash segments none_torn =
+    let is = setup_is opening last faults began now script lists run in
+    crashed_logs_were_left (opening.setup).segment_size (opening.setup).sysid opening.moment moment (order_told opening script lists) now crashed is.size (some_id (opening.setup).sysid is.named) narrow run.gapless (bounded opening last faults began now script lists run)
+    (assures opening last faults began now script lists run (began_suited opening began now run.goes_on counted suited)) since crash segments none_torn

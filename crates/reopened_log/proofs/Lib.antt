@@ -1,0 +1,12 @@
+pub mod FirstEntries
+pub mod SuitedDisks
+pub mod EarlyMoments
+pub mod Surviving
+pub mod LeftAgain
+pub mod LeftRuns
+pub mod OwnRows
+pub mod OwnPages
+pub mod OwnHeadersRead
+pub mod OwnRecords
+pub mod OwnAnswers
+pub mod OwnSystem

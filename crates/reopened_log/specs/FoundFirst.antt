@@ -1,0 +1,40 @@
+-- What was found is the log that the disk was left with.
+use Rattle.std.specs.Prelude.{◌≡◌, ℕ, ◌≤◌, All, List, length, map, take, None}
+use Rattle.segment_disk.specs.Tape.{DiskState, Tape}
+use Rattle.wal_page.specs.Order.{Entry, IsChained}
+use Rattle.wal_page.specs.Log.{log_word}
+use Rattle.wal_reader.specs.Cache.{log_of}
+use Rattle.wal_reader.specs.Decodes.{Decodes}
+use Rattle.wal_reader.specs.declared.found.Answer.{Answer}
+use Rattle.wal_reader.specs.declared.found.FoundRecord.{FoundRecord}
+use Rattle.written_log.specs.FoundLog.{HasFound}
+use Rattle.written_log.specs.Written.{found_of}
+use Rattle.reopened_log.specs.WasLeft.{WasLeft}
+
+-- an entry as a restart finds it: no pass's
+abbrev pub as_found : Entry → Entry
+as_found e = record e { pass = None }
+
+-- entries are an order's first ones but for their passes, and give the log the same words
+pub record AreFirstEntries (size sysid : ℕ) (order es : List Entry) : Type 0 where
+  pub among : ℕ
+  pub within : among ≤ length order
+  pub same : es ≡ map as_found (take among order)
+  pub words : (address : ℕ)
+      → log_word size sysid es address ≡ log_word size sysid (take among order) address
+
+-- nobody's entries that follow each other, and whose records are those that were found of an order,
+-- are its first ones
+abbrev pub FoundEntriesComeFirst : Type 0
+FoundEntriesComeFirst =
+    (size sysid count : ℕ) (order es : List Entry) (state : DiskState) (found : List FoundRecord)
+    → HasFound size sysid count order state found → IsChained size es
+    → All (λ e. e.pass ≡ None) es → found_of size es ≡ found
+    → AreFirstEntries size sysid order es
+
+-- a disk that was left so is read as just these records
+abbrev pub LeftLogsAreRead : Type 0
+LeftLogsAreRead =
+    (size sysid : ℕ) (t : Tape) (found others : List FoundRecord) (answer : Answer)
+    → WasLeft size sysid t found → Decodes size (log_of t size) size None others answer
+    → others ≡ found

@@ -1,0 +1,6 @@
+pub mod WasLeft
+pub mod FoundFirst
+pub mod Reopened
+pub mod Surviving
+pub mod Again
+pub mod Own

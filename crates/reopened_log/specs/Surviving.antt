@@ -1,0 +1,39 @@
+-- What crashes leave of a log that was reopened, and that a run went on with.
+use Rattle.std.specs.Prelude.{◌≡◌, ℕ, ◌+◌, ◌≤◌, List, length, take, Some, None}
+use Rattle.segment_disk.specs.DiskImage.{DiskImage, LeftAt}
+use Rattle.segment_disk.specs.Tape.{Tape}
+use Rattle.wal_reader.specs.declared.found.Answer.{Answer}
+use Rattle.wal_reader.specs.declared.found.FoundRecord.{FoundRecord}
+use Rattle.wal_reader.specs.Pages.{pages_in}
+use Rattle.wal_reader.specs.Decodes.{Decodes}
+use Rattle.written_log.specs.Torn.{NoTornPass}
+use Rattle.written_log.specs.Written.{found_of}
+use Rattle.wal_script.specs.Asked.{AskedLine}
+use Rattle.told_lines.specs.declared.told.Told.{Told}
+use Rattle.told_lines.specs.Crash.{IsFrontWithTold}
+use Rattle.wal_core.specs.Words.{Opening}
+use Rattle.run_laws.specs.Assured.{RunAssures, order_told}
+use Rattle.reopened_log.specs.Reopened.{IsReopenedOn}
+
+-- whatever a crash leaves since the disk was handed in, if no torn record passes its CRC there, of
+-- the log that the disk was left with and of the one that a run went on with: it decodes to a front
+-- of all that was found and reserved, with all that was told durable by then; from the end of the
+-- first syncs on it begins with all that was found. `now` is the tape at the run's end
+abbrev pub ReopenedLogsSurviveCrashes : Type 0
+ReopenedLogsSurviveCrashes =
+    (opening : Opening) (handed last faults : ℕ) (t began now : Tape) (found : List FoundRecord)
+    (script : List (List AskedLine)) (lists : List (List Told))
+    → (reopened : IsReopenedOn opening handed t began found)
+    → RunAssures opening (Some began) (Some now) last faults script lists
+    → (moment : ℕ) (image : DiskImage) → handed ≤ moment → LeftAt now moment image
+    → NoTornPass (opening.setup).segment_size (pages_in (opening.setup).segment_size image)
+    (reopened.left).order
+    → NoTornPass (opening.setup).segment_size (pages_in (opening.setup).segment_size image)
+    (order_told opening script lists)
+    → (told : List FoundRecord) (answer : Answer)
+    → Decodes (opening.setup).segment_size (pages_in (opening.setup).segment_size image)
+    (opening.setup).segment_size None told answer
+    → IsFrontWithTold (opening.setup).segment_size moment (order_told opening script lists) lists
+    told
+    × (handed + opening.made ≤ moment
+    → take (length opening.found) told ≡ found_of (opening.setup).segment_size opening.found)

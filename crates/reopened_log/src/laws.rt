@@ -1,0 +1,40 @@
+ghost use Rattle.reopened_log.specs.Again.{CrashedLogsWereLeft, CrashedRunsWereLeft, CrashedSettlingsWereLeft};
+ghost use Rattle.reopened_log.specs.FoundFirst.{FoundEntriesComeFirst, LeftLogsAreRead};
+ghost use Rattle.reopened_log.specs.Own.{LeftLogsAreNotForeign, LeftLogsAreOwn};
+ghost use Rattle.reopened_log.specs.Reopened.{ReopenedLogsAreSuited};
+ghost use Rattle.reopened_log.specs.Surviving.{ReopenedLogsSurviveCrashes};
+
+/// A law: nobody's entries whose records were found of a log are the log's first entries but for
+/// their passes, and give it the same words. Of a disk that was left so there is one list of
+/// records that is read.
+pub fn found_entries_come_first()
+    ensures first { FoundEntriesComeFirst }
+    ensures read { LeftLogsAreRead }
+{}
+
+/// A law: where a disk that this program left was settled, and its log opened behind what was
+/// found, the log may go on.
+pub fn reopened_logs_are_suited()
+    ensures { ReopenedLogsAreSuited }
+{}
+
+/// A law: what crashes leave of a log that goes on, from the moment on at which its disk was handed
+/// in.
+pub fn reopened_logs_survive_crashes()
+    ensures { ReopenedLogsSurviveCrashes }
+{}
+
+/// A law: what a crash leaves is again a disk that this program left, of a log that is settled as
+/// well as of one that a run writes.
+pub fn crashed_logs_were_left()
+    ensures written { CrashedLogsWereLeft }
+    ensures settled { CrashedSettlingsWereLeft }
+    ensures run { CrashedRunsWereLeft }
+{}
+
+/// A law: what stands behind the records of a disk that this program left it may have left; so its
+/// log is never refused as another program's.
+pub fn left_logs_are_own()
+    ensures own { LeftLogsAreOwn }
+    ensures never_refused { LeftLogsAreNotForeign }
+{}

@@ -1,0 +1,10 @@
+//! Laws of a log that goes on: a log that this program left on a disk, crashed or not, was found
+//! there, settled, and opened behind what was found. No code that runs.
+#![tactic(auto)]
+
+mod laws;
+
+pub use laws::{
+    crashed_logs_were_left, found_entries_come_first, left_logs_are_own, reopened_logs_are_suited,
+    reopened_logs_survive_crashes,
+};

@@ -1,0 +1,155 @@
+-- A call waits for a page or for the position: what stays of its pass while it looks again and
+-- again.
+use Rattle.std.proofs.Common.{◌≡◌, ℕ, ◌≤◌, max, List, refl, sym, ap, ◌∙◌, subst, arith}
+use Rattle.std.proofs.Math.Nat.{le-max_left}
+use Rattle.wal_core.specs.Moves.{unlocked, with_seen}
+use Rattle.wal_core.specs.Steps.{IsResting, load_position}
+use Rattle.wal_core.specs.Views.{View}
+use Rattle.wal_rule.specs.declared.seated.SeatedPass.{SeatedPass}
+use Rattle.wal_rule.specs.declared.writer.LogWriter.{LogWriter}
+use Rattle.wal_rule.specs.SeatedPasses.{HasView, Steps, hand_of, view_of}
+use Rattle.insert_locks.specs.Watching.{with_sight}
+use Rattle.word_ring.specs.Ring.{confirmed_view}
+use Rattle.wal_log.specs.declared.fault.Fault.{Fault}
+use Rattle.wal_log.specs.declared.fault.Fault.TheVariants.{Disk, Down}
+use Rattle.wal_log.specs.Downs.{FindsDown, KnowsNoFault}
+use Rattle.wal_log.specs.PassLogs.{log_of_pass}
+use Rattle.wal_log.specs.Standing.{KeepsPass, KeepsWork, SeesMore, StaysAtWork}
+use Rattle.wal_log.proofs.Keeping.{both_up, further_work, meets_since, same_work}
+use Rattle.wal_log.proofs.Seated.{further_seated, hand_is, seat_stays, view_is}
+use Rattle.wal_log.proofs.Trying.{HasTriedOn, rests_again}
+
+-- ---- a page is looked at
+
+-- looks so far left the pass at its work, with its log, and the disk is up
+pub record HasLooked {D : Type 0} (old now : SeatedPass D) : Type 0 where
+  pub stays : StaysAtWork old now
+  pub log : log_of_pass (view_of now) ≡ log_of_pass (view_of old)
+  pub up : KnowsNoFault (view_of now)
+
+pub looked_never : {D : Type 0} → (p : SeatedPass D) → KnowsNoFault (view_of p) → HasLooked p p
+looked_never p up = record {
+  stays = record {
+    stays = record { same_table = refl; same_hand = refl };
+    work = same_work (view_of p);
+    hold = refl;
+  };
+  log = refl;
+  up = up;
+}
+
+pub worked_on : {D : Type 0} → (a b c : SeatedPass D) → StaysAtWork a b → StaysAtWork b c
+    → StaysAtWork a c
+worked_on a b c x y = record {
+  stays = further_seated a b c x.stays y.stays;
+  work = further_work (view_of a) (view_of b) (view_of c) x.work y.work;
+  hold = y.hold ∙ x.hold;
+}
+
+-- an end of a page is met
+end_keeps : (end : ℕ) (v : View) → KeepsWork v (confirmed_view end v)
+end_keeps end v = record {
+  pass = record {
+    opening = refl;
+    live = refl;
+    number = refl;
+    spare = refl;
+    spare_end = refl;
+    joined = refl;
+    counts = omega arith;
+    rises = omega arith;
+    down = λ faults knows. knows;
+  };
+  place = refl;
+  working = refl;
+  stage = refl;
+  confirmed = le-max_left (v.mapping).confirmed end;
+}
+
+end_stays : {D : Type 0} → (end : ℕ) (a b : SeatedPass D)
+    → HasView (confirmed_view end (view_of a)) a b → StaysAtWork a b
+end_stays end a b has = record {
+  stays = seat_stays has;
+  work = subst (λ (w : View). KeepsWork (view_of a) w) (sym (view_is has))
+      (end_keeps end (view_of a));
+  hold = ap (λ (w : View). w.writing.hold) (view_is has);
+}
+
+-- one look more: the pass paused, and then met an end
+pub looked_again : {D : Type 0} → (old now paused new : SeatedPass D) → HasLooked old now
+    → StaysAtWork now paused → log_of_pass (view_of paused) ≡ log_of_pass (view_of now)
+    → KnowsNoFault (view_of paused) → (end : ℕ)
+    → HasView (confirmed_view end (view_of paused)) paused new → HasLooked old new
+looked_again old now paused new looked pause same up end met = record {
+  stays = worked_on old paused new (worked_on old now paused looked.stays pause)
+      (end_stays end paused new met);
+  log = ap (λ (w : View). log_of_pass w) (view_is met) ∙ same ∙ looked.log;
+  up = subst KnowsNoFault (sym (view_is met)) (record { met = up.met; set = up.set });
+}
+
+-- the down value was met behind looks
+pub finds_since : (old now new : View) → KnowsNoFault old → KnowsNoFault now → (fault : Fault)
+    → FindsDown now new fault → FindsDown old new fault
+finds_since old now new before up (Disk faults) finds = absurd finds
+finds_since old now new before up (Down faults) finds =
+    meets_since old now new faults (both_up old now before up) finds
+
+-- ---- the position is looked at
+
+pub sees_as_before : {D : Type 0} → (p : SeatedPass D) → SeesMore p p
+sees_as_before p = record {
+  seen = (view_of p).reserving.seen;
+  rises = omega arith;
+  view = record { same_table = refl; me_is = refl };
+}
+
+pub sees_on : {D : Type 0} → (a b c : SeatedPass D) (met : ℕ) → SeesMore a b
+    → Steps load_position met b c → SeesMore a c
+sees_on {D} a b c met sees load = record {
+  seen = max sees.seen (unlocked met);
+  rises = (let high = le-max_left sees.seen (unlocked met) in
+      let rises = sees.rises in omega (arith, rises, high));
+  view = record {
+    same_table = load.same_table ∙ (sees.view).same_table;
+    me_is = load.me_is
+        ∙ ap (λ (m : View × List (ℕ × LogWriter D)). (with_seen (unlocked met) m.0, m.1))
+        (sees.view).me_is;
+  };
+}
+
+-- tries that told nothing, and then a look
+sight_keeps : (seen : ℕ) (v : View) → (v.reserving).seen ≤ seen → KeepsPass v (with_sight seen v)
+sight_keeps seen v rises = record {
+  opening = refl;
+  live = refl;
+  number = refl;
+  spare = refl;
+  spare_end = refl;
+  joined = refl;
+  counts = omega arith;
+  rises = rises;
+  down = λ faults knows. knows;
+}
+
+pub tried_and_looked : {D : Type 0} → (old now new : SeatedPass D) → HasTriedOn old now
+    → SeesMore now new → HasTriedOn old new
+tried_and_looked old now new tried sees = record {
+  comes = rests_again old now new tried.comes (record {
+    same_table = (sees.view).same_table;
+    keeps = subst (λ (w : View). KeepsPass (view_of now) w) (sym (view_is sees.view))
+        (sight_keeps sees.seen (view_of now) sees.rises);
+    rests = record {
+      rests = (let r = ((tried.comes).rests).rests in
+          subst IsResting (sym (view_is sees.view)) (record {
+            place = r.place;
+            locks = r.locks;
+            flight = r.flight;
+            stage = r.stage;
+            hold = r.hold;
+          }));
+      empty = hand_is sees.view ∙ ((tried.comes).rests).empty;
+    };
+  });
+  log = ap (λ (w : View). log_of_pass w) (view_is sees.view) ∙ tried.log;
+  down_set = ap (λ (w : View). w.writing.down_set) (view_is sees.view) ∙ tried.down_set;
+}

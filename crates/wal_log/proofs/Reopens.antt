@@ -1,0 +1,125 @@
+-- A log that was found may be opened, and the words with which it goes on are those of another moment but for one.
+use Rattle.std.proofs.Common.{◌≡◌, ℕ, ◌+◌, ◌*◌, ◌/◌, ◌<◌, ◌≤◌, ◌%◌, ◌^◌, List, set, sym, ◌∙◌, subst, arith}
+use Rattle.std.specs.Prelude.{slice_index}
+use Rattle.std.proofs.lemmas.List.{get_or-set_other, get_or-set_same, length-set}
+use Rattle.std.proofs.lemmas.Nat.{mul-le}
+use Rattle.byte_position.specs.Position.{end_address_of, usable_bytes_in_segment}
+use Rattle.byte_position.proofs.EndAddresses.{le-position_of}
+use Rattle.byte_position.proofs.SegmentSizes.{segment_size_in_pages}
+use Rattle.byte_position.proofs.Segments.{first_position-usable, position_of-segment}
+use Rattle.record_spelling.specs.Spelling.{word_at}
+use Rattle.wal_page.specs.Order.{Entry, IsChained, end_position}
+use Rattle.found_log.specs.declared.finding.FoundLog.{FoundLog}
+use Rattle.wal_core.specs.declared.setup.Setup.{Setup}
+use Rattle.wal_core.specs.Opened.{AreFirstWords, IsOpenable}
+use Rattle.wal_core.specs.Paged.{HoldsPage}
+use Rattle.wal_core.specs.Sound.{IsSetup}
+use Rattle.wal_core.specs.Words.{Opening, found_end, log_limit}
+use Rattle.machine_words.specs.declared.first.LogEnd.{LogEnd}
+use Rattle.machine_words.specs.FirstWords.{IsEndOf, IsLastPage}
+use Rattle.wal_rule.specs.Founded.{found_log_opening}
+use Rattle.wal_log.specs.Reopening.{IsFoundWithin, IsOpenedBehind, entries_found}
+
+module _ (setup : Setup) (valid : IsSetup setup) (log : FoundLog) (is : IsFoundWithin setup log) where
+  abbrev size : ℕ
+  size = setup.segment_size
+
+  abbrev end : ℕ
+  end = end_position size (entries_found log)
+
+  -- the segments that are there are no more than the log may have
+  end_low : end_address_of size end ≤ size * (setup.cap_segments + 1)
+  end_low =
+      let most = mul-le log.made size setup.cap_segments size is.within (omega arith) in
+      let times : size * (setup.cap_segments + 1) ≡ setup.cap_segments * size + size = omega arith in
+      omega (arith, most, times, is.reaches, is.ends.end_is)
+
+  pub end_within : end ≤ log_limit setup
+  end_within =
+      let upto = le-position_of size valid.size end (size * (setup.cap_segments + 1)) end_low in
+      let start = position_of-segment size valid.size (setup.cap_segments + 1) in
+      let times : (setup.cap_segments + 1) * usable_bytes_in_segment size ≡ usable_bytes_in_segment size + setup.cap_segments * usable_bytes_in_segment size = omega arith in
+      omega (arith, upto, start, times, first_position-usable size valid.size)
+
+  pub found_openable : (moment faults : ℕ) → IsOpenable (found_log_opening setup (entries_found log) log.made moment faults)
+  found_openable moment faults = record {
+    setup_is = valid;
+    chained = is.ends.chained;
+    nobodys = is.ends.nobodys;
+    within = end_within;
+    made_within = is.within;
+    reaches = omega (arith, is.reaches, is.ends.end_is);
+  }
+
+  -- an address of the log is a small one
+  pub end_small : log.spelled.end.0 < 2 ^ 44
+  end_small =
+      let most = mul-le log.made size 4096 (2 ^ 30) (omega (arith, is.within, valid.cap_high)) (omega (arith, segment_size_in_pages size valid.size)) in
+      omega (arith, most, is.reaches, segment_size_in_pages size valid.size)
+
+-- ---- the moment is stored last
+
+module _ (opening : Opening) (words : List ℕ) (first : AreFirstWords (record opening { moment = 0 }) words) where
+  abbrev stored : List ℕ
+  stored = set words 15 opening.moment
+
+  same_word : (n : ℕ) → (n ≡ 15 → ⊥) → slice_index stored n ≡ slice_index words n
+  same_word n other = get_or-set_other words 15 n opening.moment 0 other
+
+  above : (n : ℕ) → 17 ≤ n → slice_index stored n ≡ slice_index words n
+  above n high = same_word n (λ e. absurd (omega (arith, e, high)))
+
+  below : (n : ℕ) → n < 15 → slice_index stored n ≡ slice_index words n
+  below n low = same_word n (λ e. absurd (omega (arith, e, low)))
+
+  abbrev pages : ℕ
+  pages = (opening.setup).ring_pages
+
+  pub moment_stored : AreFirstWords opening stored
+  moment_stored = record {
+    wide = length-set words 15 opening.moment ∙ first.wide;
+    position = below 0 (omega arith) ∙ first.position;
+    prev = below 1 (omega arith) ∙ first.prev;
+    zeros = λ n low high. below n (omega (arith, high)) ∙ first.zeros n low high;
+    initialised = below 12 (omega arith) ∙ first.initialised;
+    written = below 13 (omega arith) ∙ first.written;
+    flushed = below 14 (omega arith) ∙ first.flushed;
+    moment = get_or-set_same words 15 opening.moment 0 (omega (arith, first.wide));
+    down = same_word 16 (λ e. absurd (omega (arith, e))) ∙ first.down;
+    async = above (17 + pages + pages * 1024) (omega arith) ∙ first.async;
+    ends = λ b less. subst (HoldsPage pages (found_end opening / 8192) (found_end opening / 8192 + pages) b) (sym (above (17 + b) (omega arith))) (first.ends b less);
+    ring = λ page j from to within. above (17 + pages + (page % pages * 1024 + j)) (omega arith) ∙ first.ring page j from to within;
+  }
+
+-- ---- a log is opened behind the one that was found
+
+module _ (setup : Setup) (log : FoundLog) (is : IsFoundWithin setup log) (moment : ℕ) (opening : Opening) (behind : IsOpenedBehind setup log moment opening) where
+  opening_is : found_log_opening setup (entries_found log) opening.made moment opening.faults ≡ opening
+  opening_is = λ j. record {
+    setup = sym behind.setup_is j;
+    found = sym behind.found_is j;
+    made = opening.made;
+    moment = sym behind.moment_is j;
+    faults = opening.faults;
+  }
+
+  abbrev pub end_of_found : LogEnd
+  end_of_found = record {
+    position = log.spelled.position;
+    address = log.spelled.end.0;
+    last_start = log.spelled.last_start.0;
+  }
+
+  pub ends_there : IsEndOf opening end_of_found
+  ends_there = subst (λ (o : Opening). IsEndOf o end_of_found) opening_is (record {
+    position_is = is.ends.position_is;
+    address_is = is.ends.end_is;
+    last_start_is = is.ends.last_start_is;
+  })
+
+  pub chained_there : IsChained setup.segment_size opening.found
+  chained_there = subst (λ (es : List Entry). IsChained setup.segment_size es) (sym behind.found_is) is.ends.chained
+
+  pub last_page_there : (page : List ℕ) → ((n : ℕ) → n < 1024 → word_at page n ≡ slice_index log.spelled.words.value n) → IsLastPage opening page
+  last_page_there page same = subst (λ (o : Opening). IsLastPage o page) opening_is
+      (λ j low. same j (omega (arith, low)) ∙ is.ends.words_are j low)

@@ -1,0 +1,205 @@
+// A log that was left on a disk is gone on with (PostgreSQL's xlog.c, StartupXLOG). It is found by
+// reads alone, and memory for the words is taken, before it is settled. Only then is the moment
+// known at which it is opened, and the table made, whose key has it: so want of memory for the
+// table is told behind the settling. No counted call is made from then on.
+ghost use Rattle.std.specs.Prelude.{◌≡◌, ℕ, ◌<◌, IfErr, IfOk, OnOk, slice_index};
+ghost use Rattle.record_spelling.specs.Spelling.{word_at};
+ghost use Rattle.flush_core.specs.Settled.{HasSettled};
+ghost use Rattle.found_log.specs.Found.{FindsLog};
+ghost use Rattle.wal_core.specs.Opened.{AreFirstWords};
+ghost use Rattle.wal_core.specs.Sound.{IsSetup};
+ghost use Rattle.wal_core.specs.Words.{Opening};
+ghost use Rattle.wal_core.specs.declared.setup.Setup.{Setup};
+ghost use Rattle.wal_log.specs.declared.opening.OpenFaultKind.TheVariants.{Memory};
+ghost use Rattle.wal_log.specs.Reopening.{GoesOn, IsFoundWithin, IsOpenedBehind, IsReopened, RefusesReopening, TellsReopenFault, entries_found, unfound_kind};
+
+use crate::opening::{OpenFault, OpenFaultKind};
+use crate::wal::Wal;
+use byte_position::{Geometry, PAGE_SIZE};
+use flush_core::SettleFault;
+use found_log::{FindFault, FoundLog, find};
+use machine_words::{LogEnd, LogShape, MachineWords, Word};
+use segment_disk::Disk;
+use std::alloc::{AllocError, Global};
+use std::marker::Brand;
+use wal_core::Setup;
+use wal_rule::{FoundEntries, Founding, LogTable, LogWriter, Pass, PicksEntries};
+use wal_types::Lsn;
+
+/// What a reopening found.
+#[derive(Clone, Copy, Debug, PartialEq, Eq)]
+pub struct Found {
+    /// How many records the log has.
+    pub count: u64,
+    /// Where the last of them ends, or where the log starts.
+    pub end: Lsn,
+}
+
+impl<D: Disk> Wal<D> {
+    /// Opens the log that is on a disk, whatever a crash left of it, and its first pass, which may
+    /// give all other numbers away. Once it has found the log, it makes durable what it read and
+    /// clears what a crash left behind the end; records go on there. On a disk without segment 1 it
+    /// begins a log that holds nothing.
+    ///
+    /// Each reason to refuse the log comes before the first counted call of the disk, and so does
+    /// want of memory, but for the table's. After a refusal the log may be reopened again, as often
+    /// as it takes.
+    pub fn reopen(
+        alloc: Global,
+        disk: D,
+        setup: Setup,
+    ) -> Result<(Wal<D>, Pass, Found), OpenFault<D>>
+        ensures reopened { IfOk result
+            (λ r. IsReopened D.tape D.moment D.faults setup disk r.0 r.1 r.2) }
+        ensures refused { IfErr result
+            (λ e. RefusesReopening D.tape D.moment D.faults setup disk e) }
+    {
+        let Some(shape) = LogShape::new(setup) else {
+            return Err(OpenFault {
+                disk,
+                kind: OpenFaultKind::BadSetup,
+            });
+        };
+        let mut disk = disk;
+        match find_settled(alloc, &mut disk, setup, shape.geometry()) {
+            Ok((log, words)) => Wal::go_on(alloc, disk, setup, shape, log, words),
+            Err(kind) => Err(OpenFault { disk, kind }),
+        }
+    }
+
+    // Opens a log that was found on this disk and settled, with these words.
+    fn go_on(
+        alloc: Global,
+        disk: D,
+        setup: Setup,
+        shape: LogShape,
+        log: FoundLog,
+        words: MachineWords,
+    ) -> Result<(Wal<D>, Pass, Found), OpenFault<D>>
+        requires setup { IsSetup setup }
+        requires shape { shape ≡ setup }
+        requires log { IsFoundWithin setup log }
+        requires words { (opening : Opening) → IsOpenedBehind setup log (D.moment disk) opening
+            → AreFirstWords opening words.words }
+        ensures goes_on { IfOk result
+            (λ r. GoesOn D.tape D.moment D.faults setup log disk r.0 r.1 r.2) }
+        ensures refused { IfErr result
+            (λ e. (e.disk ≡ disk) × (e.kind ≡ Memory)) }
+    {
+        let founding = Founding::of_found(setup, &disk, found_entries(&log), log.made);
+        let end = log.spelled.end;
+        let count = log.spelled.count;
+        let writer = LogWriter::resume(disk, shape.geometry(), end.0, log.made);
+        match LogTable::resume(alloc, words.as_slice(), writer, shape, &founding) {
+            Ok((table, seat)) => {
+                let pass = Pass::of_seat(seat, 0, 1, setup.passes);
+                Ok((Wal { table }, pass, Found { count, end }))
+            }
+            Err(disk) => Err(OpenFault {
+                disk,
+                kind: OpenFaultKind::Memory,
+            }),
+        }
+    }
+}
+
+// Finds the log on a disk and settles it. The words with which it goes on are those of the moment
+// behind that, but their memory is taken before.
+fn find_settled<D: Disk>(
+    alloc: Global,
+    disk: &mut D,
+    setup: Setup,
+    geometry: Geometry,
+) -> Result<(FoundLog, MachineWords), OpenFaultKind>
+    requires setup { IsSetup setup }
+    requires size { setup.segment_size ≡ geometry }
+    ensures found { IfOk result (λ r. FindsLog setup.segment_size setup.sysid setup.cap_segments
+        (D.tape disk.old) r.0) }
+    ensures settled { IfOk result (λ r. HasSettled setup.segment_size r.0.spelled.end.0 r.0.made
+        (D.tape disk.old) (D.tape disk.new) (D.moment disk.old) (D.moment disk.new)) }
+    ensures words { IfOk result (λ r. (opening : Opening)
+        → IsOpenedBehind setup r.0 (D.moment disk.new) opening
+        → AreFirstWords opening r.1.words) }
+    ensures no_fault { OnOk result (D.faults disk.new ≡ D.faults disk.old) }
+    ensures refused { IfErr result
+        (TellsReopenFault D.tape D.moment D.faults setup disk.old disk.new) }
+{
+    let log = match find(alloc, disk, geometry, setup.sysid, setup.cap_segments) {
+        Ok(log) => log,
+        Err(fault) => return Err(unfound_kind(fault)),
+    };
+    let Ok(mut words) = words_behind(alloc, setup, &log) else {
+        return Err(OpenFaultKind::Memory);
+    };
+    match log.settle(alloc, disk, geometry) {
+        Ok(()) => {
+            words.set(Word::Moment, disk.moment());
+            Ok((log, words))
+        }
+        Err(SettleFault::Memory) => Err(OpenFaultKind::Memory),
+        Err(SettleFault::Disk { faults }) => Err(OpenFaultKind::Disk { faults }),
+    }
+}
+
+// Why a log was not reopened that was not found.
+fn unfound_kind(fault: FindFault) -> OpenFaultKind
+    ensures { result ≡ unfound_kind fault }
+{
+    match fault {
+        FindFault::Memory => OpenFaultKind::Memory,
+        FindFault::Disk { faults } => OpenFaultKind::Disk { faults },
+        FindFault::Beyond { segment } => OpenFaultKind::Beyond { segment },
+        FindFault::Foreign(stopped) => OpenFaultKind::Foreign(stopped),
+    }
+}
+
+// The words of a log that goes on behind the one that was found, at moment 0.
+fn words_behind(alloc: Global, setup: Setup, log: &FoundLog) -> Result<MachineWords, AllocError>
+    requires setup { IsSetup setup }
+    requires log { IsFoundWithin setup log.now }
+    ensures pages { IfOk result (λ words. words.pages ≡ setup.ring_pages) }
+    ensures words { (opening : Opening) → IsOpenedBehind setup log.now 0 opening
+        → IfOk result (λ words. AreFirstWords opening words.words) }
+{
+    let end = LogEnd {
+        position: log.spelled.position,
+        address: log.spelled.end.0,
+        last_start: log.spelled.last_start.0,
+    };
+    let page = bytes_of(&log.spelled.words);
+    MachineWords::resume(alloc, setup, 0, end, &page)
+}
+
+// The bytes of a page's words.
+fn bytes_of(words: &[u64; 1024]) -> [u8; PAGE_SIZE as usize]
+    ensures { (n : ℕ) → n < 1024 → word_at result n ≡ slice_index words.now n }
+{
+    let mut bytes = [0; PAGE_SIZE as usize];
+    for n in 0..1024 {
+        put_word(&mut bytes, n, words[n]);
+    }
+    bytes
+}
+
+// Puts a page's n-th word at its place.
+fn put_word(bytes: &mut [u8; PAGE_SIZE as usize], n: usize, word: u64)
+    requires { n < 1024 }
+    ensures own { word_at bytes.new n ≡ word }
+    ensures below { (m : ℕ) → m < n → word_at bytes.new m ≡ word_at bytes.old m }
+{
+    let at = 8 * n;
+    bytes[at..at + 8].copy_from_slice(&word.to_le_bytes());
+}
+
+// The entries of a log that was found.
+fn found_entries(log: &FoundLog) -> FoundEntries
+    ensures { result.entries ≡ entries_found log.now }
+{
+    picked_entries::<Brand>(log)
+}
+
+fn picked_entries<B: PicksEntries>(_log: &FoundLog) -> FoundEntries
+    ensures { result.entries ≡ B.entries }
+{
+    FoundEntries::of::<B>()
+}

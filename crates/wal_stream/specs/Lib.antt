@@ -1,0 +1,5 @@
+pub mod Frame
+pub mod Standby
+pub mod Opened
+pub mod Following
+pub mod FollowedLog
