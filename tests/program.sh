@@ -14,6 +14,8 @@ segment=pg_wal/000000010000000000000001
 
 run() { "$program" run --seg $size "$@"; }
 dump() { "$program" dump --seg $size; }
+send() { "$program" send --seg $size "$@"; }
+receive() { "$program" receive --seg $size "$@"; }
 
 # fresh: an empty folder of the next check's own, as the working directory
 fresh() {
@@ -202,7 +204,51 @@ the_largest_length_takes_no_memory() {
   equal 'a length of four gigabytes in 8 MiB: where' "$(cat err)" 'pgwal: damaged at 0/00102000: magic'
 }
 
+# The log goes over a pipe, cut at any byte and sent again, and the copy lists as it does.
+a_copy_is_kept_over_a_pipe() {
+  local cut
+  fresh
+  mkdir first second
+  (cd first && commits 700 500 | run >/dev/null)
+  for cut in 0 100 8224 8300 20000; do
+    (cd first && send 2>/dev/null) | head -c $cut | (cd second && receive >../out)
+    equal "a copy of $cut bytes: the status" $? 0
+  done
+  equal 'a copy cut in its third frame: a torn record was cleared, and comes again' "$(cat out)" \
+    'received 0/00104000 taken 2 old 0 gap 0 bad 0'
+  equal 'the whole log' "$( (cd first && send) | (cd second && receive) )" \
+    'received 0/00104E78 taken 1 old 2 gap 0 bad 0'
+  equal 'the copy lists as the log' "$(cd second && dump | cksum)" "$(cd first && dump | cksum)"
+  equal 'it goes on as a log of its own' \
+    "$(cd second && commits 900 1 | run --append | tail -n 1)" \
+    'records 1 commits 1 bytes 40 end 0/00104EA0 segments 1'
+}
+
+a_log_is_sent_beside_its_writer() {
+  fresh
+  mkdir second
+  commits 700 1 | run >/dev/null
+  flock pg_wal "$program" send --seg $size >frames
+  equal 'a log whose folder is locked is sent' $? 0
+  equal 'a frame' "$(stat -c %s frames)" 8224
+  (cd second && mkdir pg_wal && flock pg_wal "$program" receive --seg $size <../frames 2>err)
+  equal 'no copy is kept in a folder that is locked' $? 4
+}
+
+# More frames than are taken at once; they are zeros, which are no frames.
+too_many_frames_end_a_copy() {
+  fresh
+  head -c $((8224 * 1048576 + 1)) /dev/zero | receive >out 2>err
+  equal 'too many frames: the status' "${PIPESTATUS[1]}" 11
+  equal 'too many frames: what came of them' "$(cat out)" \
+    'received 0/00100000 taken 0 old 0 gap 0 bad 1048576'
+  equal 'too many frames: the line' "$(cat err)" 'pgwal: too many frames'
+}
+
 a_run_tells_its_commits
+a_copy_is_kept_over_a_pipe
+a_log_is_sent_beside_its_writer
+too_many_frames_end_a_copy
 a_replay_lists_what_its_crash_leaves
 closed_streams_fail
 full_output_fails

@@ -37,6 +37,9 @@ WRONG = [
      "((l.writer).waiting ≡ (l.writer).waiting))\n  MayStep store_flushed"),
     ("a write goes past what is known to be copied", STEPS,
      "pub copied : upto ≤ l.known\n", "pub copied : upto ≤ upto\n"),
+    ("a segment is made before all below it is written", STEPS,
+     "pub behind : segment * setup.segment_size ≤ (l.writer).written\n",
+     "pub behind : segment * 0 ≤ (l.writer).written\n"),
     ("a word is copied to a page that was not met", STEPS,
      "pub met : address_of_word setup.segment_size c.entry c.copied < confirmed",
      "pub met : address_of_word setup.segment_size c.entry c.copied\n"

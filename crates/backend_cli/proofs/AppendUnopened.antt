@@ -18,7 +18,7 @@ use Rattle.backend_cli.specs.Prepared.{IsUnprepared}
 use Rattle.backend_cli.specs.Reading.{ScriptMeans}
 use Rattle.backend_cli.specs.Setups.{run_setup}
 use Rattle.backend_cli.specs.declared.outcome.Outcome.{Outcome}
-use Rattle.backend_cli.specs.declared.outcome.Outcome.TheVariants.{Done, OutOfMemory, Usage, SourceFault, ScriptRefused, NotEmpty, BeyondCap, DiskFault, Stopped, LogFull, SinkFault}
+use Rattle.backend_cli.specs.declared.outcome.Outcome.TheVariants.{Diverged, TooManyFrames, Done, OutOfMemory, Usage, SourceFault, ScriptRefused, NotEmpty, BeyondCap, DiskFault, Stopped, LogFull, SinkFault}
 
 -- a segment behind the last one allowed is there
 beyond_there : (size sysid cap segment : ℕ) (tape : Option Tape)
@@ -90,5 +90,7 @@ unprepared_holds options outside NotEmpty why same untouched = absurd why
 unprepared_holds options outside BeyondCap why same untouched = absurd why
 unprepared_holds options outside DiskFault why same untouched = absurd why
 unprepared_holds options outside (Stopped stop) why same untouched = absurd why
+unprepared_holds options outside (Diverged at) why same untouched = absurd why
+unprepared_holds options outside TooManyFrames why same untouched = absurd why
 unprepared_holds options outside LogFull why same untouched = absurd why
 unprepared_holds options outside SinkFault why same untouched = absurd why

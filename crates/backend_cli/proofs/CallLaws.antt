@@ -8,14 +8,14 @@ use Rattle.generated_lines.specs.Generated.{generated_script}
 use Rattle.told_lines.specs.declared.told.Told.{Told}
 use Rattle.command_words.specs.declared.commands.GenOptions.{GenOptions}
 use Rattle.command_words.specs.declared.commands.ScriptRunOptions.{ScriptRunOptions}
-use Rattle.command_words.specs.declared.commands.Command.TheVariants.{Run, Append, Gen, Replay, Dump, Redo}
+use Rattle.command_words.specs.declared.commands.Command.TheVariants.{Run, Append, Gen, Replay, Dump, Redo, Send, Receive}
 use Rattle.command_line.specs.declared.asking.Request.{Request}
 use Rattle.command_line.specs.declared.asking.Request.TheVariants.{Command, Help, Version, Nothing}
 use Rattle.backend_cli.specs.Appending.{AppendHeadline, AppendHolds}
 use Rattle.backend_cli.specs.Asked.{AsksAppend, AsksBackends}
 use Rattle.backend_cli.specs.Headline.{Headline}
 use Rattle.backend_cli.specs.Obeying.{Obeys, ObeysInMemory}
-use Rattle.backend_cli.specs.Outside.{Outside, SourceView}
+use Rattle.backend_cli.specs.Outside.{DiskSeen, Outside, SourceView}
 use Rattle.backend_cli.specs.Reading.{ScriptMeans}
 use Rattle.backend_cli.specs.Run.{PlayHolds, RunHolds}
 use Rattle.backend_cli.specs.declared.outcome.Outcome.{Outcome}
@@ -58,34 +58,36 @@ module _ (outside : Outside) (outcome : Outcome) where
   of_play options [] opened holds = absurd (opened refl)
   of_play options (t ∷ ts) opened holds = holds.headline
 
-  of_request : (request : Request) (told : List (List Told)) → (told ≡ [] → ⊥)
-      → Obeys request outside outcome told → (size : ℕ) (script : List (List AskedLine))
+  of_request : {D : Type 0} (seen : DiskSeen D) (request : Request) (told : List (List Told))
+      → (told ≡ [] → ⊥) → Obeys seen request outside outcome told → (size : ℕ) (script : List (List AskedLine))
       → AsksBackends request outside.source_before outside.source_after size script
       → Leaves size script told
-  of_request Nothing told opened obeys size script asks = absurd asks
-  of_request Help told opened obeys size script asks = absurd asks
-  of_request Version told opened obeys size script asks = absurd asks
-  of_request (Command (Run options)) told opened obeys size script asks =
+  of_request seen Nothing told opened obeys size script asks = absurd asks
+  of_request seen Help told opened obeys size script asks = absurd asks
+  of_request seen Version told opened obeys size script asks = absurd asks
+  of_request seen (Command (Run options)) told opened obeys size script asks =
       of_run options told opened obeys size script asks.0 asks.1
-  of_request (Command (Append options)) told opened obeys size script asks = absurd asks
-  of_request (Command (Gen options)) told opened obeys size script asks =
+  of_request seen (Command (Append options)) told opened obeys size script asks = absurd asks
+  of_request seen (Command (Gen options)) told opened obeys size script asks =
       subst (λ (s : ℕ). Leaves s script told) (sym asks.0)
       (subst (λ (lines : List (List AskedLine)). Leaves options.run.geometry lines told)
       (sym asks.1) (of_play options told opened obeys.plays))
-  of_request (Command (Replay options)) told opened obeys size script asks = absurd asks
-  of_request (Command (Dump options)) told opened obeys size script asks = absurd asks
-  of_request (Command (Redo options)) told opened obeys size script asks = absurd asks
+  of_request seen (Command (Replay options)) told opened obeys size script asks = absurd asks
+  of_request seen (Command (Dump options)) told opened obeys size script asks = absurd asks
+  of_request seen (Command (Redo options)) told opened obeys size script asks = absurd asks
+  of_request seen (Command (Send options)) told opened obeys size script asks = absurd asks
+  of_request seen (Command (Receive options)) told opened obeys size script asks = absurd asks
 
   -- words that ask for a run, and a log that was opened
-  pub headline_of_call : {D : Type 0} (request : Request) (disk disk_now : D)
-      (told : List (List Told)) → ObeysInMemory request disk disk_now outside outcome told
+  pub headline_of_call : {D : Type 0} (seen : DiskSeen D) (request : Request)
+      (told : List (List Told)) → ObeysInMemory seen request outside outcome told
       → (size : ℕ) (script : List (List AskedLine))
       → AsksBackends request outside.source_before outside.source_after size script
       → (told ≡ [] → ⊥) → Leaves size script told
-  headline_of_call request disk disk_now told (inl cut) size script asks opened =
+  headline_of_call seen request told (inl cut) size script asks opened =
       absurd (opened (cut.0).nothing_told)
-  headline_of_call request disk disk_now told (inr obeys) size script asks opened =
-      of_request request told opened obeys size script asks
+  headline_of_call seen request told (inr obeys) size script asks opened =
+      of_request seen request told opened obeys size script asks
 
   -- ---- of a run that goes on with a log
 
@@ -106,28 +108,30 @@ module _ (outside : Outside) (outcome : Outcome) where
       (subst (λ (lines : List (List AskedLine)). LeavesWhole options.run.geometry lines (t ∷ ts))
       same (holds.2).headline)
 
-  append_of_request : (request : Request) (told : List (List Told)) → (told ≡ [] → ⊥)
-      → Obeys request outside outcome told → (size : ℕ) (script : List (List AskedLine))
+  append_of_request : {D : Type 0} (seen : DiskSeen D) (request : Request)
+      (told : List (List Told)) → (told ≡ [] → ⊥) → Obeys seen request outside outcome told → (size : ℕ) (script : List (List AskedLine))
       → AsksAppend request outside.source_before outside.source_after size script
       → LeavesWhole size script told
-  append_of_request Nothing told opened obeys size script asks = absurd asks
-  append_of_request Help told opened obeys size script asks = absurd asks
-  append_of_request Version told opened obeys size script asks = absurd asks
-  append_of_request (Command (Run options)) told opened obeys size script asks = absurd asks
-  append_of_request (Command (Append options)) told opened obeys size script asks =
+  append_of_request seen Nothing told opened obeys size script asks = absurd asks
+  append_of_request seen Help told opened obeys size script asks = absurd asks
+  append_of_request seen Version told opened obeys size script asks = absurd asks
+  append_of_request seen (Command (Run options)) told opened obeys size script asks = absurd asks
+  append_of_request seen (Command (Append options)) told opened obeys size script asks =
       of_append options told opened obeys size script asks.0 asks.1
-  append_of_request (Command (Gen options)) told opened obeys size script asks = absurd asks
-  append_of_request (Command (Replay options)) told opened obeys size script asks = absurd asks
-  append_of_request (Command (Dump options)) told opened obeys size script asks = absurd asks
-  append_of_request (Command (Redo options)) told opened obeys size script asks = absurd asks
+  append_of_request seen (Command (Gen options)) told opened obeys size script asks = absurd asks
+  append_of_request seen (Command (Replay options)) told opened obeys size script asks = absurd asks
+  append_of_request seen (Command (Dump options)) told opened obeys size script asks = absurd asks
+  append_of_request seen (Command (Redo options)) told opened obeys size script asks = absurd asks
+  append_of_request seen (Command (Send options)) told opened obeys size script asks = absurd asks
+  append_of_request seen (Command (Receive options)) told opened obeys size script asks = absurd asks
 
   -- words that ask to go on with a log, and that was opened
-  pub append_headline_of_call : {D : Type 0} (request : Request) (disk disk_now : D)
-      (told : List (List Told)) → ObeysInMemory request disk disk_now outside outcome told
+  pub append_headline_of_call : {D : Type 0} (seen : DiskSeen D) (request : Request)
+      (told : List (List Told)) → ObeysInMemory seen request outside outcome told
       → (size : ℕ) (script : List (List AskedLine))
       → AsksAppend request outside.source_before outside.source_after size script
       → (told ≡ [] → ⊥) → LeavesWhole size script told
-  append_headline_of_call request disk disk_now told (inl cut) size script asks opened =
+  append_headline_of_call seen request told (inl cut) size script asks opened =
       absurd (opened (cut.0).nothing_told)
-  append_headline_of_call request disk disk_now told (inr obeys) size script asks opened =
-      append_of_request request told opened obeys size script asks
+  append_headline_of_call seen request told (inr obeys) size script asks opened =
+      append_of_request seen request told opened obeys size script asks

@@ -21,3 +21,4 @@ pub mod RunUnopened
 pub mod AllCounts
 pub mod AnySome
 pub mod RunTexts
+pub mod CompleteLaws

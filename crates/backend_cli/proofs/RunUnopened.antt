@@ -15,7 +15,7 @@ use Rattle.backend_cli.specs.Reading.{ScriptMeans}
 use Rattle.backend_cli.specs.Run.{PlayHolds, RunHolds}
 use Rattle.told_lines.specs.declared.told.Told.{Told}
 use Rattle.backend_cli.specs.declared.outcome.Outcome.{Outcome}
-use Rattle.backend_cli.specs.declared.outcome.Outcome.TheVariants.{Done, OutOfMemory, Usage, SourceFault, ScriptRefused, NotEmpty, BeyondCap, DiskFault, Stopped, LogFull, SinkFault}
+use Rattle.backend_cli.specs.declared.outcome.Outcome.TheVariants.{Diverged, TooManyFrames, Done, OutOfMemory, Usage, SourceFault, ScriptRefused, NotEmpty, BeyondCap, DiskFault, Stopped, LogFull, SinkFault}
 
 module _ {D : Type 0} (tape : D → Option Tape) (moment faults : D → ℕ) (setup : Setup)
     (can_be : IsSetup setup) (disk now : D) where
@@ -83,6 +83,8 @@ run_of_play outside options NotEmpty script [] means holds =
 run_of_play outside options DiskFault script [] means holds =
     (((script, means), holds.0), holds.1)
 run_of_play outside options BeyondCap script [] means holds = absurd holds.0
+run_of_play outside options (Diverged at) script [] means holds = absurd holds.0
+run_of_play outside options TooManyFrames script [] means holds = absurd holds.0
 run_of_play outside options (Stopped stop) script [] means holds = absurd holds.0
 run_of_play outside options LogFull script [] means holds = absurd holds.0
 run_of_play outside options SinkFault script [] means holds = absurd holds.0

@@ -2,7 +2,7 @@
 use Rattle.std.specs.Prelude.{◌≡◌, ℕ, List, Ok}
 use Rattle.wal_script.specs.Asked.{AskedLine}
 use Rattle.generated_lines.specs.Generated.{generated_script}
-use Rattle.command_words.specs.declared.commands.Command.TheVariants.{Run, Append, Gen, Replay, Dump, Redo}
+use Rattle.command_words.specs.declared.commands.Command.TheVariants.{Run, Append, Gen, Replay, Dump, Redo, Send, Receive}
 use Rattle.command_line.specs.declared.asking.Request.{Request}
 use Rattle.command_line.specs.declared.asking.Request.TheVariants.{Command, Help, Version, Nothing}
 use Rattle.backend_cli.specs.Outside.{SourceView}
@@ -22,6 +22,8 @@ AsksBackends (Command (Gen options)) before after size script =
 AsksBackends (Command (Replay options)) before after size script = ⊥
 AsksBackends (Command (Dump options)) before after size script = ⊥
 AsksBackends (Command (Redo options)) before after size script = ⊥
+AsksBackends (Command (Send options)) before after size script = ⊥
+AsksBackends (Command (Receive options)) before after size script = ⊥
 
 -- the same of a run that goes on with the log that is there
 abbrev pub AsksAppend : Request → SourceView → SourceView → ℕ → List (List AskedLine) → Type 0

@@ -4,8 +4,11 @@ pub mod Outside
 pub mod Headline
 pub mod Run
 pub mod Appending
+pub mod Complete
 pub mod Dumping
 pub mod Redoing
+pub mod Sending
+pub mod Receiving
 pub mod Reading
 pub mod Printing
 pub mod Setups

@@ -3,15 +3,17 @@ use Rattle.std.specs.Prelude.{◌≡◌, ◌⊎◌, ℕ, List, []}
 use Rattle.backend_cli.specs.declared.outcome.Outcome.{Outcome}
 use Rattle.backend_cli.specs.declared.outcome.Outcome.TheVariants.{OutOfMemory, Usage}
 use Rattle.told_lines.specs.declared.told.Told.{Told}
-use Rattle.command_words.specs.declared.commands.Command.TheVariants.{Run, Append, Gen, Replay, Dump, Redo}
+use Rattle.command_words.specs.declared.commands.Command.TheVariants.{Run, Append, Gen, Replay, Dump, Redo, Send, Receive}
 use Rattle.command_line.specs.declared.asking.Request.{Request}
 use Rattle.command_line.specs.declared.asking.Request.TheVariants.{Command, Help, Version, Nothing}
 use Rattle.command_line.specs.Texts.{help, version}
-use Rattle.backend_cli.specs.Outside.{Outside, IsUntouched, Took}
+use Rattle.backend_cli.specs.Outside.{DiskSeen, Outside, IsUntouched, Took}
 use Rattle.backend_cli.specs.Run.{GenHolds, RunHolds}
 use Rattle.backend_cli.specs.Appending.{AppendHolds}
 use Rattle.backend_cli.specs.Dumping.{DumpHolds}
+use Rattle.backend_cli.specs.Receiving.{ReceiveHolds}
 use Rattle.backend_cli.specs.Redoing.{RedoHolds}
+use Rattle.backend_cli.specs.Sending.{SendHolds}
 use Rattle.backend_cli.specs.Replaying.{ReplayHolds}
 
 -- want of memory before the command is known: no counted call of the disk is made, nothing is read
@@ -47,25 +49,30 @@ pub record IsExplained (text : List ℕ) (outside : Outside) (outcome : Outcome)
   pub nothing_told : lists ≡ []
 
 -- what is asked for is done
-abbrev pub Obeys : Request → Outside → Outcome → List (List Told) → Type 0
-Obeys Nothing outside outcome lists = IsUsage outside outcome lists
-Obeys Help outside outcome lists = IsExplained help outside outcome lists
-Obeys Version outside outcome lists = IsExplained version outside outcome lists
-Obeys (Command (Run options)) outside outcome lists = RunHolds outside options outcome lists
-Obeys (Command (Append options)) outside outcome lists =
+abbrev pub Obeys : {D : Type 0} → DiskSeen D → Request → Outside → Outcome → List (List Told)
+    → Type 0
+Obeys seen Nothing outside outcome lists = IsUsage outside outcome lists
+Obeys seen Help outside outcome lists = IsExplained help outside outcome lists
+Obeys seen Version outside outcome lists = IsExplained version outside outcome lists
+Obeys seen (Command (Run options)) outside outcome lists = RunHolds outside options outcome lists
+Obeys seen (Command (Append options)) outside outcome lists =
     AppendHolds outside options outcome lists
-Obeys (Command (Gen options)) outside outcome lists = GenHolds outside options outcome lists
-Obeys (Command (Replay options)) outside outcome lists =
+Obeys seen (Command (Gen options)) outside outcome lists = GenHolds outside options outcome lists
+Obeys seen (Command (Replay options)) outside outcome lists =
     ReplayHolds outside options outcome lists
-Obeys (Command (Dump options)) outside outcome lists = DumpHolds outside options outcome lists
-Obeys (Command (Redo options)) outside outcome lists = RedoHolds outside options outcome lists
+Obeys seen (Command (Dump options)) outside outcome lists = DumpHolds outside options outcome lists
+Obeys seen (Command (Redo options)) outside outcome lists = RedoHolds outside options outcome lists
+Obeys seen (Command (Send options)) outside outcome lists = SendHolds outside options outcome lists
+Obeys seen (Command (Receive options)) outside outcome lists =
+    ReceiveHolds seen outside options outcome lists
 
 -- the same of a disk, or memory ran out before the command was known, and then the very disk comes
 -- back
-abbrev pub ObeysInMemory : {D : Type 0} → Request → D → D → Outside → Outcome → List (List Told)
-    → Type 0
-ObeysInMemory request disk disk_now outside outcome lists =
-    (IsCutShort outside outcome lists × (disk_now ≡ disk)) ⊎ Obeys request outside outcome lists
+abbrev pub ObeysInMemory : {D : Type 0} → DiskSeen D → Request → Outside → Outcome
+    → List (List Told) → Type 0
+ObeysInMemory seen request outside outcome lists =
+    (IsCutShort outside outcome lists × (seen.after ≡ seen.before))
+    ⊎ Obeys seen request outside outcome lists
 
 -- a run is asked for that begins a log, of a script or of lines that are made
 abbrev pub AsksRun : Request → Type 0
@@ -78,6 +85,8 @@ AsksRun (Command (Gen options)) = Unit {0}
 AsksRun (Command (Replay options)) = ⊥
 AsksRun (Command (Dump options)) = ⊥
 AsksRun (Command (Redo options)) = ⊥
+AsksRun (Command (Send options)) = ⊥
+AsksRun (Command (Receive options)) = ⊥
 
 -- a replay is asked for
 abbrev pub AsksReplay : Request → Type 0

@@ -11,7 +11,7 @@ use Rattle.wal_reader.specs.Names.{damage_name}
 use Rattle.wal_reader.specs.declared.found.Stopped.{Stopped as LogStop}
 use Rattle.wal_reader.specs.declared.found.Stopped.TheVariants as stops
 use Rattle.backend_cli.specs.declared.outcome.Outcome.{Outcome}
-use Rattle.backend_cli.specs.declared.outcome.Outcome.TheVariants.{Done, OutOfMemory, Usage, SourceFault, ScriptRefused, NotEmpty, BeyondCap, DiskFault, Stopped, LogFull, SinkFault}
+use Rattle.backend_cli.specs.declared.outcome.Outcome.TheVariants.{Done, OutOfMemory, Usage, SourceFault, ScriptRefused, NotEmpty, BeyondCap, DiskFault, Stopped, Diverged, TooManyFrames, LogFull, SinkFault}
 use Rattle.backend_cli.specs.declared.reading.ScriptUnread.{ScriptUnread}
 use Rattle.backend_cli.specs.declared.reading.ScriptUnread.TheVariants as failures
 
@@ -43,10 +43,12 @@ status_of (ScriptRefused refusal) = 3
 status_of DiskFault = 4
 status_of LogFull = 5
 status_of (Stopped stop) = 6
+status_of (Diverged at) = 6
 status_of SourceFault = 7
 status_of SinkFault = 8
 status_of NotEmpty = 9
 status_of BeyondCap = 10
+status_of TooManyFrames = 11
 
 -- where the log stops, and why
 abbrev pub stop_text : LogStop → List (List ℕ)
@@ -68,6 +70,9 @@ outcome_text (ScriptRefused refusal) =
 outcome_text DiskFault = codes "pgwal: disk fault\n" ∷ []
 outcome_text LogFull = codes "pgwal: log full\n" ∷ []
 outcome_text (Stopped stop) = stop_text stop
+outcome_text (Diverged at) =
+    codes "pgwal: damaged at " ∷ lsn_text at.0 ∷ codes ": " ∷ codes "diverged" ∷ codes "\n" ∷ []
+outcome_text TooManyFrames = codes "pgwal: too many frames\n" ∷ []
 outcome_text SourceFault = codes "pgwal: source fault\n" ∷ []
 outcome_text SinkFault = codes "pgwal: sink fault\n" ∷ []
 outcome_text NotEmpty = codes "pgwal: log not empty\n" ∷ []

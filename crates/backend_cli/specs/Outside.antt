@@ -72,6 +72,24 @@ outside_with source_before source_after tape moment faults taken sink_faults sin
     outside_of source_before source_after (λ (n : ℕ). tape) (λ n. moment) (λ n. faults) 0 0
     taken sink_faults sink sink_now
 
+-- a command's disk as it was handed in and as it comes back, with what tells its tape, its moment
+-- and its count of faults
+pub record DiskSeen (D : Type 0) : Type 0 where
+  pub tape : D → Option Tape
+  pub moment : D → ℕ
+  pub faults : D → ℕ
+  pub before : D
+  pub after : D
+
+abbrev pub disk_seen : {D : Type 0} → (D → Option Tape) → (D → ℕ) → (D → ℕ) → D → D → DiskSeen D
+disk_seen tape moment faults disk disk_now = record {
+  tape = tape;
+  moment = moment;
+  faults = faults;
+  before = disk;
+  after = disk_now;
+}
+
 -- no counted call of the disk was made, and nothing was printed
 pub record IsUntouched (outside : Outside) : Type 0 where
   pub tape_same : outside.tape_after ≡ outside.tape_before

@@ -4,6 +4,7 @@ ghost use Rattle.std.specs.Prelude.{◌≡◌, ℕ, List, Option, Result, IfSome
 ghost use Rattle.wal_script.specs.Asked.{AskedLine};
 ghost use Rattle.wal_script.specs.Run.{run_meaning};
 ghost use Rattle.wal_script.specs.declared.line.Refusal.{Refusal};
+ghost use Rattle.backend_cli.specs.Complete.{AppendsAreComplete, MadeRunsAreComplete, RunsAreComplete};
 ghost use Rattle.backend_cli.specs.Outside.{SourceView};
 ghost use Rattle.backend_cli.specs.Reading.{ScriptMeans};
 
@@ -14,4 +15,22 @@ pub fn read_scripts_mean_all_that_was_left()
         (meaning : Result (List (List AskedLine)) Refusal)
         → ScriptMeans writer before after meaning
         → IfSome before.left (λ bytes. run_meaning writer bytes ≡ meaning) }
+{}
+
+/// What a source handed out in a run has one meaning.
+pub fn handed_out_scripts_have_one_meaning()
+    ensures { (writer : Option ℕ) (before after : SourceView)
+        (one other : Result (List (List AskedLine)) Refusal)
+        → ScriptMeans writer before after one → ScriptMeans writer before after other
+        → one ≡ other }
+{}
+
+/// If nothing fails, and the log has room for what is found and for all that the lines ask for, a
+/// run is done, or memory runs out, or the segment behind the last one allowed is there. A run
+/// that begins a log needs a disk that told that none is there, one that goes on with a log a disk
+/// that told what this program left there.
+pub fn runs_are_complete()
+    ensures run { RunsAreComplete }
+    ensures made { MadeRunsAreComplete }
+    ensures append { AppendsAreComplete }
 {}

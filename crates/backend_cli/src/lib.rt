@@ -9,14 +9,18 @@ mod outcome;
 mod printing;
 mod program;
 mod reading;
+mod receive;
 mod redo;
 mod replay;
 mod run;
+mod send;
 mod setup;
 mod told;
 
 pub use backend_lanes::{Gate, OpenGate};
-pub use laws::read_scripts_mean_all_that_was_left;
+pub use laws::{
+    handed_out_scripts_have_one_meaning, read_scripts_mean_all_that_was_left, runs_are_complete,
+};
 pub use outcome::Outcome;
 pub use program::{Ended, pgwal};
 pub use told::ToldLists;

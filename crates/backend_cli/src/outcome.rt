@@ -11,7 +11,7 @@ use wal_types::Lsn;
 use waldump_text::{SinkFault, put_all};
 
 /// How a command ends: the first of its causes, in the order of the statuses
-/// 1, 2, 7, 3, 9, 10, 4, 6, 5, 8.
+/// 1, 2, 7, 3, 9, 10, 4, 11, 6, 5, 8.
 #[derive(Clone, Copy, Debug)]
 pub enum Outcome {
     Done,
@@ -29,6 +29,10 @@ pub enum Outcome {
     /// The log that is listed or redone does not come to a clean end; the one that is to be gone on
     /// with stops where this program cannot have left it so.
     Stopped(Stopped),
+    /// A frame came of another log than that of the copy, which has another word here.
+    Diverged { at: Lsn },
+    /// More frames came than are taken at once.
+    TooManyFrames,
     /// A line found the log full.
     LogFull,
     SinkFault,
@@ -75,10 +79,12 @@ impl Outcome {
             Outcome::DiskFault => 4,
             Outcome::LogFull => 5,
             Outcome::Stopped(_) => 6,
+            Outcome::Diverged { .. } => 6,
             Outcome::SourceFault => 7,
             Outcome::SinkFault => 8,
             Outcome::NotEmpty => 9,
             Outcome::BeyondCap => 10,
+            Outcome::TooManyFrames => 11,
         }
     }
 
@@ -97,6 +103,8 @@ impl Outcome {
             Outcome::BeyondCap => put_all(err, &[b"pgwal: log beyond cap\n"]),
             Outcome::DiskFault => put_all(err, &[b"pgwal: disk fault\n"]),
             Outcome::Stopped(stopped) => tell_stop(stopped, err),
+            Outcome::Diverged { at } => tell_damage(at, "diverged", err),
+            Outcome::TooManyFrames => put_all(err, &[b"pgwal: too many frames\n"]),
             Outcome::LogFull => put_all(err, &[b"pgwal: log full\n"]),
             Outcome::SinkFault => put_all(err, &[b"pgwal: sink fault\n"]),
         }

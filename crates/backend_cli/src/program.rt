@@ -8,7 +8,7 @@ ghost use Rattle.backend_cli.specs.Appending.{AppendHeadline};
 ghost use Rattle.backend_cli.specs.Asked.{AsksAppend, AsksBackends};
 ghost use Rattle.backend_cli.specs.Headline.{Headline};
 ghost use Rattle.backend_cli.specs.Outcome.{status_of, outcome_text};
-ghost use Rattle.backend_cli.specs.Outside.{SourceView, Took, outside_of, source_view};
+ghost use Rattle.backend_cli.specs.Outside.{SourceView, Took, disk_seen, outside_of, source_view};
 ghost use Rattle.backend_cli.specs.Obeying.{AsksNoCommand, AsksReplay, AsksRun, IsExplained, Obeys, ObeysInMemory};
 ghost use Rattle.backend_cli.specs.declared.outcome.Outcome.{Outcome};
 
@@ -16,9 +16,11 @@ use crate::append::append;
 use crate::dump::list;
 use crate::generate::run_generated;
 use crate::outcome::Outcome;
+use crate::receive::receive_log;
 use crate::redo::list_redone;
 use crate::replay::replay;
 use crate::run::{Finished, run};
+use crate::send::send_log;
 use crate::told::ToldLists;
 use backend_lanes::Gate;
 use command_line::{Request, asked, help_text, version_text};
@@ -65,7 +67,8 @@ fn obey_command<R: Threads + Wait + Sync, S: Source, O: Sink, D: Disk + Send, G:
     gate: &G,
 ) -> Finished<D>
     requires in_range { IsInRange command.now }
-    ensures obeys { Obeys (Request.Command command.now) (outside_of
+    ensures obeys { Obeys (disk_seen D.tape D.moment D.faults disk result.disk)
+        (Request.Command command.now) (outside_of
         (source_view S.left S.handed S.ends_told S.faults script.old)
         (source_view S.left S.handed S.ends_told S.faults script.new)
         D.tape D.moment D.faults disk result.disk O.taken O.faults out.old out.new)
@@ -81,6 +84,8 @@ fn obey_command<R: Threads + Wait + Sync, S: Source, O: Sink, D: Disk + Send, G:
         Command::Replay(options) => replay(alloc, options, script, disk, out),
         Command::Dump(options) => list(alloc, options, disk, out),
         Command::Redo(options) => list_redone(alloc, options, disk, out),
+        Command::Send(options) => send_log(alloc, options, disk, out),
+        Command::Receive(options) => receive_log(alloc, options, script, disk, out),
     }
 }
 
@@ -95,7 +100,8 @@ fn obey<R: Threads + Wait + Sync, S: Source, O: Sink, D: Disk + Send, G: Gate + 
     gate: &G,
 ) -> Finished<D>
     requires in_range { AsksInRange request }
-    ensures obeys { Obeys request (outside_of
+    ensures obeys { Obeys (disk_seen D.tape D.moment D.faults disk result.disk)
+        request (outside_of
         (source_view S.left S.handed S.ends_told S.faults script.old)
         (source_view S.left S.handed S.ends_told S.faults script.new)
         D.tape D.moment D.faults disk result.disk O.taken O.faults out.old out.new)
@@ -127,8 +133,8 @@ fn obey_words<R: Threads + Wait + Sync, S: Source, O: Sink, D: Disk + Send, G: G
     out: &mut O,
     gate: &G,
 ) -> Finished<D>
-    ensures obeys { ObeysInMemory (asks (map (λ w. string_bytes w) words.now))
-        disk result.disk (outside_of
+    ensures obeys { ObeysInMemory (disk_seen D.tape D.moment D.faults disk result.disk)
+        (asks (map (λ w. string_bytes w) words.now)) (outside_of
         (source_view S.left S.handed S.ends_told S.faults script.old)
         (source_view S.left S.handed S.ends_told S.faults script.new)
         D.tape D.moment D.faults disk result.disk O.taken O.faults out.old out.new)
@@ -189,13 +195,15 @@ pub fn pgwal<R: Threads + Wait + Sync, S: Source, O: Sink, E: Sink, D: Disk + Se
     // hold: of `run` told, the headline, no late receipt, whole, printed, and how it ends; so of one
     // that goes on with a log, with how that was settled; of
     // `replay` the machine behind its schedule, what the crash leaves, and the lines and the
-    // listing of it; of `dump` listed; of `redo` redone; of words that ask for help its text, and
+    // listing of it; of `dump` listed; of `redo` redone; of `send` sent; of
+    // `receive` the copy and what it took; of words that ask for help its text, and
     // of others that are no command nothing. Or memory ran out before the command was known, with
     // the disk as it came, and nothing read or printed.
     ensures obeys { (outcome : Outcome) × (result.status ≡ status_of outcome)
         × Took (E.taken err.old) (E.taken err.new) (E.faults err.old) (E.faults err.new)
         (joined (outcome_text outcome))
-        × ObeysInMemory (asks (map (λ w. string_bytes w) words.now)) disk result.disk (outside_of
+        × ObeysInMemory (disk_seen D.tape D.moment D.faults disk result.disk)
+        (asks (map (λ w. string_bytes w) words.now)) (outside_of
         (source_view S.left S.handed S.ends_told S.faults script.old)
         (source_view S.left S.handed S.ends_told S.faults script.new)
         D.tape D.moment D.faults disk result.disk O.taken O.faults out.old out.new)

@@ -12,7 +12,7 @@ use Rattle.clap.specs.Walk.{Walk, at_row, bundle_met, has_row, idle, more_values
 use Rattle.clap.specs.declared.builder.value_parser.Reading.TheVariants as reading
 use Rattle.clap.specs.declared.parser.matches.ValueSource.TheVariants.{CommandLine}
 use Rattle.command_line.specs.Syntax.{declared_command}
-use Rattle.command_line.specs.Plain.{Letter, Switch, SwitchLetter, Valued, append_switch, begins_with_hyphen, block_letter, block_option, cap_option, crash_option, end_letter, end_option, fork_letter, fork_option, fullpage_letter, fullpage_switch, letter_of, lettered_option, lettered_switch, limit_letter, limit_option, list_switch, option_name, quiet_letter, quiet_switch, relation_letter, relation_option, ring_option, rmgr_letter, rmgr_option, seg_option, start_letter, start_option, stats_letter, stats_switch, switch_letter_of, switch_name, times_switch, writer_option, xid_letter, xid_option}
+use Rattle.command_line.specs.Plain.{Letter, Switch, SwitchLetter, Valued, append_switch, begins_with_hyphen, block_letter, block_option, cap_option, crash_option, from_option, end_letter, end_option, fork_letter, fork_option, fullpage_letter, fullpage_switch, letter_of, lettered_option, lettered_switch, limit_letter, limit_option, list_switch, option_name, quiet_letter, quiet_switch, relation_letter, relation_option, ring_option, rmgr_letter, rmgr_option, seg_option, start_letter, start_option, stats_letter, stats_switch, switch_letter_of, switch_name, times_switch, writer_option, xid_letter, xid_option}
 
 abbrev pub level : Shape
 level = (built declared_command).top
@@ -76,6 +76,7 @@ opens position ring_option rows pending into h = ap (λ kinds. or_else kinds [])
 opens position cap_option rows pending into h = ap (λ kinds. or_else kinds []) h.sound
 opens position writer_option rows pending into h = ap (λ kinds. or_else kinds []) h.sound
 opens position crash_option rows pending into h = ap (λ kinds. or_else kinds []) h.sound
+opens position from_option rows pending into h = ap (λ kinds. or_else kinds []) h.sound
 opens position rmgr_option rows pending into h = ap (λ kinds. or_else kinds []) h.sound
 opens position xid_option rows pending into h = ap (λ kinds. or_else kinds []) h.sound
 opens position relation_option rows pending into h = ap (λ kinds. or_else kinds []) h.sound
@@ -92,6 +93,7 @@ opened position ring_option rows pending into h = ap (awaiting position (codes "
 opened position cap_option rows pending into h = ap (awaiting position (codes "cap")) h.rows_are
 opened position writer_option rows pending into h = ap (awaiting position (codes "writer")) h.rows_are
 opened position crash_option rows pending into h = ap (awaiting position (codes "crash")) h.rows_are
+opened position from_option rows pending into h = ap (awaiting position (codes "from")) h.rows_are
 opened position rmgr_option rows pending into h = ap (awaiting position (codes "rmgr")) h.rows_are
 opened position xid_option rows pending into h = ap (awaiting position (codes "xid")) h.rows_are
 opened position relation_option rows pending into h = ap (awaiting position (codes "relation")) h.rows_are
@@ -141,6 +143,7 @@ value_passes position ring_option value rows plain = rw (plain.dashes, plain.lon
 value_passes position cap_option value rows plain = rw (plain.dashes, plain.long, plain.short) refl
 value_passes position writer_option value rows plain = rw (plain.dashes, plain.long, plain.short) refl
 value_passes position crash_option value rows plain = rw (plain.dashes, plain.long, plain.short) refl
+value_passes position from_option value rows plain = rw (plain.dashes, plain.long, plain.short) refl
 value_passes position rmgr_option value rows plain = rw (plain.dashes, plain.long, plain.short) refl
 value_passes position xid_option value rows plain = rw (plain.dashes, plain.long, plain.short) refl
 value_passes position relation_option value rows plain = rw (plain.dashes, plain.long, plain.short) refl
@@ -157,6 +160,7 @@ value_taken position ring_option value rows plain = rw (plain.dashes, plain.long
 value_taken position cap_option value rows plain = rw (plain.dashes, plain.long, plain.short) refl
 value_taken position writer_option value rows plain = rw (plain.dashes, plain.long, plain.short) refl
 value_taken position crash_option value rows plain = rw (plain.dashes, plain.long, plain.short) refl
+value_taken position from_option value rows plain = rw (plain.dashes, plain.long, plain.short) refl
 value_taken position rmgr_option value rows plain = rw (plain.dashes, plain.long, plain.short) refl
 value_taken position xid_option value rows plain = rw (plain.dashes, plain.long, plain.short) refl
 value_taken position relation_option value rows plain = rw (plain.dashes, plain.long, plain.short) refl
@@ -172,6 +176,7 @@ value_settles ring_option value rows absent = record { rows_are = new_row (codes
 value_settles cap_option value rows absent = record { rows_are = new_row (codes "cap") value rows absent; sound = rw absent refl }
 value_settles writer_option value rows absent = record { rows_are = new_row (codes "writer") value rows absent; sound = rw absent refl }
 value_settles crash_option value rows absent = record { rows_are = new_row (codes "crash") value rows absent; sound = rw absent refl }
+value_settles from_option value rows absent = record { rows_are = new_row (codes "from") value rows absent; sound = rw absent refl }
 value_settles rmgr_option value rows absent = record { rows_are = new_row (codes "rmgr") value rows absent; sound = rw absent refl }
 value_settles xid_option value rows absent = record { rows_are = new_row (codes "xid") value rows absent; sound = rw absent refl }
 value_settles relation_option value rows absent = record { rows_are = new_row (codes "relation") value rows absent; sound = rw absent refl }

@@ -15,7 +15,7 @@ use Rattle.command_words.specs.declared.commands.Command.{Command as Task}
 use Rattle.command_line.specs.declared.asking.Request.TheVariants.{Command}
 use Rattle.command_line.specs.Asking.{asks, given_in, is_set, request_of}
 use Rattle.command_line.specs.Syntax.{declared_command}
-use Rattle.command_line.specs.Plain.{Switch, Use, Valued, append_switch, are_plain, are_plain_behind, begins_with_hyphen, block_letter, block_option, cap_option, crash_option, end_letter, end_option, fork_letter, fork_option, fullpage_letter, fullpage_switch, given_by, is_switched, letter_of, lettered, lettered_option, lettered_switch, limit_letter, limit_option, list_switch, name_words, option_name, pair_given, quiet_letter, quiet_switch, relation_letter, relation_option, ring_option, rmgr_letter, rmgr_option, seg_option, start_letter, start_option, stats_letter, stats_switch, switch_letter_of, switch_name, switched, switched_by_letter, times_switch, value_for, valued, words_of_uses, writer_option, xid_letter, xid_option}
+use Rattle.command_line.specs.Plain.{Switch, Use, Valued, append_switch, are_plain, are_plain_behind, begins_with_hyphen, block_letter, block_option, cap_option, crash_option, from_option, end_letter, end_option, fork_letter, fork_option, fullpage_letter, fullpage_switch, given_by, is_switched, letter_of, lettered, lettered_option, lettered_switch, limit_letter, limit_option, list_switch, name_words, option_name, pair_given, quiet_letter, quiet_switch, relation_letter, relation_option, ring_option, rmgr_letter, rmgr_option, seg_option, start_letter, start_option, stats_letter, stats_switch, switch_letter_of, switch_name, switched, switched_by_letter, times_switch, value_for, valued, words_of_uses, writer_option, xid_letter, xid_option}
 use Rattle.command_line.proofs.PlainWalk.{IsPlainWord, Settles, absent_row, between, is_plain_word, letter_opened, letter_opens, level, opened, opens, row_with, rules, switch_letter_passes, switch_letter_taken, switch_passes, switch_taken, value_passes, value_settles, value_taken}
 use Rattle.command_line.proofs.Requests.{asks-taken, none_entered}
 use Rattle.clap.specs.declared.parser.matches.ValueSource.TheVariants.{DefaultValue}
@@ -59,6 +59,7 @@ no_option_row ring_option command topic pairs absent = no_row_behind (codes "rin
 no_option_row cap_option command topic pairs absent = no_row_behind (codes "cap") command topic pairs refl refl absent
 no_option_row writer_option command topic pairs absent = no_row_behind (codes "writer") command topic pairs refl refl absent
 no_option_row crash_option command topic pairs absent = no_row_behind (codes "crash") command topic pairs refl refl absent
+no_option_row from_option command topic pairs absent = no_row_behind (codes "from") command topic pairs refl refl absent
 no_option_row rmgr_option command topic pairs absent = no_row_behind (codes "rmgr") command topic pairs refl refl absent
 no_option_row xid_option command topic pairs absent = no_row_behind (codes "xid") command topic pairs refl refl absent
 no_option_row relation_option command topic pairs absent = no_row_behind (codes "relation") command topic pairs refl refl absent
@@ -326,6 +327,7 @@ no_topic (valued ring_option value ∷ uses) = no_topic uses
 no_topic (valued cap_option value ∷ uses) = no_topic uses
 no_topic (valued writer_option value ∷ uses) = no_topic uses
 no_topic (valued crash_option value ∷ uses) = no_topic uses
+no_topic (valued from_option value ∷ uses) = no_topic uses
 no_topic (valued rmgr_option value ∷ uses) = no_topic uses
 no_topic (valued xid_option value ∷ uses) = no_topic uses
 no_topic (valued relation_option value ∷ uses) = no_topic uses
@@ -365,32 +367,61 @@ first_of-behind name command None pairs no_command no_topic = rw no_command (fir
 first_of-behind name command (Some topic) pairs no_command no_topic = rw (no_command, no_topic) (first_of-pairs name pairs)
 
 -- the words given, where the defaults stand behind those of the words
+-- words that give each option alike are the same
+same_given : (rows : List Row) (command : Text) (topic : Option Text) (uses : List Use)
+    → first_of (codes "command") rows ≡ Some command
+    → first_of (codes "topic") rows ≡ topic
+    → first_of (codes "seg") rows ≡ value_for (codes "seg") (map pair_given uses)
+    → first_of (codes "ring") rows ≡ value_for (codes "ring") (map pair_given uses)
+    → first_of (codes "cap") rows ≡ value_for (codes "cap") (map pair_given uses)
+    → first_of (codes "writer") rows ≡ value_for (codes "writer") (map pair_given uses)
+    → first_of (codes "crash") rows ≡ value_for (codes "crash") (map pair_given uses)
+    → first_of (codes "from") rows ≡ value_for (codes "from") (map pair_given uses)
+    → is_set (codes "list") rows ≡ is_switched (codes "list") (map pair_given uses)
+    → is_set (codes "append") rows ≡ is_switched (codes "append") (map pair_given uses)
+    → first_of (codes "rmgr") rows ≡ value_for (codes "rmgr") (map pair_given uses)
+    → first_of (codes "xid") rows ≡ value_for (codes "xid") (map pair_given uses)
+    → first_of (codes "relation") rows ≡ value_for (codes "relation") (map pair_given uses)
+    → first_of (codes "block") rows ≡ value_for (codes "block") (map pair_given uses)
+    → first_of (codes "fork") rows ≡ value_for (codes "fork") (map pair_given uses)
+    → is_set (codes "fullpage") rows ≡ is_switched (codes "fullpage") (map pair_given uses)
+    → first_of (codes "start") rows ≡ value_for (codes "start") (map pair_given uses)
+    → first_of (codes "end") rows ≡ value_for (codes "end") (map pair_given uses)
+    → first_of (codes "limit") rows ≡ value_for (codes "limit") (map pair_given uses)
+    → is_set (codes "quiet") rows ≡ is_switched (codes "quiet") (map pair_given uses)
+    → is_set (codes "stats") rows ≡ is_switched (codes "stats") (map pair_given uses)
+    → is_set (codes "times") rows ≡ is_switched (codes "times") (map pair_given uses)
+    → given_in rows ≡ given_by command topic uses
+same_given rows command topic uses command_is topic_is seg_is ring_is cap_is writer_is crash_is from_is list_is append_is rmgr_is xid_is relation_is block_is fork_is fullpage_is start_is end_is limit_is quiet_is stats_is times_is =
+    rw (command_is, topic_is, seg_is, ring_is, cap_is, writer_is, crash_is, from_is, list_is, append_is, rmgr_is, xid_is, relation_is, block_is, fork_is, fullpage_is, start_is, end_is, limit_is, quiet_is, stats_is, times_is) refl
+
 all_given : (command : Text) (topic : Option Text) (uses : List Use) → given_in (fold with_default (rows_behind command topic (map pair_given uses)) rules) ≡ given_by command topic uses
 all_given command topic uses =
     let pairs = map pair_given uses in
     let rows = rows_behind command topic pairs in
-    let command_is : first_of (codes "command") (fold with_default rows rules) ≡ Some command = first_kept_by_all (codes "command") rules rows refl ∙ first_of-command command topic pairs in
-    let topic_is : first_of (codes "topic") (fold with_default rows rules) ≡ topic = first_kept_by_all (codes "topic") rules rows refl ∙ first_of-topic command topic uses in
-    let seg_is : first_of (codes "seg") (fold with_default rows rules) ≡ value_for (codes "seg") pairs = first_kept_by_all (codes "seg") rules rows refl ∙ first_of-behind (codes "seg") command topic pairs refl refl in
-    let ring_is : first_of (codes "ring") (fold with_default rows rules) ≡ value_for (codes "ring") pairs = first_kept_by_all (codes "ring") rules rows refl ∙ first_of-behind (codes "ring") command topic pairs refl refl in
-    let cap_is : first_of (codes "cap") (fold with_default rows rules) ≡ value_for (codes "cap") pairs = first_kept_by_all (codes "cap") rules rows refl ∙ first_of-behind (codes "cap") command topic pairs refl refl in
-    let writer_is : first_of (codes "writer") (fold with_default rows rules) ≡ value_for (codes "writer") pairs = first_kept_by_all (codes "writer") rules rows refl ∙ first_of-behind (codes "writer") command topic pairs refl refl in
-    let crash_is : first_of (codes "crash") (fold with_default rows rules) ≡ value_for (codes "crash") pairs = first_kept_by_all (codes "crash") rules rows refl ∙ first_of-behind (codes "crash") command topic pairs refl refl in
-    let list_is : is_set (codes "list") (fold with_default rows rules) ≡ is_switched (codes "list") pairs = switch_kept_by_all (codes "list") rules rows refl ∙ ap is_on (first_of-behind (codes "list") command topic pairs refl refl) in
-    let append_is : is_set (codes "append") (fold with_default rows rules) ≡ is_switched (codes "append") pairs = switch_kept_by_all (codes "append") rules rows refl ∙ ap is_on (first_of-behind (codes "append") command topic pairs refl refl) in
-    let rmgr_is : first_of (codes "rmgr") (fold with_default rows rules) ≡ value_for (codes "rmgr") pairs = first_kept_by_all (codes "rmgr") rules rows refl ∙ first_of-behind (codes "rmgr") command topic pairs refl refl in
-    let xid_is : first_of (codes "xid") (fold with_default rows rules) ≡ value_for (codes "xid") pairs = first_kept_by_all (codes "xid") rules rows refl ∙ first_of-behind (codes "xid") command topic pairs refl refl in
-    let relation_is : first_of (codes "relation") (fold with_default rows rules) ≡ value_for (codes "relation") pairs = first_kept_by_all (codes "relation") rules rows refl ∙ first_of-behind (codes "relation") command topic pairs refl refl in
-    let block_is : first_of (codes "block") (fold with_default rows rules) ≡ value_for (codes "block") pairs = first_kept_by_all (codes "block") rules rows refl ∙ first_of-behind (codes "block") command topic pairs refl refl in
-    let fork_is : first_of (codes "fork") (fold with_default rows rules) ≡ value_for (codes "fork") pairs = first_kept_by_all (codes "fork") rules rows refl ∙ first_of-behind (codes "fork") command topic pairs refl refl in
-    let fullpage_is : is_set (codes "fullpage") (fold with_default rows rules) ≡ is_switched (codes "fullpage") pairs = switch_kept_by_all (codes "fullpage") rules rows refl ∙ ap is_on (first_of-behind (codes "fullpage") command topic pairs refl refl) in
-    let start_is : first_of (codes "start") (fold with_default rows rules) ≡ value_for (codes "start") pairs = first_kept_by_all (codes "start") rules rows refl ∙ first_of-behind (codes "start") command topic pairs refl refl in
-    let end_is : first_of (codes "end") (fold with_default rows rules) ≡ value_for (codes "end") pairs = first_kept_by_all (codes "end") rules rows refl ∙ first_of-behind (codes "end") command topic pairs refl refl in
-    let limit_is : first_of (codes "limit") (fold with_default rows rules) ≡ value_for (codes "limit") pairs = first_kept_by_all (codes "limit") rules rows refl ∙ first_of-behind (codes "limit") command topic pairs refl refl in
-    let quiet_is : is_set (codes "quiet") (fold with_default rows rules) ≡ is_switched (codes "quiet") pairs = switch_kept_by_all (codes "quiet") rules rows refl ∙ ap is_on (first_of-behind (codes "quiet") command topic pairs refl refl) in
-    let stats_is : is_set (codes "stats") (fold with_default rows rules) ≡ is_switched (codes "stats") pairs = switch_kept_by_all (codes "stats") rules rows refl ∙ ap is_on (first_of-behind (codes "stats") command topic pairs refl refl) in
-    let times_is : is_set (codes "times") (fold with_default rows rules) ≡ is_switched (codes "times") pairs = switch_kept_by_all (codes "times") rules rows refl ∙ ap is_on (first_of-behind (codes "times") command topic pairs refl refl) in
-    rw (command_is, topic_is, seg_is, ring_is, cap_is, crash_is, list_is, writer_is, append_is, rmgr_is, xid_is, relation_is, block_is, fork_is, fullpage_is, start_is, end_is, limit_is, quiet_is, stats_is, times_is) refl
+    same_given (fold with_default rows rules) command topic uses
+    (first_kept_by_all (codes "command") rules rows refl ∙ first_of-command command topic pairs)
+    (first_kept_by_all (codes "topic") rules rows refl ∙ first_of-topic command topic uses)
+    (first_kept_by_all (codes "seg") rules rows refl ∙ first_of-behind (codes "seg") command topic pairs refl refl)
+    (first_kept_by_all (codes "ring") rules rows refl ∙ first_of-behind (codes "ring") command topic pairs refl refl)
+    (first_kept_by_all (codes "cap") rules rows refl ∙ first_of-behind (codes "cap") command topic pairs refl refl)
+    (first_kept_by_all (codes "writer") rules rows refl ∙ first_of-behind (codes "writer") command topic pairs refl refl)
+    (first_kept_by_all (codes "crash") rules rows refl ∙ first_of-behind (codes "crash") command topic pairs refl refl)
+    (first_kept_by_all (codes "from") rules rows refl ∙ first_of-behind (codes "from") command topic pairs refl refl)
+    (switch_kept_by_all (codes "list") rules rows refl ∙ ap is_on (first_of-behind (codes "list") command topic pairs refl refl))
+    (switch_kept_by_all (codes "append") rules rows refl ∙ ap is_on (first_of-behind (codes "append") command topic pairs refl refl))
+    (first_kept_by_all (codes "rmgr") rules rows refl ∙ first_of-behind (codes "rmgr") command topic pairs refl refl)
+    (first_kept_by_all (codes "xid") rules rows refl ∙ first_of-behind (codes "xid") command topic pairs refl refl)
+    (first_kept_by_all (codes "relation") rules rows refl ∙ first_of-behind (codes "relation") command topic pairs refl refl)
+    (first_kept_by_all (codes "block") rules rows refl ∙ first_of-behind (codes "block") command topic pairs refl refl)
+    (first_kept_by_all (codes "fork") rules rows refl ∙ first_of-behind (codes "fork") command topic pairs refl refl)
+    (switch_kept_by_all (codes "fullpage") rules rows refl ∙ ap is_on (first_of-behind (codes "fullpage") command topic pairs refl refl))
+    (first_kept_by_all (codes "start") rules rows refl ∙ first_of-behind (codes "start") command topic pairs refl refl)
+    (first_kept_by_all (codes "end") rules rows refl ∙ first_of-behind (codes "end") command topic pairs refl refl)
+    (first_kept_by_all (codes "limit") rules rows refl ∙ first_of-behind (codes "limit") command topic pairs refl refl)
+    (switch_kept_by_all (codes "quiet") rules rows refl ∙ ap is_on (first_of-behind (codes "quiet") command topic pairs refl refl))
+    (switch_kept_by_all (codes "stats") rules rows refl ∙ ap is_on (first_of-behind (codes "stats") command topic pairs refl refl))
+    (switch_kept_by_all (codes "times") rules rows refl ∙ ap is_on (first_of-behind (codes "times") command topic pairs refl refl))
 
 none_of : (a b c d e : Kinds) → a ≡ [] → b ≡ [] → c ≡ [] → d ≡ [] → e ≡ [] → or_else a (or_else b (or_else c (or_else d e))) ≡ []
 none_of a b c d e none_a none_b none_c none_d none_e = rw (none_a, none_b, none_c, none_d) none_e

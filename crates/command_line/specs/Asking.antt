@@ -27,6 +27,7 @@ given_in rows = record {
   writer = first_of (codes "writer") rows;
   append = is_set (codes "append") rows;
   crash = first_of (codes "crash") rows;
+  from = first_of (codes "from") rows;
   rmgr = first_of (codes "rmgr") rows;
   xid = first_of (codes "xid") rows;
   relation = first_of (codes "relation") rows;

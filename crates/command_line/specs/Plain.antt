@@ -14,6 +14,7 @@ pub data Valued : Type 0 where
   cap_option : Valued
   writer_option : Valued
   crash_option : Valued
+  from_option : Valued
   rmgr_option : Valued
   xid_option : Valued
   relation_option : Valued
@@ -39,6 +40,7 @@ option_name ring_option = codes "ring"
 option_name cap_option = codes "cap"
 option_name writer_option = codes "writer"
 option_name crash_option = codes "crash"
+option_name from_option = codes "from"
 option_name rmgr_option = codes "rmgr"
 option_name xid_option = codes "xid"
 option_name relation_option = codes "relation"
@@ -179,6 +181,7 @@ given_by command topic uses =
       writer = value_for (codes "writer") pairs;
       append = is_switched (codes "append") pairs;
       crash = value_for (codes "crash") pairs;
+      from = value_for (codes "from") pairs;
       rmgr = value_for (codes "rmgr") pairs;
       xid = value_for (codes "xid") pairs;
       relation = value_for (codes "relation") pairs;

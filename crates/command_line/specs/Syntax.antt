@@ -26,16 +26,17 @@ abbrev pub word_rules : List Rule
 word_rules = new_rule (codes "command") ∷ new_rule (codes "topic") ∷ []
 
 -- the log's shape: the segments' size, which all commands take, and what `run`, `gen` and `replay`
--- take
+-- take, of which `receive` takes the last
 abbrev pub shape_rules : List Rule
 shape_rules =
     long_rule (codes "seg") ∷ long_rule (codes "ring") ∷ long_rule (codes "cap") ∷ []
 
--- what `run` and `gen` alone take, what `run` alone takes, and what `replay` alone
+-- what `run` and `gen` alone take, what `run` alone takes, what `replay` alone, and what `send`
+-- alone
 abbrev pub script_rules : List Rule
 script_rules =
     long_switch_rule (codes "list") ∷ long_rule (codes "writer") ∷ long_switch_rule (codes "append")
-    ∷ long_rule (codes "crash") ∷ []
+    ∷ long_rule (codes "crash") ∷ long_rule (codes "from") ∷ []
 
 -- what `dump` takes: -r, -x and -w
 abbrev pub record_rules : List Rule

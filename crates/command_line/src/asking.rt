@@ -74,6 +74,7 @@ fn given_words<'a>(matches: &ArgMatches<'a>) -> GivenWords<'a>
         writer: word_of(matches, "writer"),
         append: is_set(matches, "append"),
         crash: word_of(matches, "crash"),
+        from: word_of(matches, "from"),
         rmgr: word_of(matches, "rmgr"),
         xid: word_of(matches, "xid"),
         relation: word_of(matches, "relation"),

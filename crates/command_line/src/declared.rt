@@ -34,15 +34,16 @@ fn with_shape_options<'a>(alloc: Global, command: Command<'a>) -> Result<Command
     with_long_option(alloc, command, "cap")
 }
 
-// The option that `run` and `gen` alone take, those that `run` alone takes, and the one that
-// `replay` alone takes.
+// The option that `run` and `gen` alone take, those that `run` alone takes, and the ones that
+// `replay` and that `send` alone takes.
 fn with_script_options<'a>(alloc: Global, command: Command<'a>) -> Result<Command<'a>, AllocError>
     ensures { IfOk result (λ c. app_of c ≡ fold with_rule (app_of command.entry) script_rules) }
 {
     let command = with_long_switch(alloc, command, "list")?;
     let command = with_long_option(alloc, command, "writer")?;
     let command = with_long_switch(alloc, command, "append")?;
-    with_long_option(alloc, command, "crash")
+    let command = with_long_option(alloc, command, "crash")?;
+    with_long_option(alloc, command, "from")
 }
 
 // The options that say which records are listed.

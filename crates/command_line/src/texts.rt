@@ -83,6 +83,25 @@ pgwal redo [--seg N]
     Example: the blocks that a run of made lines fills
         pgwal gen 10 && pgwal redo
 
+pgwal send [--seg N] [--from LSN]
+    Sends the log in the folder pg_wal to standard output. First all that is there is made
+    durable; then its pages go as frames, one for each, up to where the log ends. Of a log that is
+    damaged nothing is sent.
+    --seg N     the segments' size, as the log was written
+    --from LSN  begins with the page that holds this address, as 0/01002000
+
+pgwal receive [--seg N] [--cap N]
+    Keeps a copy of a log in the folder pg_wal. Takes the frames on standard input that go on
+    where the copy ends, writes their pages, and at the end makes them durable. Prints where the
+    copy ends then, how many frames were taken, how many were old, since the copy had them, how
+    many came behind a gap, and how many were bad: cut, garbled, or of no such log. Frames may be
+    lost, repeated and out of order: what was not taken may be sent again.
+    --seg N    the segments' size, as the log was written
+    --cap N    as for run
+    Frames are neither secret nor signed: who can write to the link can forge a log.
+    Example: a copy of the log on another machine, over ssh
+        pgwal send | ssh standby 'cd /srv/copy && pgwal receive'
+
 pgwal help, -h or --help prints this text, -V or --version the program's version.
 
 Status:
@@ -92,11 +111,13 @@ Status:
     3  a line of the script is refused
     4  the disk failed
     5  the log is full
-    6  the log that is listed, redone or gone on with is damaged, or holds what is not read
-    7  the script could not be read
+    6  the log that is listed, redone, sent or gone on with is damaged, or holds what is not read;
+       or frames came of another log than that of the copy
+    7  the script, or the frames, could not be read
     8  the output could not be written
     9  a log is there already
    10  the log that is to be gone on with has more segments than it may fill
+   11  more than 1048576 frames came
 ";
 
 /// What help prints: what each command does, its options with an example, and the statuses.

@@ -7,7 +7,7 @@ use Rattle.listing_filter.specs.Names.{fork_named}
 use Rattle.listing_filter.specs.declared.Filter.{Filter}
 use Rattle.command_words.specs.Meanings.{block_number_of, cap_segments_of, crash_of, limit_of, line_count_of, lsn_of, manager_of, relation_of, ring_pages_of, segment_size_of, writer_lines_of, xid_of}
 use Rattle.command_words.specs.declared.commands.Command.{Command}
-use Rattle.command_words.specs.declared.commands.Command.TheVariants.{Run, Append, Gen, Dump, Replay, Redo}
+use Rattle.command_words.specs.declared.commands.Command.TheVariants.{Run, Append, Gen, Dump, Replay, Redo, Send, Receive}
 use Rattle.command_words.specs.declared.commands.CrashPick.TheVariants.{New}
 use Rattle.command_words.specs.declared.commands.RunOptions.{RunOptions}
 use Rattle.command_words.specs.declared.commands.ScriptRunOptions.{ScriptRunOptions}
@@ -24,6 +24,7 @@ pub record Given : Type 0 where
   pub writer : Option (List ℕ)
   pub append : Bool
   pub crash : Option (List ℕ)
+  pub from : Option (List ℕ)
   pub rmgr : Option (List ℕ)
   pub xid : Option (List ℕ)
   pub relation : Option (List ℕ)
@@ -53,6 +54,7 @@ given_of words = record {
   writer = text_of words.writer;
   append = words.append;
   crash = text_of words.crash;
+  from = text_of words.from;
   rmgr = text_of words.rmgr;
   xid = text_of words.xid;
   relation = text_of words.relation;
@@ -101,9 +103,12 @@ abbrev pub gives_run : Given → Bool
 gives_run g = is_some g.writer || g.append
 
 -- one that only `run`, `gen` or `replay` takes
+abbrev pub gives_run_form : Given → Bool
+gives_run_form g = is_some g.ring || g.list || gives_run g || is_some g.crash
+
+-- one that only these and `receive` take
 abbrev pub gives_run_gen_or_replay : Given → Bool
-gives_run_gen_or_replay g =
-    is_some g.ring || is_some g.cap || g.list || gives_run g || is_some g.crash
+gives_run_gen_or_replay g = is_some g.cap || gives_run_form g
 
 -- one that says which records are listed
 abbrev pub gives_selection : Given → Bool
@@ -123,6 +128,10 @@ gives_form g = g.quiet || g.stats || g.times
 abbrev pub gives_dump : Given → Bool
 gives_dump g = gives_selection g || gives_extent g || gives_form g
 
+-- one that only `dump` or only `send` takes
+abbrev pub gives_dump_or_send : Given → Bool
+gives_dump_or_send g = gives_dump g || is_some g.from
+
 -- the log's shape, which `run`, `gen` and `replay` share: the segments' size, the ring's pages, and
 -- how many segments it may fill
 abbrev pub shape_of : Given → Option (ℕ × ℕ × ℕ)
@@ -132,9 +141,9 @@ shape_of g = do
   cap_segments ← or_default default_cap_segments cap_segments_of g.cap
   Some (size, ring_pages, cap_segments)
 
--- the options that `run` and `gen` share, where none of `dump` and `replay` is given
+-- the options that `run` and `gen` share, where none of `dump`, `send` and `replay` is given
 abbrev pub run_options_of : Given → Option RunOptions
-run_options_of g = if gives_dump g || is_some g.crash then None else do
+run_options_of g = if gives_dump_or_send g || is_some g.crash then None else do
   shape ← shape_of g
   Some (record {
     geometry = shape.0;
@@ -166,7 +175,7 @@ gen_of g = if gives_run g then None else do
 -- what `replay` is asked to do, with its own options alone; a crash leaves what was written last
 -- where nothing else is given
 abbrev pub replay_of : Given → Option Command
-replay_of g = if is_some g.topic || gives_dump g || g.list || gives_run g then None else do
+replay_of g = if is_some g.topic || gives_dump_or_send g || g.list || gives_run g then None else do
   shape ← shape_of g
   crash ← or_default New crash_of g.crash
   Some (Replay (record {
@@ -217,16 +226,32 @@ filter_of size g = do
 
 -- what `dump` is asked to do, with its own options alone
 abbrev pub dump_of : Given → Option Command
-dump_of g = if is_some g.topic || gives_run_gen_or_replay g then None else do
+dump_of g = if is_some g.topic || gives_run_gen_or_replay g || is_some g.from then None else do
   size ← or_default default_segment_size segment_size_of g.seg
   filter ← filter_of size g
   Some (Dump (record { geometry = size; filter = filter }))
 
 -- what `redo` is asked to do: it takes the segments' size alone
 abbrev pub redo_of : Given → Option Command
-redo_of g = if is_some g.topic || gives_run_gen_or_replay g || gives_dump g then None else do
+redo_of g =
+    if is_some g.topic || gives_run_gen_or_replay g || gives_dump_or_send g then None else do
+      size ← or_default default_segment_size segment_size_of g.seg
+      Some (Redo (record { geometry = size }))
+
+-- what `send` is asked to do: it takes the segments' size, and from where on it sends, which is the
+-- log's start where nothing else is given
+abbrev pub send_of : Given → Option Command
+send_of g = if is_some g.topic || gives_run_gen_or_replay g || gives_dump g then None else do
   size ← or_default default_segment_size segment_size_of g.seg
-  Some (Redo (record { geometry = size }))
+  from ← or_default (record { 0 = size }) lsn_of g.from
+  Some (Send (record { geometry = size; from = from }))
+
+-- what `receive` is asked to do: it takes the segments' size, and how many the log may fill
+abbrev pub receive_of : Given → Option Command
+receive_of g = if is_some g.topic || gives_run_form g || gives_dump_or_send g then None else do
+  size ← or_default default_segment_size segment_size_of g.seg
+  cap_segments ← or_default default_cap_segments cap_segments_of g.cap
+  Some (Receive (record { geometry = size; cap_segments = cap_segments }))
 
 -- by the command's name
 abbrev pub named : Option (List ℕ) → Given → Option Command
@@ -236,11 +261,17 @@ named (Some name) g =
     else (if bytes_eq name (codes "gen") then gen_of g
     else (if bytes_eq name (codes "replay") then replay_of g
     else (if bytes_eq name (codes "dump") then dump_of g
-    else (if bytes_eq name (codes "redo") then redo_of g else None))))
+    else (if bytes_eq name (codes "redo") then redo_of g
+    else (if bytes_eq name (codes "send") then send_of g
+    else (if bytes_eq name (codes "receive") then receive_of g else None))))))
 
 -- the command that the words make, with its own options alone
 abbrev pub command_of : Given → Option Command
 command_of g = named g.command g
+
+-- a log fills 1 to 4096 segments
+abbrev pub IsCapInRange : ℕ → Type 0
+IsCapInRange cap_segments = (1 ≤ cap_segments) × (cap_segments ≤ 4096)
 
 -- a log's ring has 4 to 64 pages, and it fills 1 to 4096 segments
 abbrev pub IsShapeInRange : ℕ → ℕ → Type 0
@@ -263,3 +294,5 @@ IsInRange (Gen options) =
 IsInRange (Replay options) = IsShapeInRange options.ring_pages options.cap_segments
 IsInRange (Dump options) = Unit {0}
 IsInRange (Redo options) = Unit {0}
+IsInRange (Send options) = Unit {0}
+IsInRange (Receive options) = IsCapInRange options.cap_segments

@@ -1,5 +1,6 @@
 use byte_position::Geometry;
 use listing_filter::Filter;
+use wal_types::Lsn;
 
 /// The log of a run, and what the run prints.
 #[derive(Clone, Copy, Debug)]
@@ -70,6 +71,22 @@ pub struct RedoOptions {
     pub geometry: Geometry,
 }
 
+/// What `send` is asked to do.
+#[derive(Clone, Copy, Debug)]
+pub struct SendOptions {
+    pub geometry: Geometry,
+    /// The address that the first frame's page holds: the log's start where nothing else is asked.
+    pub from: Lsn,
+}
+
+/// What `receive` is asked to do.
+#[derive(Clone, Copy, Debug)]
+pub struct ReceiveOptions {
+    pub geometry: Geometry,
+    /// How many segments the standby's log may fill.
+    pub cap_segments: u32,
+}
+
 /// What a command line asks for.
 #[derive(Clone, Copy, Debug)]
 pub enum Command {
@@ -85,4 +102,8 @@ pub enum Command {
     Dump(DumpOptions),
     /// Redoes the log's page images in memory, and lists the blocks that they fill.
     Redo(RedoOptions),
+    /// Sends the log's pages as frames to standard output.
+    Send(SendOptions),
+    /// Keeps a copy of the log whose frames come from standard input.
+    Receive(ReceiveOptions),
 }

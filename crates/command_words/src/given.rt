@@ -1,11 +1,11 @@
 ghost use Rattle.std.specs.Prelude.{◌≡◌, ◌||◌, IfSome, is_some, option_map};
 ghost use Rattle.command_words.specs.Meanings.{block_number_of, cap_segments_of, crash_of, limit_of, line_count_of, lsn_of, manager_of, relation_of, ring_pages_of, segment_size_of, writer_lines_of, xid_of};
 ghost use Rattle.command_words.specs.declared.commands.CrashPick.TheVariants.{New};
-ghost use Rattle.command_words.specs.Given.{IsInRange, IsShapeInRange, command_of, default_segment_size, dump_of, filter_of, gen_of, given_of, gives_dump, gives_extent, gives_form, gives_run, gives_run_gen_or_replay, gives_selection, lacks_relation, or_default, redo_of, replay_of, run_of, run_options_of, settled, shape_of, text_of, with_block_rules, with_extent, with_form, with_record_rules};
+ghost use Rattle.command_words.specs.Given.{IsCapInRange, IsInRange, IsShapeInRange, command_of, default_cap_segments, default_segment_size, dump_of, filter_of, gen_of, given_of, gives_dump, gives_dump_or_send, gives_extent, gives_form, gives_run, gives_run_form, gives_run_gen_or_replay, gives_selection, lacks_relation, or_default, receive_of, redo_of, replay_of, run_of, run_options_of, send_of, settled, shape_of, text_of, with_block_rules, with_extent, with_form, with_record_rules};
 
 use crate::commands::{
-    Command, CrashPick, DumpOptions, GenOptions, RedoOptions, ReplayOptions, RunOptions,
-    ScriptRunOptions,
+    Command, CrashPick, DumpOptions, GenOptions, ReceiveOptions, RedoOptions, ReplayOptions,
+    RunOptions, ScriptRunOptions, SendOptions,
 };
 use crate::meanings::{
     block_number, cap_segments, crash, fork, limit, line_count, lsn, manager, relation, ring_pages,
@@ -42,6 +42,8 @@ pub struct GivenWords<'a> {
     pub append: bool,
     /// Which words of the disk a crash leaves: `replay` alone takes it.
     pub crash: Option<&'a str>,
+    /// The address from which on the log is sent: `send` alone takes it.
+    pub from: Option<&'a str>,
     /// The manager of the records that are listed.
     pub rmgr: Option<&'a str>,
     /// Their transaction.
@@ -81,6 +83,8 @@ impl GivenWords<'_> {
             "replay" => self.replay(),
             "dump" => self.dump(),
             "redo" => self.redo(),
+            "send" => self.send(),
+            "receive" => self.receive(),
             _ => None,
         }
     }
@@ -118,7 +122,7 @@ impl GivenWords<'_> {
         ensures command { result ≡ replay_of (given_of self.now) }
         ensures in_range { IfSome result IsInRange }
     {
-        if self.topic.is_some() || self.gives_dump() || self.list || self.gives_run() {
+        if self.topic.is_some() || self.gives_dump_or_send() || self.list || self.gives_run() {
             return None;
         }
         let (geometry, ring_pages, cap_segments) = self.shape()?;
@@ -135,7 +139,7 @@ impl GivenWords<'_> {
         ensures command { result ≡ dump_of (given_of self.now) }
         ensures in_range { IfSome result IsInRange }
     {
-        if self.topic.is_some() || self.gives_run_gen_or_replay() {
+        if self.topic.is_some() || self.gives_run_gen_or_replay() || self.from.is_some() {
             return None;
         }
         let geometry = self.geometry()?;
@@ -147,11 +151,39 @@ impl GivenWords<'_> {
         ensures command { result ≡ redo_of (given_of self.now) }
         ensures in_range { IfSome result IsInRange }
     {
-        if self.topic.is_some() || self.gives_run_gen_or_replay() || self.gives_dump() {
+        if self.topic.is_some() || self.gives_run_gen_or_replay() || self.gives_dump_or_send() {
             return None;
         }
         let geometry = self.geometry()?;
         Some(Command::Redo(RedoOptions { geometry }))
+    }
+
+    fn send(&self) -> Option<Command>
+        ensures command { result ≡ send_of (given_of self.now) }
+        ensures in_range { IfSome result IsInRange }
+    {
+        if self.topic.is_some() || self.gives_run_gen_or_replay() || self.gives_dump() {
+            return None;
+        }
+        let geometry = self.geometry()?;
+        // Segment 1 begins where segment 0 ends.
+        let from = lsn_or(self.from, Lsn(geometry.segment_size()))?;
+        Some(Command::Send(SendOptions { geometry, from }))
+    }
+
+    fn receive(&self) -> Option<Command>
+        ensures command { result ≡ receive_of (given_of self.now) }
+        ensures in_range { IfSome result IsInRange }
+    {
+        if self.topic.is_some() || self.gives_run_form() || self.gives_dump_or_send() {
+            return None;
+        }
+        let geometry = self.geometry()?;
+        let cap_segments = self.cap_segments()?;
+        Some(Command::Receive(ReceiveOptions {
+            geometry,
+            cap_segments,
+        }))
     }
 
     // Whether an option is given that only `run` takes.
@@ -162,14 +194,17 @@ impl GivenWords<'_> {
     }
 
     // Whether an option is given that only `run`, `gen` or `replay` takes.
+    fn gives_run_form(&self) -> bool
+        ensures { result ≡ gives_run_form (given_of self.now) }
+    {
+        self.ring.is_some() || self.list || self.gives_run() || self.crash.is_some()
+    }
+
+    // Whether one is given that only these and `receive` take.
     fn gives_run_gen_or_replay(&self) -> bool
         ensures { result ≡ gives_run_gen_or_replay (given_of self.now) }
     {
-        self.ring.is_some()
-            || self.cap.is_some()
-            || self.list
-            || self.gives_run()
-            || self.crash.is_some()
+        self.cap.is_some() || self.gives_run_form()
     }
 
     // Whether an option is given that only `dump` takes.
@@ -177,6 +212,13 @@ impl GivenWords<'_> {
         ensures { result ≡ gives_dump (given_of self.now) }
     {
         self.gives_selection() || self.gives_extent() || self.gives_form()
+    }
+
+    // Whether an option is given that only `dump` or only `send` takes.
+    fn gives_dump_or_send(&self) -> bool
+        ensures { result ≡ gives_dump_or_send (given_of self.now) }
+    {
+        self.gives_dump() || self.from.is_some()
     }
 
     // Whether an option is given that says which records are kept.
@@ -205,13 +247,13 @@ impl GivenWords<'_> {
         self.quiet || self.stats || self.times
     }
 
-    // The options that `run` and `gen` share, where none of `dump` and `replay` is given.
+    // The options that `run` and `gen` share, where none of `dump`, `send` and `replay` is given.
     fn run_options(&self) -> Option<RunOptions>
         ensures value { result ≡ run_options_of (given_of self.now) }
         ensures in_range { IfSome result (λ options.
             IsShapeInRange options.ring_pages options.cap_segments) }
     {
-        if self.gives_dump() || self.crash.is_some() {
+        if self.gives_dump_or_send() || self.crash.is_some() {
             return None;
         }
         let (geometry, ring_pages, cap_segments) = self.shape()?;
@@ -230,8 +272,20 @@ impl GivenWords<'_> {
     {
         let geometry = self.geometry()?;
         let ring_pages = settled(self.ring.map(ring_pages))?.unwrap_or(DEFAULT_RING_PAGES);
-        let cap_segments = settled(self.cap.map(cap_segments))?.unwrap_or(DEFAULT_CAP_SEGMENTS);
+        let cap_segments = self.cap_segments()?;
         Some((geometry, ring_pages, cap_segments))
+    }
+
+    // How many segments the log may fill.
+    fn cap_segments(&self) -> Option<u32>
+        ensures value { result ≡ or_default default_cap_segments cap_segments_of
+            (text_of self.now.cap) }
+        ensures in_range { IfSome result (λ cap. IsCapInRange cap) }
+    {
+        match self.cap {
+            Some(word) => cap_segments(word),
+            None => Some(DEFAULT_CAP_SEGMENTS),
+        }
     }
 
     fn geometry(&self) -> Option<Geometry>
@@ -303,10 +357,7 @@ impl GivenWords<'_> {
     fn with_extent(&self, filter: Filter) -> Option<Filter>
         ensures { result ≡ with_extent (given_of self.now) filter }
     {
-        let start = match self.start {
-            Some(word) => lsn(word)?,
-            None => filter.start,
-        };
+        let start = lsn_or(self.start, filter.start)?;
         let end = settled(self.end.map(lsn))?;
         let limit = settled(self.limit.map(limit))?;
         Some(Filter {
@@ -326,6 +377,16 @@ impl GivenWords<'_> {
             times: self.times,
             ..filter
         }
+    }
+}
+
+// The address that a word means, or another one where none is given.
+fn lsn_or(word: Option<&str>, value: Lsn) -> Option<Lsn>
+    ensures { result ≡ or_default value lsn_of (text_of word.entry) }
+{
+    match word {
+        Some(word) => lsn(word),
+        None => Some(value),
     }
 }
 

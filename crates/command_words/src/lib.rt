@@ -6,8 +6,8 @@ mod given;
 mod meanings;
 
 pub use commands::{
-    Command, CrashPick, DumpOptions, GenOptions, RedoOptions, ReplayOptions, RunOptions,
-    ScriptRunOptions,
+    Command, CrashPick, DumpOptions, GenOptions, ReceiveOptions, RedoOptions, ReplayOptions,
+    RunOptions, ScriptRunOptions, SendOptions,
 };
 pub use given::GivenWords;
 pub use meanings::{

@@ -55,10 +55,11 @@ fn segments_are_files_of_a_folder(rt: HostRuntime) -> Result<(), Fail> {
 #[derive(Clone, Copy, Debug)]
 enum Who {
     Writer,
+    Syncer,
     Reader,
 }
 
-// Calls of two objects over one folder.
+// Calls of three objects over one folder.
 static SHARED: &[(Who, Call, Answer)] = &[
     (Who::Writer, Call::Create(1), DONE),
     (Who::Writer, Call::Write(1, 77, 177), DONE),
@@ -91,22 +92,33 @@ static SHARED: &[(Who, Call, Answer)] = &[
     (Who::Reader, Call::Write(1, 0, 5), FAILED),
     (Who::Reader, Call::Sync(1), FAILED),
     (Who::Writer, Call::Read(1, 0), Ok(Some([100; 4]))),
+    // Who may sync besides reading changes nothing else, and has no need of the lock.
+    (Who::Syncer, Call::Read(1, 0), Ok(Some([100; 4]))),
+    (Who::Syncer, Call::Sync(1), DONE),
+    (Who::Syncer, Call::Create(2), FAILED),
+    (Who::Syncer, Call::Write(1, 0, 5), FAILED),
+    (Who::Syncer, Call::Sync(2), FAILED),
+    (Who::Writer, Call::Read(1, 0), Ok(Some([100; 4]))),
 ];
 
-// A file that has the temporary name already is neither followed nor changed nor removed, and no
-// other one is left.
+// Half-made files that a killed writer left are removed; what else has a temporary name is neither
+// followed nor changed nor removed, and no other one is left.
 #[test]
 fn objects_share_a_folder(rt: HostRuntime) -> Result<(), Fail> {
     let alloc = rt.alloc();
     let folder = above(rt, "shared")?;
     fs::create_dir(&rt, folder.as_str())?;
     let taken = format!(in alloc; "{folder}/xlogtemp.7.0")?;
-    fs::write(&rt, taken.as_str(), "mine")?;
+    fs::create_dir(&rt, taken.as_str())?;
+    let left = format!(in alloc; "{folder}/xlogtemp.40.12")?;
+    fs::write(&rt, left.as_str(), "half a segment")?;
     let mut writer = FileDisk::open(rt, alloc, folder.as_str(), 7, Access::Write)?;
-    let mut reader = FileDisk::open(rt, alloc, folder.as_str(), 8, Access::Read)?;
+    let mut syncer = FileDisk::open(rt, alloc, folder.as_str(), 8, Access::Sync)?;
+    let mut reader = FileDisk::open(rt, alloc, folder.as_str(), 9, Access::Read)?;
     for (who, call, answer) in SHARED {
         let told = match who {
             Who::Writer => answer_of(&mut writer, *call),
+            Who::Syncer => answer_of(&mut syncer, *call),
             Who::Reader => answer_of(&mut reader, *call),
         };
         assert_eq!(rt; told, *answer, "{who:?} {call:?}");
@@ -115,7 +127,9 @@ fn objects_share_a_folder(rt: HostRuntime) -> Result<(), Fail> {
         (writer.faults(), reader.faults(), reader.moment()),
         (1, 3, 3)
     );
-    assert_eq!(rt; fs::read_to_string(&rt, taken.as_str())?.as_str(), "mine");
+    assert_eq!(rt; (syncer.faults(), syncer.moment()), (3, 4));
+    assert!(rt; fs::metadata(&rt, taken.as_str())?.is_dir());
+    assert!(rt; !fs::exists(&rt, left.as_str())?);
     assert_eq!(rt; names(rt, folder.as_str())?, (2, true));
     fs::remove_dir_all(&rt, folder.as_str())?;
     Ok(())

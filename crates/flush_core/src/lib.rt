@@ -13,5 +13,5 @@ pub use laws::{
     later_calls_change_no_earlier_image, settled_logs_are_found_again,
     synced_images_hold_what_was_put,
 };
-pub use settling::{SettleFault, count_segments, settle};
+pub use settling::{SettleFault, count_segments, settle, sync_first};
 pub use writer::{DiskFault, Writer};

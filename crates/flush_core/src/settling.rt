@@ -115,8 +115,8 @@ fn settle_segments<D: Disk>(
     sync_listed(disk, geometry, waiting)
 }
 
-// Syncs the segments from 1 to `count`.
-fn sync_first<D: Disk>(disk: &mut D, geometry: Geometry, count: u64) -> Result<(), Failed>
+/// Syncs the segments from 1 to `count`, one behind another.
+pub fn sync_first<D: Disk>(disk: &mut D, geometry: Geometry, count: u64) -> Result<(), Failed>
     requires { count < 2 ^ 64 / geometry }
     ensures ok { OnOk result (MakesCalls (D.tape disk.old) (D.tape disk.new)
         (D.moment disk.old) (D.moment disk.new)

@@ -233,6 +233,7 @@ module _ {first : DiskState} (opening : Opening) (words : List ℕ) (home : Opti
     moment_low = (k.durable).moment_low;
     begun = (k.durable).begun;
     reached = (k.durable).reached;
+    made = (k.durable).made;
     lawful = (k.durable).lawful;
     found_low = (k.durable).found_low;
     found = (k.durable).found;

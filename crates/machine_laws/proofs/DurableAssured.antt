@@ -184,6 +184,7 @@ module _ (first : DiskState) (opening : Opening) (order : List Entry) (flushed m
     moment_low = h.moment_low;
     begun = h.begun;
     reached = h.reached;
+    made = h.made;
     lawful = h.lawful;
     found_low = h.found_low;
     found = h.found;

@@ -17,7 +17,8 @@ use Rattle.wal_core.specs.Durable.{DurabilityHolds, IsLawfulAt}
 use Rattle.wal_core.specs.Sound.{IsSetup}
 use Rattle.wal_core.specs.Steps.{IsNextWrite, MayStep, create, sync, view_behind, write}
 use Rattle.machine_laws.proofs.DurableAssured.{stands_out}
-use Rattle.machine_laws.proofs.DurableViews.{call_keeps, fault_rose, same_written}
+use Rattle.machine_laws.proofs.DurableViews.{call_keeps, fault_rose, same_made, same_written}
+use Rattle.machine_laws.proofs.DurableSegments.{created_in_turn, others_in_turn}
 use Rattle.machine_laws.proofs.DurableCalls.{create_below, create_lawful, on_disk_created, on_disk_synced, on_disk_written, write_below, write_lawful}
 use Rattle.wal_core.proofs.Tapes.{at_suited}
 
@@ -74,6 +75,9 @@ module _ {first : DiskState} (o : Opening) (order : List Entry) (flushed moment 
     low : flushed ≤ writer.written
     low = omega (arith, positions.flushed_low, positions.written_low)
 
+    since : o.moment ≤ writer.moment
+    since = omega (arith, h.begun, h.moment_low)
+
     pub create_keeps : (segment : ℕ) (outcome : CallOutcome) (met : ℕ)
         → MayStep v (create segment outcome)
         → DurabilityHolds first o order flushed moment down home
@@ -86,6 +90,9 @@ module _ {first : DiskState} (o : Opening) (order : List Entry) (flushed moment 
         let next : segment ≡ writer.made + 1 =
         (may.0.2).next ∙ ap (λ (p : Plain). p.made + 1) holds.1 in
         let up : writer.fault ≡ none = ap (λ (p : Plain). p.fault) (sym holds.1) ∙ (may.0.2).up in
+        let behind : segment * size ≤ writer.written = subst
+        (λ (x : Opening × Plain). segment * ((x.0).setup).segment_size ≤ (x.1).written)
+        (λ j. (opening j, holds.1 j)) (may.0.2).behind in
         call_keeps o order flushed moment down home writer parts h low call outcome
         (after_create segment call outcome writer)
         (record {
@@ -97,6 +104,7 @@ module _ {first : DiskState} (o : Opening) (order : List Entry) (flushed moment 
         (λ a under. create_below o.setup setup.size order segment writer.made a next
         (omega (arith, h.reached)))
         (created_reached size segment writer outcome next h.reached)
+        (created_in_turn o writer up since h.counted h.made segment next behind outcome)
         (λ t _ _ d.
         on_disk_created o.setup setup.size order segment writer next h.reached outcome t d)
         up holds.0
@@ -148,6 +156,9 @@ module _ {first : DiskState} (o : Opening) (order : List Entry) (flushed moment 
         (λ a under. write_below o.setup setup.size order segment page upto bytes l step staged a
         (omega (arith, rises, step.copied)))
         (written_reached size segment page upto bytes writer outcome high h.reached)
+        (others_in_turn o writer up since h.counted h.made call
+        (after_write segment upto call outcome writer) (same_made call outcome writer)
+        (written_rises size segment page upto bytes writer outcome rises) outcome refl tt (λ _. tt))
         (λ t _ _ d. on_disk_written o.setup setup.size order segment page upto bytes writer page_is
         step.on_segment alone rises start within outcome t d)
         up holds.0
@@ -177,6 +188,9 @@ module _ {first : DiskState} (o : Opening) (order : List Entry) (flushed moment 
         })
         tt (λ a under. tt)
         (synced_reached size segment writer outcome h.reached)
+        (others_in_turn o writer up since h.counted h.made call (after_sync call outcome writer)
+        (same_made call outcome writer) (omega (arith, same_written call outcome writer)) outcome
+        refl tt (λ _. tt))
         (λ t is suited d. on_disk_synced o.setup setup.size order segment writer waits h.reached t d
         (at_suited first o writer (TapeAssures size IsNowhere (IsLawfulAt o.setup order) o.moment) t is
         suited h.lawful).now

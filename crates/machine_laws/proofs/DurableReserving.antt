@@ -161,6 +161,7 @@ module _ {first : DiskState} (o : Opening) (order : List Entry) (flushed moment 
       moment_low = h.moment_low;
       begun = h.begun;
       reached = h.reached;
+      made = h.made;
       lawful = IfSome_then (tape_from first writer.calls) h.lawful (λ t lawful suited.
           lawful_stays o.setup valid order e chained start opened t (lawful suited));
       found_low = h.found_low;

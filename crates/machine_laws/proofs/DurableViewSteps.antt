@@ -147,6 +147,7 @@ module _ {first : DiskState} (o : Opening) (order : List Entry) (flushed moment 
       moment_low = g.moment_low;
       begun = g.begun;
       reached = g.reached;
+      made = g.made;
       lawful = g.lawful;
       found_low = g.found_low;
       found = g.found;
@@ -240,6 +241,7 @@ module _ {first : DiskState} (o : Opening) (order : List Entry) (flushed moment 
             moment_low = h.moment_low;
             begun = h.begun;
             reached = h.reached;
+            made = h.made;
             lawful = h.lawful;
             found_low = h.found_low;
             found = h.found;
@@ -287,6 +289,7 @@ module _ {first : DiskState} (o : Opening) (order : List Entry) (flushed moment 
             moment_low = omega arith;
             begun = omega (arith, h.begun, h.moment_low);
             reached = h.reached;
+            made = h.made;
             lawful = h.lawful;
             found_low = h.found_low;
             found = h.found;
@@ -343,6 +346,7 @@ module _ {first : DiskState} (o : Opening) (order : List Entry) (flushed moment 
             moment_low = h.moment_low;
             begun = h.begun;
             reached = h.reached;
+            made = h.made;
             lawful = h.lawful;
             found_low = omega (arith, h.found_low, up);
             found = h.found;

@@ -9,7 +9,7 @@ use Rattle.wal_page.specs.Order.{Entry}
 use Rattle.wal_core.specs.Words.{Opening, found_end}
 use Rattle.wal_core.specs.Views.{HasAt, Hold, Out, Joined, Lent, Plain, FlushPromise, Receipts, View, receipts_of}
 use Rattle.wal_core.specs.Moves.{CallOutcome, Done, Failed, with_lent, with_outcome}
-use Rattle.wal_core.specs.Durable.{AreKept, DurabilityHolds, IsToldRightly, IsFirm, IsInHand, IsPromiseKept, IsLawfulAt, IsLogBelow, IsOnDisk, IsPromised}
+use Rattle.wal_core.specs.Durable.{AreKept, DurabilityHolds, IsToldRightly, IsFirm, IsInHand, IsMadeInTurn, IsPromiseKept, IsLawfulAt, IsLogBelow, IsOnDisk, IsPromised}
 use Rattle.wal_core.specs.Steps.{IsCallFault, with_call_on}
 use Rattle.machine_laws.proofs.DurableAssured.{lent_cases, rebuilt, told, view_set}
 use Rattle.machine_laws.proofs.SegmentStates.{All-both}
@@ -23,6 +23,12 @@ pub same_written : (call : Call) (outcome : CallOutcome) (w : Plain)
 same_written call Done w = refl
 same_written call (Failed faults none) w = refl
 same_written call (Failed faults (some made)) w = refl
+
+pub same_made : (call : Call) (outcome : CallOutcome) (w : Plain)
+    → (with_outcome call outcome w).made ≡ w.made
+same_made call Done w = refl
+same_made call (Failed faults none) w = refl
+same_made call (Failed faults (some made)) w = refl
 
 -- a fault that is told is one of this call
 pub fault_rose : (v : View) (call : Call) (outcome : CallOutcome) (w : Plain) → w.fault ≡ none
@@ -125,6 +131,7 @@ module _ {first : DiskState} (o : Opening) (order : List Entry) (flushed moment 
   }
 
   module _ (reached : n.written ≤ n.made * (o.setup).segment_size + (o.setup).segment_size)
+      (made : IfSome n.calls (IsMadeInTurn o n))
       (disk : (t : Tape) → tape_from first w.calls ≡ Some t → BeganSuited o t → IsOnDisk o.setup order w t
       → IsOnDisk o.setup order n (tape_behind outcome call t))
       (up : w.fault ≡ none) (away : home ≡ none)
@@ -136,6 +143,7 @@ module _ {first : DiskState} (o : Opening) (order : List Entry) (flushed moment 
       moment_low = omega (arith, h.moment_low, moment_rises call outcome w, is.moment);
       begun = h.begun;
       reached = reached;
+      made = made;
       lawful = suited_behind (TapeAssures size IsNowhere (IsLawfulAt o.setup order) o.moment)
           (λ t there suited. TapeAssures-behind size IsNowhere
           (IsLawfulAt o.setup order) call outcome

@@ -35,6 +35,7 @@ pub mod PositionKept
 pub mod PositionCalls
 pub mod WholeMachine
 pub mod DurableTapes
+pub mod DurableSegments
 pub mod DurableGrowth
 pub mod Setters
 pub mod DurableAssured

@@ -50,6 +50,7 @@ use Rattle.wal_core.specs.Async.{AsyncHolds}
 use Rattle.wal_core.specs.Aligned.{AlignmentHolds, LearnsAligned}
 use Rattle.wal_core.specs.Sound.{IsSetup, IsSound}
 use Rattle.wal_core.proofs.Tapes.{counted_tape}
+use Rattle.machine_laws.proofs.DurableSegments.{found_in_turn}
 
 -- what holds of the one element of a list holds of each
 only_one : {A : Type 0} (x : A) (P : ℕ → A → Type 0) → P 0 x → (id : ℕ) (y : A)
@@ -453,6 +454,8 @@ module _ (opening : Opening) (words : List ℕ) (writer : Plain) (log : IsOpenab
       reached = (let written = begins.written in let made = begins.made in let high = log.reaches in
           let same : writer.made * setup.segment_size ≡ opening.made * setup.segment_size
           = ap (λ (n : ℕ). n * setup.segment_size) made in omega arith);
+      made = found_in_turn opening writer begins.made (IfSome_then writer.calls begins.counted
+          (λ calls count. sym begins.moment_is ∙ count));
       lawful = IfSome_then (tape_from first writer.calls) counted (λ t count suited.
           TapeAssures-now setup.segment_size IsNowhere (IsLawfulAt setup found) opening.moment t
           (sym begins.moment_is ∙ count)

@@ -50,11 +50,12 @@ fn words(rt: HostRuntime) -> Result<Vec<String>, AllocError> {
     Ok(words)
 }
 
-// What the folder of segment files is opened for: commands that list a log, and those that touch no
-// file, lock nobody out.
+// What the folder of segment files is opened for: commands that list or send a log, and those that
+// touch no file, lock nobody out.
 fn access_for(request: &Request) -> Access {
     match request {
         Request::Command(Command::Dump(_) | Command::Redo(_) | Command::Replay(_)) => Access::Read,
+        Request::Command(Command::Send(_)) => Access::Sync,
         Request::Command(_) => Access::Write,
         _ => Access::Read,
     }

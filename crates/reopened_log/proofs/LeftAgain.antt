@@ -4,7 +4,8 @@ use Rattle.std.specs.Prelude.{IfSome, slice_get}
 use Rattle.std.specs.Option.{IsSomeAnd}
 use Rattle.byte_position.specs.Geometry.{IsSegmentSize, pages_of}
 use Rattle.segment_disk.specs.declared.disk.Call.{Call}
-use Rattle.segment_disk.specs.Assured.{SegmentAssures, StateAssures}
+use Rattle.byte_position.proofs.SegmentSizes.{segment_size_in_pages}
+use Rattle.segment_disk.specs.Assured.{IsNowhere, SegmentAssures, StateAssures}
 use Rattle.segment_disk.specs.DiskImage.{IsWritten, LeftAt, MayLeave, MayLeaveSegment, image_as_read, when_done, word_of}
 use Rattle.segment_disk.specs.Tape.{DiskState, Segment, Tape, after_call, after_writes, page_as_read, state_at, state_now}
 use Rattle.wal_page.specs.Order.{Entry}
@@ -18,6 +19,7 @@ use Rattle.written_log.specs.SettledFound.{IsReadOrLost, MayOnlyLose, NothingWai
 use Rattle.written_log.proofs.SettledFound.{crashed_disks_may_hold_log, crashed_logs_are_found_again}
 use Rattle.reopened_log.specs.Again.{CrashedLogsWereLeft, CrashedSettlingsWereLeft, IsLeftByCrash}
 use Rattle.reopened_log.specs.WasLeft.{WasLeft}
+use Rattle.reopened_log.proofs.MadeSegments.{are_only, are_there, made_segments}
 use Rattle.reopened_log.proofs.Surviving.{old}
 
 -- ---- nothing waits
@@ -77,17 +79,21 @@ was_left size sysid count order t crashed moment found has only low crash = reco
 }
 
 pub crashed_logs_were_left : CrashedLogsWereLeft
-crashed_logs_were_left size sysid since moment order t crashed valid known narrow chained bounded assures later crash segments none_torn =
+crashed_logs_were_left size sysid since moment order t crashed valid known narrow chained bounded assures made later crash none_torn =
     let state = state_now crashed in
     let settled = decoding_is_settled size (image_as_read state) size None valid in
-    let lawful = crashed_disks_may_hold_log size sysid segments.count since moment order state t assures later crash.quiet crash.leaves segments.there in
-    let has : HasFound size sysid segments.count order state settled.0 = record {
+    let segments = made_segments size since moment t (image_as_read state) made later crash.leaves in
+    let some : 0 < pages_of size = omega (arith, (segment_size_in_pages size valid).1) in
+    let there = are_there size IsNowhere (IsZeroOrLogWord size sysid order) some segments.0 state segments.2 (assures.left moment later (image_as_read state) crash.leaves) in
+    let only = are_only size IsNowhere (IsZeroOrLogWord size sysid order) some segments.0 state segments.2 in
+    let lawful = crashed_disks_may_hold_log size sysid segments.0 since moment order state t assures later crash.quiet crash.leaves there in
+    let has : HasFound size sysid segments.0 order state settled.0 = record {
       may = record { valid = valid; known = known; narrow = narrow; chained = chained; bounded = bounded; lawful = lawful };
       none_torn = none_torn;
       answer = settled.1;
       decodes = settled.2;
     } in
-    (settled.0, was_left size sysid segments.count order t crashed moment settled.0 has segments.only segments.low crash)
+    (settled.0, was_left size sysid segments.0 order t crashed moment settled.0 has only (omega (arith, segments.1, made.low)) crash)
 
 pub crashed_settlings_were_left : CrashedSettlingsWereLeft
 crashed_settlings_were_left opening handed moment t began crashed found r since crash none_torn =

@@ -1,38 +1,45 @@
 -- What a crash leaves of a run is a disk that this program left.
-use Rattle.std.proofs.Common.{◌≡◌, ◌≢◌, ℕ, ◌*◌, ◌^◌, ◌<◌, ◌≤◌, List, ◌++◌, length, take, Some, inl, inr, sym, ap, subst, ◌∙◌, arith}
+use Rattle.std.proofs.Common.{◌≡◌, ◌≢◌, ℕ, ◌+◌, ◌*◌, ◌/◌, ◌^◌, ◌<◌, ◌≤◌, ◌⊎◌, List, ◌++◌, length, take, Option, Some, None, IfSome, inl, inr, sym, ap, subst, ◌∙◌, arith}
+use Rattle.std.specs.Prelude.{IsSome}
 use Rattle.std.proofs.lemmas.Bool.{cases_lt}
-use Rattle.std.proofs.Math.Nat.{mul-le-mul_right}
+use Rattle.std.proofs.Math.Nat.{le-div_iff_mul-le, mul-le-mul_right}
 use Rattle.std.proofs.Math.Seq.{take-append_seam}
 use mathlib.Core.Option.{none, some, some-injective}
+use Rattle.byte_position.specs.Geometry.{pages_of}
 use Rattle.byte_position.specs.Position.{end_address_of, first_position}
 use Rattle.byte_position.proofs.EndAddresses.{end_address_of-le_address_of}
 use Rattle.byte_position.proofs.Rising.{address_of-bound, position_of-le_self}
-use Rattle.byte_position.proofs.SegmentSizes.{segment_size_tests}
+use Rattle.byte_position.proofs.SegmentSizes.{segment_size_in_pages, segment_size_tests}
 use Rattle.byte_position.proofs.Segments.{first_position-usable}
 use Rattle.segment_disk.specs.declared.disk.Call.{Call}
-use Rattle.segment_disk.specs.Assured.{IsNowhere, TapeAssures}
-use Rattle.segment_disk.specs.Tape.{Tape, after_calls, state_at, state_now}
+use Rattle.segment_disk.specs.Assured.{IsNowhere, SegmentAssures, TapeAssures}
+use Rattle.segment_disk.specs.DiskImage.{image_as_read}
+use Rattle.segment_disk.specs.Tape.{DiskState, Segment, Tape, after_calls, page_of_segment, state_at, state_now}
 use Rattle.wal_page.specs.Order.{Entry, end_position}
-use Rattle.flush_core.specs.SettledLog.{IsZeroOrLogWord}
+use Rattle.flush_core.specs.Settled.{AreThere}
+use Rattle.flush_core.specs.SettledLog.{AreOnly, IsZeroOrLogWord}
 use Rattle.wal_core.specs.declared.setup.Setup.{Setup}
-use Rattle.wal_core.specs.Durable.{IsLawfulAt}
+use Rattle.wal_core.specs.Durable.{IsLawfulAt, IsMadeInTurn}
 use Rattle.wal_core.specs.Locked.{HasWriteTurn, IsWriteTurn, StandsTo}
 use Rattle.wal_core.specs.Sound.{IsSetup}
-use Rattle.wal_core.specs.Suited.{BeganSuited, IsSuited, tape_from}
+use Rattle.wal_core.specs.Suited.{BeganSuited, IsLogAt, IsSuited, tape_from}
 use Rattle.wal_core.specs.Views.{Hold, Idle, Out, Plain, Turned}
 use Rattle.wal_core.specs.Words.{Opening, log_limit}
 use Rattle.wal_core.proofs.Tapes.{at_suited}
 use Rattle.wal_script.specs.Asked.{AskedLine}
 use Rattle.told_lines.specs.declared.told.Told.{Told}
+use Rattle.told_lines.specs.Told.{order_from}
 use Rattle.run_laws.specs.Assured.{RunAssures, TapeGoesOn, order_told}
-use Rattle.reopened_log.specs.Again.{CrashedRunsWereLeft}
-use Rattle.reopened_log.proofs.LeftAgain.{crashed_logs_were_left}
-use Rattle.reopened_log.proofs.Surviving.{some_tape}
+use Rattle.reopened_log.specs.Again.{CrashedReopenedRunsWereLeft, CrashedRunsWereLeft, HasMadeInTurn}
+use Rattle.reopened_log.proofs.LeftAgain.{crashed_logs_were_left, crashed_settlings_were_left}
+use Rattle.reopened_log.proofs.MadeSegments.{first_page}
+use Rattle.reopened_log.proofs.SuitedDisks.{only_began, reopened_logs_are_suited}
+use Rattle.reopened_log.proofs.Surviving.{calls_counted, left_before, some_tape}
 
 -- ---- sizes
 
 -- a log ends far below the last address that is read
-ends_low : (setup : Setup) → IsSetup setup → (position : ℕ) → position ≤ log_limit setup → end_address_of setup.segment_size position ≤ 2 ^ 60
+ends_low : (setup : Setup) → IsSetup setup → (position : ℕ) → position ≤ log_limit setup → end_address_of setup.segment_size position + 2 * setup.segment_size ≤ 2 ^ 60
 ends_low setup is position within =
     let size = setup.segment_size in
     let first = first_position size in
@@ -41,6 +48,26 @@ ends_low setup is position within =
     let whole = ap (λ (n : ℕ). setup.cap_segments * n) (first_position-usable size is.size) in
     let few : setup.cap_segments * first ≤ 4096 * first = mul-le-mul_right first is.cap_high in
     omega (arith, within, below, most, whole, few, end_address_of-le_address_of size is.size position, address_of-bound size is.size position)
+
+-- so do the segments that are made
+made_low : (setup : Setup) → IsSetup setup → (position made last written : ℕ)
+    → position ≤ log_limit setup → made ≤ setup.cap_segments
+    → written ≤ end_address_of setup.segment_size position
+    → (last ≡ made) ⊎ (last * setup.segment_size ≤ written)
+    → last + 1 < 2 ^ 60 / setup.segment_size
+made_low setup is position made last written within few low reached =
+    let size = setup.segment_size in
+    let tests = (segment_size_tests size is.size).2 in
+    let positive : 0 < size = omega (arith, (segment_size_tests size is.size).1) in
+    let far : (last + 2) * size ≤ 2 ^ 60 = elim reached [
+      | inl same ↦
+          (let more : last + 2 ≤ 4098 = omega (arith, same, few, is.cap_high) in
+          let scaled : (last + 2) * size ≤ 4098 * size = mul-le-mul_right size more in
+          omega (arith, scaled, tests))
+      | inr below ↦ omega (arith, below, low, ends_low setup is position within)
+    ] in
+    let counted : last + 2 ≤ 2 ^ 60 / size = (le-div_iff_mul-le positive).1 far in
+    omega (arith, counted)
 
 some_id : (n : ℕ) → n ≢ 0 → 0 < n
 some_id n other = elim (cases_lt 0 n) [ inl lt ↦ lt | inr nothing ↦ absurd (other (omega (arith, nothing))) ]
@@ -62,7 +89,21 @@ same_writer turn home writer writers is = some-injective home writer (elim (case
   | inl taken ↦ (let holder = is.held (λ nothing. omega (arith, taken, nothing)) in home_of turn is.holder home writer is.holder holder.0.0 holder.0.1 holder.2 (is.each is.holder holder.0 holder.1))
 ])
 
+told_calls : (P : List Call → Type 0) (first : DiskState) (o : Option (List Call)) (t : Tape)
+    → tape_from first o ≡ Some t → IfSome o P → P t.calls
+told_calls P first None t is holds = absurd (cc is)
+told_calls P first (Some calls) t is holds =
+    subst P (ap (λ (t : Tape). t.calls)
+    (some_tape (record { at_first = first; calls = calls }) t is)) holds
+
 -- ---- what the disk held at the opening
+
+page_there : (size segment : ℕ) (IsThere : ℕ → Type 0) (Fits : ℕ → ℕ → List ℕ → Type 0)
+    (s : Option Segment) → 0 < pages_of size → SegmentAssures size IsThere Fits segment s
+    → IsThere segment → IsSome (page_of_segment s 0)
+page_there size segment IsThere Fits None positive assures there = absurd (assures there)
+page_there size segment IsThere Fits (Some s) positive assures there =
+    first_page s (omega (arith, positive, assures.0))
 
 module _ (opening : Opening) (began now : Tape) (goes_on : TapeGoesOn (Some began) (Some now)) (counted : opening.moment ≡ length began.calls) where
   state_then : state_at now opening.moment ≡ state_now began
@@ -74,6 +115,14 @@ module _ (opening : Opening) (began now : Tape) (goes_on : TapeGoesOn (Some bega
 
   began_suited : IsSuited opening (state_now began) → BeganSuited opening now
   began_suited suited = subst (IsSuited opening) (sym state_then) suited
+
+  module _ (positive : 0 < pages_of (opening.setup).segment_size)
+      (suited : IsSuited opening (state_now began)) where
+    began_there : AreThere (state_at now opening.moment) opening.made
+    began_there = subst (λ (state : DiskState). AreThere state opening.made) (sym state_then)
+        (λ segment among. page_there (opening.setup).segment_size segment
+        (λ (n : ℕ). (1 ≤ n) × (n ≤ opening.made)) (IsLogAt opening.setup opening.found)
+        (state_now began segment) positive (suited segment) among)
 
 -- ---- a run
 
@@ -88,7 +137,7 @@ module _ (opening : Opening) (last faults : ℕ) (began now : Tape) (script : Li
   setup_is = run.machine.sound.setup_is
 
   bounded : end_address_of (opening.setup).segment_size (end_position (opening.setup).segment_size (order_told opening script lists)) ≤ 2 ^ 60
-  bounded = subst (λ (es : List Entry). end_address_of size (end_position size es) ≤ 2 ^ 60) run.machine.order_is (ends_low opening.setup setup_is (end_position size run.machine.sound.order) run.machine.sound.reserved.within)
+  bounded = subst (λ (es : List Entry). end_address_of size (end_position size es) ≤ 2 ^ 60) run.machine.order_is (omega (arith, ends_low opening.setup setup_is (end_position size run.machine.sound.order) run.machine.sound.reserved.within))
 
   home_is : run.machine.writer ≡ run.machine.sound.writer
   home_is = same_writer _ run.machine.writer run.machine.sound.writer _ run.machine.sound.locks.writing
@@ -100,8 +149,50 @@ module _ (opening : Opening) (last faults : ℕ) (began now : Tape) (script : Li
   assures suited = subst (λ (es : List Entry). TapeAssures size IsNowhere (IsZeroOrLogWord size sysid es) opening.moment now) run.machine.order_is
       (at_suited run.machine.first opening run.machine.sound.writer (TapeAssures size IsNowhere (IsLawfulAt opening.setup run.machine.sound.order) opening.moment) now writer_tape suited run.machine.sound.durable.lawful)
 
+  made : IsMadeInTurn opening run.machine.sound.writer now.calls
+  made = told_calls (IsMadeInTurn opening run.machine.sound.writer) run.machine.first
+      (run.machine.sound.writer).calls now writer_tape run.machine.sound.durable.made
+
+  module _ (suited : IsSuited opening (state_now began))
+      (only : AreOnly opening.made (state_now began))
+      (few : opening.made ≤ (opening.setup).cap_segments)
+      (counted : opening.moment ≡ length began.calls) where
+    made_in_turn : HasMadeInTurn (opening.setup).segment_size opening.moment now
+    made_in_turn =
+        let positive : 0 < pages_of size =
+        omega (arith, (segment_size_in_pages size setup_is.size).1) in
+        record {
+          first = opening.made;
+          there = began_there opening began now run.goes_on counted positive suited;
+          only = subst (AreOnly opening.made)
+              (sym (state_then opening began now run.goes_on counted)) only;
+          last = made.last;
+          in_turn = made.in_turn;
+          low = made_low opening.setup setup_is (end_position size run.machine.sound.order)
+              opening.made made.last (run.machine.sound.writer).written
+              run.machine.sound.reserved.within few run.machine.sound.positions.reserved made.low;
+        }
+
 pub crashed_runs_were_left : CrashedRunsWereLeft
-crashed_runs_were_left opening moment last faults began now crashed script lists run suited counted narrow since crash segments none_torn =
+crashed_runs_were_left opening moment last faults began now crashed script lists run suited only few counted narrow since crash none_torn =
     let is = setup_is opening last faults began now script lists run in
     crashed_logs_were_left (opening.setup).segment_size (opening.setup).sysid opening.moment moment (order_told opening script lists) now crashed is.size (some_id (opening.setup).sysid is.named) narrow run.gapless (bounded opening last faults began now script lists run)
-    (assures opening last faults began now script lists run (began_suited opening began now run.goes_on counted suited)) since crash segments none_torn
+    (assures opening last faults began now script lists run (began_suited opening began now run.goes_on counted suited)) (made_in_turn opening last faults began now script lists run suited only few counted) since crash none_torn
+
+pub crashed_reopened_runs_were_left : CrashedReopenedRunsWereLeft
+crashed_reopened_runs_were_left opening handed moment last faults t began now crashed found script lists r run since crash old_torn none_torn =
+    elim (cases_lt moment opening.moment) [
+      | inl early ↦ crashed_settlings_were_left opening handed moment t began crashed found r since
+          (record {
+            quiet = crash.quiet;
+            leaves = left_before opening handed t began found r now
+                (order_from (opening.setup).segment_size 1 script lists) script lists last
+                run.goes_on run.moments moment (image_as_read (state_now crashed)) since
+                crash.leaves early;
+          }) old_torn
+      | inr later ↦ crashed_runs_were_left opening moment last faults began now crashed script lists
+          run (reopened_logs_are_suited opening handed t began found r)
+          (only_began opening handed t began found r) r.openable.made_within
+          (calls_counted opening handed t began found r) r.left.has_found.may.narrow later crash
+          none_torn
+    ]

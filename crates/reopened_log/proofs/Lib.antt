@@ -2,8 +2,10 @@ pub mod FirstEntries
 pub mod SuitedDisks
 pub mod EarlyMoments
 pub mod Surviving
+pub mod MadeSegments
 pub mod LeftAgain
 pub mod LeftRuns
+pub mod EmptyDisks
 pub mod OwnRows
 pub mod OwnPages
 pub mod OwnHeadersRead

@@ -1,5 +1,5 @@
 -- A disk that was left by this program, and settled, is one on which its log may go on.
-use Rattle.std.proofs.Common.{◌≡◌, ℕ, ◌+◌, ◌*◌, ◌/◌, ◌^◌, ◌<◌, List, length, take, Option, Some, None, inl, inr, sym, ap, subst, ◌∙◌, arith}
+use Rattle.std.proofs.Common.{◌≡◌, ℕ, ◌+◌, ◌*◌, ◌/◌, ◌^◌, ◌<◌, List, length, take, Option, Some, None, inl, inr, refl, sym, ap, subst, ◌∙◌, arith}
 use Rattle.std.specs.Prelude.{IsSome}
 use Rattle.std.specs.Int.{w64, to_le_bytes}
 use Rattle.std.proofs.lemmas.Bool.{cases_lt, cond-true, lt-ltb}
@@ -8,10 +8,12 @@ use Rattle.byte_position.specs.Geometry.{IsSegmentSize, pages_of}
 use Rattle.byte_position.specs.Position.{end_address_of}
 use Rattle.byte_position.proofs.SegmentSizes.{segment_size_in_pages}
 use Rattle.segment_disk.specs.Assured.{SegmentAssures, StateAssures}
+use Rattle.segment_disk.specs.DiskImage.{word_of}
 use Rattle.segment_disk.specs.Tape.{DiskState, Segment, Tape, page_as_read, page_of_segment, state_now}
 use Rattle.wal_page.specs.Order.{Entry, end_position}
-use Rattle.flush_core.specs.Settled.{IsAmong, KeepsOld, KeepsRead, StaysSettled}
+use Rattle.flush_core.specs.Settled.{IsAmong, IsOldOrZero, KeepsOld, KeepsRead, StaysSettled}
 use Rattle.flush_core.specs.SettledLog.{AreOnly, IsZeroOrLogWord, ReadsAsLog}
+use Rattle.flush_core.proofs.SettledLeft.{from_number}
 use Rattle.flush_core.proofs.SettledLogs.{settled_logs_are_whole}
 use Rattle.wal_reader.specs.declared.found.FoundRecord.{FoundRecord}
 use Rattle.written_log.specs.FoundLog.{ReadsAsFound, end_behind}
@@ -91,6 +93,24 @@ module _ (opening : Opening) (handed : ℕ) (t began : Tape) (found : List Found
 
   stays_settled : StaysSettled (opening.setup).segment_size (state_now t) opening.made (found_end opening) opening.moment began
   stays_settled = r.settled.settled r.left.whole
+
+  -- no segment is there behind the settling that was not before
+  still_none : (segment : ℕ) (s : Option Segment) → state_now t segment ≡ None
+      → SegmentAssures (opening.setup).segment_size (IsAmong opening.made)
+      (IsOldOrZero (opening.setup).segment_size (state_now t) (found_end opening)) segment s
+      → s ≡ None
+  still_none segment None none fits = refl
+  still_none segment (Some s) none fits =
+      let some : 0 < pages_of size = omega (arith, (segment_size_in_pages size valid).1) in
+      let was = from_number size (found_end opening) valid segment 0 some
+      (λ d. IsSome (before d)) (fits.1 0 0 some (omega arith) (word_of (s.durable 0) 0) (inl refl)).0
+      in
+      let gone : IsSome {T = Segment} None = subst (λ (o : Option Segment). IsSome o) none was in
+      absurd (cc gone)
+
+  pub only_began : AreOnly opening.made (state_now began)
+  only_began segment apart = still_none segment (state_now began segment)
+      (only_made segment apart) (keeps_old.now segment)
 
 pub reopened_logs_are_suited : ReopenedLogsAreSuited
 reopened_logs_are_suited opening handed t began found r =

@@ -92,7 +92,7 @@ module _ (opening : Opening) (handed : ℕ) (t began : Tape) (found : List Found
 
   module _ (now : Tape) (order : List Entry) (script : List (List AskedLine)) (lists : List (List Told)) (last : ℕ) (goes_on : TapeGoesOn (Some began) (Some now)) (rises : EachRises opening.moment script lists last)
       (moment : ℕ) (image : DiskImage) (since : handed ≤ moment) (leaves : LeftAt now moment image) where
-    left_before : moment < opening.moment → LeftAt began moment image
+    pub left_before : moment < opening.moment → LeftAt began moment image
     left_before early =
         let is : now ≡ record began { calls = began.calls ++ goes_on.0 } = some_tape now (record began { calls = began.calls ++ goes_on.0 }) goes_on.1 in
         LeftAt-before began goes_on.0 moment image (omega (arith, early, calls_counted)) (subst (λ (d : Tape). LeftAt d moment image) is leaves)

@@ -1,4 +1,5 @@
 pub mod WasLeft
+pub mod Empty
 pub mod FoundFirst
 pub mod Reopened
 pub mod Surviving

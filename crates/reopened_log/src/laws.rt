@@ -1,4 +1,5 @@
-ghost use Rattle.reopened_log.specs.Again.{CrashedLogsWereLeft, CrashedRunsWereLeft, CrashedSettlingsWereLeft};
+ghost use Rattle.reopened_log.specs.Again.{CrashedLogsWereLeft, CrashedReopenedRunsWereLeft, CrashedRunsWereLeft, CrashedSettlingsWereLeft};
+ghost use Rattle.reopened_log.specs.Empty.{EmptyDisksWereLeft};
 ghost use Rattle.reopened_log.specs.FoundFirst.{FoundEntriesComeFirst, LeftLogsAreRead};
 ghost use Rattle.reopened_log.specs.Own.{LeftLogsAreNotForeign, LeftLogsAreOwn};
 ghost use Rattle.reopened_log.specs.Reopened.{ReopenedLogsAreSuited};
@@ -30,6 +31,12 @@ pub fn crashed_logs_were_left()
     ensures written { CrashedLogsWereLeft }
     ensures settled { CrashedSettlingsWereLeft }
     ensures run { CrashedRunsWereLeft }
+    ensures reopened { CrashedReopenedRunsWereLeft }
+{}
+
+/// A law: a disk that holds nothing counts as left by this program, with the log of no entries.
+pub fn empty_disks_were_left()
+    ensures { EmptyDisksWereLeft }
 {}
 
 /// A law: what stands behind the records of a disk that this program left it may have left; so its

@@ -19,6 +19,7 @@ fn named<'a>(command: &'a str, topic: Option<&'a str>) -> GivenWords<'a> {
         writer: None,
         append: false,
         crash: None,
+        from: None,
         rmgr: None,
         xid: None,
         relation: None,

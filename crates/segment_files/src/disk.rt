@@ -4,7 +4,7 @@ use crate::lock::{Access, Lockable};
 use crate::segments::SegmentFiles;
 use byte_position::Geometry;
 use segment_disk::{Disk, Failed, Memory, count_fault};
-use std::alloc::Global;
+use std::alloc::{Alloc, Global};
 use std::fs::Files;
 use std::os::unix::fs::FileExt;
 
@@ -20,7 +20,7 @@ pub struct FileDisk<R: Files> {
     faults: u64,
 }
 
-impl<R: Files + Drop> FileDisk<R>
+impl<R: Files + Alloc + Clone + Drop> FileDisk<R>
 where
     R::File: FileExt + Lockable,
 {
@@ -46,7 +46,7 @@ where
     }
 }
 
-impl<R: Files> Disk for FileDisk<R>
+impl<R: Files + Alloc + Clone + Drop> Disk for FileDisk<R>
 where
     R::File: FileExt + Lockable,
 {

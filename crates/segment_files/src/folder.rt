@@ -2,7 +2,7 @@ ghost use Rattle.std.specs.Prelude.{◌≡◌, ◌<◌, ◌/◌, ◌^◌, IsFals
 
 use crate::lock::{Access, Lockable};
 use byte_position::Geometry;
-use std::alloc::{AllocError, Global};
+use std::alloc::{Alloc, AllocError, Global};
 use std::fs::{DirBuilder, Files, OpenFile, OpenOptions};
 use std::io::{ErrorKind, Write};
 use std::os::unix::fs::{DirBuilderExt, FileTypeExt, OpenOptionsExt};
@@ -50,6 +50,22 @@ pub struct Folder<R: Files> {
     has_failed: bool,
 }
 
+// Whether a name is one under which segments are made: `xlogtemp.PROCESS.NUMBER`. PostgreSQL's own
+// have one number.
+fn is_temporary(name: &str) -> bool {
+    let Some(numbers) = name.strip_prefix("xlogtemp.") else {
+        return false;
+    };
+    match numbers.split_once('.') {
+        Some((process, number)) => is_number(process) && is_number(number),
+        None => false,
+    }
+}
+
+fn is_number(digits: &str) -> bool {
+    !digits.is_empty() && digits.bytes().all(|digit| digit.is_ascii_digit())
+}
+
 fn join(path: &mut String, folder: &str, name: &str) -> Result<(), AllocError> {
     path.clear();
     path.push_str(folder)?;
@@ -84,7 +100,7 @@ impl<R: Files + Drop> Folder<R> {
     }
 }
 
-impl<R: Files> Folder<R>
+impl<R: Files + Alloc + Clone + Drop> Folder<R>
 where
     R::File: Lockable,
 {
@@ -112,8 +128,19 @@ where
         ensures stays { IsTrue self.old.has_failed → IsTrue self.new.has_failed }
     {
         match self.access {
-            Access::Read => Err(ErrorKind::PermissionDenied.into()),
+            Access::Read | Access::Sync => Err(ErrorKind::PermissionDenied.into()),
             Access::Write => self.check(),
+        }
+    }
+
+    /// Comes before each sync of a segment, and fails for who reads alone.
+    pub fn check_sync(&mut self) -> io::Result<()>
+        ensures fails { OnOk result (IsFalse self.old.has_failed) }
+        ensures stays { IsTrue self.old.has_failed → IsTrue self.new.has_failed }
+    {
+        match self.access {
+            Access::Read => Err(ErrorKind::PermissionDenied.into()),
+            Access::Sync | Access::Write => self.check(),
         }
     }
 
@@ -128,6 +155,22 @@ where
         let folder = fs::open(&self.rt, self.path.as_str())?;
         folder.try_lock()?;
         self.locked = Some(folder);
+        // They cost room and nothing else, so it is no fault where they cannot be removed.
+        let _ = self.remove_leftovers();
+        Ok(())
+    }
+
+    // Removes the files of temporary names: whoever made them was killed before they had a
+    // segment's name, since who makes one has the folder locked, as this writer has now.
+    fn remove_leftovers(&mut self) -> io::Result<()>
+        ensures stays { IsTrue self.old.has_failed → IsTrue self.new.has_failed }
+    {
+        for entry in fs::read_dir(&self.rt, self.name.as_str())? {
+            let entry = entry?;
+            if is_temporary(entry.file_name()) && entry.file_type()?.is_file() {
+                fs::remove_file(&self.rt, entry.path())?;
+            }
+        }
         Ok(())
     }
 }
@@ -223,7 +266,7 @@ impl<R: Files> Folder<R> {
         fs::hard_link(&self.rt, self.temporary.as_str(), self.path.as_str())
     }
 
-    // A new file under a name that nothing had: what a process of this number left behind stays.
+    // A new file under a name that nothing had: what else stands under such a name stays.
     fn open_temporary(&mut self) -> io::Result<R::File>
         ensures stays { IsTrue self.old.has_failed → IsTrue self.new.has_failed }
     {

@@ -7,6 +7,8 @@ use std::io;
 pub enum Access {
     /// To read alone, beside whoever writes: a call that would change something fails.
     Read,
+    /// To read, beside whoever writes, and to sync what is there.
+    Sync,
     /// To write too, alone in the folder until the disk is dropped.
     Write,
 }

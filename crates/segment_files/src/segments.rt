@@ -6,7 +6,7 @@ use crate::lock::{Access, Lockable};
 use crate::pages;
 use crate::pages::{PagesAhead, PagesHeld};
 use byte_position::Geometry;
-use std::alloc::{AllocError, Global};
+use std::alloc::{Alloc, AllocError, Global};
 use std::fs::{Files, OpenFile};
 use std::io;
 use std::io::ErrorKind;
@@ -67,7 +67,7 @@ impl<R: Files + Drop> SegmentFiles<R> {
     }
 }
 
-impl<R: Files> SegmentFiles<R>
+impl<R: Files + Alloc + Clone + Drop> SegmentFiles<R>
 where
     R::File: FileExt + Lockable,
 {
@@ -114,7 +114,7 @@ where
         requires { segment < 2 ^ 64 / geometry }
         ensures { FailsForGood self.old.folder.has_failed self.new.folder.has_failed result }
     {
-        self.folder.check_change()?;
+        self.folder.check_sync()?;
         self.turn_to(geometry, segment)?;
         self.folder.settle()?;
         self.sync_written()

@@ -23,6 +23,7 @@ use Rattle.segment_disk.specs.ImageWords.{zero_word}
 use Rattle.wal_page.specs.Log.{IsLawfulWord, log_word_bytes}
 use Rattle.wal_core.specs.declared.setup.Setup.{Setup}
 use Rattle.wal_core.specs.Words.{Opening, found_end}
+use Rattle.wal_core.specs.Made.{MakeInTurn}
 use Rattle.wal_core.specs.Suited.{IfSuited}
 use Rattle.wal_core.specs.Ringed.{log_word_of}
 use Rattle.wal_core.specs.Views.{HasAt, Joined, FlushPromise, Plain, Lent, Out, Receipts}
@@ -140,6 +141,14 @@ pub record IsOnDisk (setup : Setup) (order : List Entry) (writer : Plain) (tape 
     pub there : (segment : ℕ) → 1 ≤ segment → segment ≤ writer.made
         → IsSomeAnd (state_now tape segment) (λ s. s.pages ≡ pages_of setup.segment_size)
 
+-- since the opening one segment was made behind another, up to the last one that the writer made
+-- unless it failed, and each only where all below it is written
+pub record IsMadeInTurn (opening : Opening) (writer : Plain) (calls : List Call) : Type 0 where
+  pub last : ℕ
+  pub in_turn : MakeInTurn opening.made (drop opening.moment calls) last
+  pub known : writer.fault ≡ none → last ≡ writer.made
+  pub low : (last ≡ opening.made) ⊎ (last * opening.setup.segment_size ≤ writer.written)
+
 pub record DurabilityHolds (first : DiskState) (opening : Opening) (order : List Entry)
     (flushed moment down : ℕ) (home : Option Plain) (writer : Plain) (parts : List Receipts)
     : Type 0 where
@@ -148,6 +157,7 @@ pub record DurabilityHolds (first : DiskState) (opening : Opening) (order : List
   pub begun : opening.moment ≤ moment
   pub reached : writer.written ≤ writer.made * opening.setup.segment_size
       + opening.setup.segment_size
+  pub made : IfSome writer.calls (IsMadeInTurn opening writer)
   pub lawful : IfSuited first opening writer (TapeAssures opening.setup.segment_size IsNowhere
       (IsLawfulAt opening.setup order) opening.moment)
   pub found_low : found_end opening ≤ flushed

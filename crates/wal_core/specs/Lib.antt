@@ -7,6 +7,7 @@ pub mod Paged
 pub mod Watched
 pub mod Suited
 pub mod Positioned
+pub mod Made
 pub mod Durable
 pub mod Async
 pub mod Aligned

@@ -45,6 +45,16 @@ fold-eight r bytes e small =
     ∙ ap (λ n. times_power (8 * n) (bit_xor r (number_of bytes))) e
     ∙ ap (λ word. times_power 64 (bit_xor r word)) (number_of_eight bytes e)
 
+number_of_four : (bytes : List ℕ) → length bytes ≡ 4 → number_of bytes ≡ from_le_bytes w32 bytes
+number_of_four (b0 ∷ b1 ∷ b2 ∷ b3 ∷ []) e = omega arith
+number_of_four _ e = absurd (omega arith)
+
+pub fold-four : (r : ℕ) (bytes : List ℕ) → length bytes ≡ 4 → ((i : ℕ) → get_or bytes i 0 < 2 ^ 8) → fold after_byte r bytes ≡ times_power 32 (bit_xor r (from_le_bytes w32 bytes))
+fold-four r bytes e small =
+    fold-after_byte r bytes small
+    ∙ ap (λ n. times_power (8 * n) (bit_xor r (number_of bytes))) e
+    ∙ ap (λ half. times_power 32 (bit_xor r half)) (number_of_four bytes e)
+
 -- the remainders of bytes, each with the further ones after it, taken off one after another
 abbrev xor_lookups : ℕ → List ℕ → ℕ
 xor_lookups sum [] = sum
@@ -83,6 +93,13 @@ lookups_of_word w small =
     ∙ lookups 8 0 w 0
     ∙ ap (bit_xor (xor_lookups 0 (to_le_bytes w64 w))) (omega arith)
     ∙ xor_zero_r (xor_lookups 0 (to_le_bytes w64 w))
+
+pub lookups_of_half : (w : ℕ) → w < 2 ^ 32 → times_power 32 w ≡ xor_lookups 0 (to_le_bytes w32 w)
+lookups_of_half w small =
+    ap (times_power 32) (sym (div-one w))
+    ∙ lookups 4 0 w 0
+    ∙ ap (bit_xor (xor_lookups 0 (to_le_bytes w32 w))) (omega arith)
+    ∙ xor_zero_r (xor_lookups 0 (to_le_bytes w32 w))
 
 -- the same with n more bytes of 0 after all
 abbrev xor_lookups_ahead : ℕ → ℕ → List ℕ → ℕ

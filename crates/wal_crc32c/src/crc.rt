@@ -4,7 +4,7 @@ ghost use Rattle.std.specs.Prelude.{◌≡◌, ℕ, List, [], ◌++◌, fold};
 ghost use Rattle.wal_crc32c.specs.Crc32c.{HasFed, after_byte, crc32c};
 
 use crate::folding::after_blocks;
-use crate::tables::{byte_remainder, word_remainder, word_remainder_ahead};
+use crate::tables::{byte_remainder, half_word_remainder, word_remainder, word_remainder_ahead};
 use std::marker::Model;
 
 // From so many bytes on vectors pay: two blocks of them.
@@ -72,7 +72,7 @@ fn after_long_bytes(remainder: u32, bytes: &[u8]) -> u32
 }
 
 // Sixteen bytes at a time, and the fewer than sixteen that are left: eight where there are so many,
-// and then one by one.
+// four where there are so many, and then one by one.
 fn after_short_bytes(mut remainder: u32, bytes: &[u8]) -> u32
     ensures { result ≡ fold after_byte remainder bytes.now }
 {
@@ -88,7 +88,17 @@ fn after_few_bytes(remainder: u32, bytes: &[u8]) -> u32
     ensures { result ≡ fold after_byte remainder bytes.now }
 {
     match bytes.split_first_chunk::<8>() {
-        Some((eight, others)) => after_each_byte(after_eight_bytes(remainder, eight), others),
+        Some((eight, others)) => after_fewer_bytes(after_eight_bytes(remainder, eight), others),
+        None => after_fewer_bytes(remainder, bytes),
+    }
+}
+
+#[inline(always)]
+fn after_fewer_bytes(remainder: u32, bytes: &[u8]) -> u32
+    ensures { result ≡ fold after_byte remainder bytes.now }
+{
+    match bytes.split_first_chunk::<4>() {
+        Some((four, others)) => after_each_byte(after_four_bytes(remainder, four), others),
         None => after_each_byte(remainder, bytes),
     }
 }
@@ -107,6 +117,12 @@ fn after_byte(remainder: u32, byte: u8) -> u32
 {
     let mixed = remainder ^ u32::from(byte);
     byte_remainder((mixed & 0xff) as u8, 0) ^ (mixed >> 8)
+}
+
+fn after_four_bytes(remainder: u32, bytes: &[u8; 4]) -> u32
+    ensures { result ≡ fold after_byte remainder bytes.now }
+{
+    half_word_remainder(remainder ^ u32::from_le_bytes(*bytes))
 }
 
 fn after_eight_bytes(remainder: u32, bytes: &[u8; 8]) -> u32

@@ -642,7 +642,16 @@ pub(crate) fn byte_remainder(byte: u8, bytes_after: usize) -> u32
     table[usize::from(byte)]
 }
 
-/// The remainder that eight bytes leave, taken as one word with the first byte lowest.
+/// The remainder that four bytes leave, taken as half a word with the first byte lowest.
+#[inline]
+pub(crate) fn half_word_remainder(half: u32) -> u32
+    ensures { result ≡ times_power 32 half }
+{
+    let [b0, b1, b2, b3] = half.to_le_bytes();
+    byte_remainder(b0, 3) ^ byte_remainder(b1, 2) ^ byte_remainder(b2, 1) ^ byte_remainder(b3, 0)
+}
+
+/// The remainder that eight bytes leave, taken as one word.
 #[inline]
 pub(crate) fn word_remainder(word: u64) -> u32
     ensures { result ≡ times_power 64 word }

@@ -14,6 +14,10 @@ pub enum Directive<'a> {
     Line { text: &'a str, times: u32 },
     /// Bytes of it.
     Bytes(Vec<u8>),
+    /// Bytes of what the last command printed of which only the size was told.
+    Sent { at: u32, count: u32 },
+    /// To tell such bytes.
+    PeekSent { at: u32, count: u32 },
     /// Calls that fail of a stream of the next command.
     Failing { stream: Stream, calls: Vec<u64> },
     /// How many bytes the next command's sink takes.
@@ -113,6 +117,13 @@ fn asked_of_script<'a>(alloc: Global, kind: &str, rest: &'a str) -> Result<Direc
         }),
         "|" => Ok(Directive::Bytes(Vec::from_slice(alloc, rest.as_bytes())?)),
         "x" => Ok(Directive::Bytes(bytes_of(alloc, rest)?)),
+        "^" => {
+            let (at, count) = parted(rest)?;
+            Ok(Directive::Sent {
+                at: small_number(at)?,
+                count: small_number(count)?,
+            })
+        }
         _ => match kind.strip_prefix('*') {
             Some(times) => Ok(Directive::Line {
                 text: rest,
@@ -133,6 +144,13 @@ fn asked_by_word<'a>(alloc: Global, word: &str, rest: &'a str) -> Result<Directi
         "out-fails" => failing(alloc, Stream::Out, rest),
         "err-fails" => failing(alloc, Stream::Err, rest),
         "out-room" => Ok(Directive::OutRoom(small_number(rest)?)),
+        "peek-sent" => {
+            let (at, count) = parted(rest)?;
+            Ok(Directive::PeekSent {
+                at: small_number(at)?,
+                count: small_number(count)?,
+            })
+        }
         "peek" => {
             let (at, count) = parted(rest)?;
             Ok(Directive::Peek {

@@ -52,6 +52,8 @@ pub struct RowPlayer {
     disk: Option<MemDisk>,
     kept: Option<MemDisk>,
     script: Vec<u8>,
+    // What the last command printed of which only the size was told.
+    sent: Vec<u8>,
     streams: Streams,
     transcript: Vec<u8>,
 }
@@ -63,6 +65,7 @@ impl RowPlayer {
             disk: None,
             kept: None,
             script: Vec::new(alloc),
+            sent: Vec::new(alloc),
             streams: Streams::sound(alloc),
             transcript: Vec::new(alloc),
         }
@@ -93,6 +96,14 @@ impl RowPlayer {
             Directive::Nothing => Ok(()),
             Directive::Line { text, times } => self.add_lines(text, times),
             Directive::Bytes(bytes) => Ok(self.script.extend_from_slice(&bytes)?),
+            Directive::Sent { at, count } => {
+                let bytes = part_of(&self.sent, at, count)?;
+                Ok(self.script.extend_from_slice(bytes)?)
+            }
+            Directive::PeekSent { at, count } => {
+                let digits = digits_of(self.alloc, part_of(&self.sent, at, count)?)?;
+                Ok(self.print_line(digits.as_str())?)
+            }
             Directive::Failing { stream, calls } => {
                 self.streams.fail(stream, calls);
                 Ok(())
@@ -197,11 +208,12 @@ impl RowPlayer {
         Ok(())
     }
 
-    // Prints what a command printed, or its size.
+    // Prints what a command printed, or its size; then it is kept, to be handed to another command.
     fn print_out(&mut self, out: &[u8], telling: Telling) -> Result<(), Halt> {
         let Telling::Size = telling else {
             return Ok(self.print_text(out)?);
         };
+        self.sent = Vec::from_slice(self.alloc, out)?;
         let lines = out.iter().filter(|byte| **byte == b'\n').count();
         let bytes = out.len();
         let mut crc = Crc::new();
@@ -240,6 +252,12 @@ impl RowPlayer {
         self.transcript.push(b'\n')?;
         Ok(())
     }
+}
+
+// So many bytes from a place on.
+fn part_of(bytes: &[u8], at: u32, count: u32) -> Result<&[u8], Halt> {
+    let rest = bytes.get(at as usize..).ok_or(Halt::NotUnderstood)?;
+    rest.get(..count as usize).ok_or(Halt::NotUnderstood)
 }
 
 fn new_disk(alloc: Global, room: NewDisk) -> Result<MemDisk, Halt> {

@@ -1,0 +1,5 @@
+pub mod FetchLaws
+pub mod TakeLaws
+pub mod HardenLaws
+pub mod SentLaws
+pub mod CrashedLaws

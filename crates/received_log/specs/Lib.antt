@@ -1,0 +1,6 @@
+pub mod Fetched
+pub mod Answered
+pub mod Receiving
+pub mod Steps
+pub mod Sent
+pub mod Crashed

@@ -1,0 +1,6 @@
+mod ListLaws
+mod AlikeLaws
+mod DurableLaws
+mod SyncLaws
+mod PutLaws
+mod SendLaws

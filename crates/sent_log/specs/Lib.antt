@@ -1,0 +1,4 @@
+pub mod SentFrames
+pub mod Synced
+pub mod Sending
+pub mod Putting

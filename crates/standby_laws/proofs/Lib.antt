@@ -1,0 +1,10 @@
+pub mod Weaker
+pub mod Turns
+pub mod StepsInTurn
+pub mod OpenedInTurn
+pub mod LeftLogs
+pub mod AgainPages
+pub mod OpenedAgain
+pub mod ManyLives
+pub mod LaterOrders
+pub mod SentFrames

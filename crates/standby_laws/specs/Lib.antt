@@ -1,0 +1,5 @@
+pub mod InTurn
+pub mod Left
+pub mod Lives
+pub mod Later
+pub mod Sent
