@@ -3,6 +3,10 @@
 #![tactic(auto)]
 
 #[cfg(test)]
+mod chains;
+#[cfg(test)]
+mod changed;
+#[cfg(test)]
 mod faults;
 #[cfg(test)]
 mod lines;
@@ -11,9 +15,13 @@ mod listed;
 #[cfg(test)]
 mod meeting;
 #[cfg(test)]
+mod picks;
+#[cfg(test)]
 mod played;
 #[cfg(test)]
 mod random_lines;
+#[cfg(test)]
+mod reopening;
 #[cfg(test)]
 mod rows;
 #[cfg(test)]
