@@ -43,7 +43,9 @@ SHAPES = ("M-4 0A4 4 0 1 0 4 0A4 4 0 1 0 -4 0Z", "M-4 -4H4V4H-4Z", "M0 -5L5 4H-5
 # What a bar's parts are filled with: a ground, and lines over it in a square of eight.
 FILLS = (("#0b3d91", ""), ("#f2b84b", "M0 8L8 0M-2 2L2 -2M6 10L10 6"), ("#ffffff", "M0 4H8"),
          ("#9ec5f4", "M0 0L8 8M6 -2L10 2M-2 6L2 10"), ("#dddddd", "M4 0V8"),
-         ("#c8e6c9", "M0 4H8M4 0V8"), ("#ffffff", "M2 2h1M6 6h1"), ("#8c959f", ""))
+         ("#c8e6c9", "M0 4H8M4 0V8"), ("#ffffff", "M2 2h1M6 6h1"), ("#8c959f", ""),
+         ("#f7c6c7", "M0 2H8M0 6H8"), ("#d97706", ""), ("#e6dcf5", "M2 0V8M6 0V8"),
+         ("#ffffff", "M0 8L8 0M0 0L8 8"))
 
 
 def tables_under(text, heading):
@@ -88,19 +90,6 @@ def panels_of(head, rows):
             least, most = map(number, row[at + 1 : at + 3]) if span else (None, None)
             if row[at]:
                 one.points.append((int(row[key]), number(row[at]), least, most))
-    return panels
-
-
-def insert_bars(head, rows):
-    """Bars of a table whose rows `of it the insert` stand behind those of the run: by its case, for
-    each column the run's name there, and its two parts."""
-    panels = {}
-    for whole, part in zip(rows, rows[1:]):
-        if part[0] == "of it the insert":
-            panels[whole[0]] = [
-                (name, [("the insert", number(less)), ("all else", number(more) - number(less))])
-                for name, more, less in zip(head[1:], whole[1:], part[1:]) if more
-            ]
     return panels
 
 
@@ -293,11 +282,6 @@ def draw_parts(figure, panels):
     return svg(figure.title, box.bottom + 52, drawn)
 
 
-def draw_inserts_part(figure, head, rows):
-    """A figure of a run's insert, and of all else of it."""
-    return draw_parts(figure, insert_bars(head, rows))
-
-
 def draw_table_of_parts(figure, head, rows):
     """A figure of a table that has a row for each part."""
     return draw_parts(figure, part_bars(head, rows))
@@ -316,9 +300,8 @@ def svg(title, height, parts):
 
 
 FIGURES = (
-    Figure("instructions", "## Instructions", "vectors", draw_inserts_part,
-           "Instructions of run, a record: its insert, and all else", "instructions a record",
-           False),
+    Figure("parts", "## Instructions", "part", draw_table_of_parts,
+           "Instructions of a record of 100 bytes, by part", "instructions a record", False),
     Figure("commits-hard", "## Commits of the log that threads share", "PostgreSQL", draw_rates,
            "Hard commits a second, by backends",
            "commits a second (logarithmic)", True),
@@ -329,8 +312,6 @@ FIGURES = (
            "Whole runs: records and commits a second, by backends", "a second", False),
     Figure("inserts", "### Inserts side by side", "now", draw_rates,
            "Inserts a second, by backends", "million inserts a second", False),
-    Figure("parts", "### One backend, beside the log of one backend", "part", draw_table_of_parts,
-           "Instructions of run, a record of 100 bytes, by part", "instructions a record", False),
 )
 
 

@@ -5,8 +5,9 @@ Makes a log of about 200 MB in a folder of memory (after `./pgwal` was built), s
 there, and receives that file in a fresh folder beside it. Prints for each the medians of some runs:
 the processor's seconds in the program and in the system apart, the clock's, and megabytes of pages
 a second of one processor and by the clock; then that the copy lists as the log does. Where valgrind
-is installed, the instructions a byte of page are counted on a log of one segment of a megabyte,
-which the machine's load does not disturb.
+is installed, the instructions a byte of page are counted, which the machine's load does not
+disturb: those that a log of 1,079 pages takes more than one of 73, so that what each run takes
+once, as the clearing of buffers, is no part of it.
 Usage: bench/standby.py [RUNS]
 """
 import os
@@ -64,16 +65,23 @@ def row(name, megabytes, taken):
     print(f"| {name} | {program:.3f} | {system:.3f} | {clock:.3f} | {rate:.0f} | {by_clock:.0f} |", flush=True)
 
 
-def count(parent):
-    """Prints the instructions a byte of page, of both commands, on a short log."""
+def counted(parent, lines):
+    """Of a log of so many lines of each backend: its bytes of page, and what both commands take."""
     size = ["--seg", "1048576"]
-    folder = made(parent, "short", ["gen", "200", *size])
+    folder = made(parent, "short", ["gen", str(lines), *size])
     frames = os.path.join(parent, "frames")
     run(["send", *size], folder, os.devnull, frames)
     pages = os.path.getsize(frames) // FRAME * PAGE
     copy = folder_of(parent, "short_copy")
     sent = instructions([PROGRAM, "send", *size], folder)
     received = instructions([PROGRAM, "receive", *size], copy, frames)
+    return pages, sent, received
+
+
+def count(parent):
+    """Prints the instructions a byte of page, of both commands."""
+    short, long = counted(parent, 200), counted(parent, 3000)
+    pages, sent, received = (more - less for more, less in zip(long, short))
     print(f"\ninstructions a byte of page: send {sent / pages:.2f}, receive {received / pages:.2f}")
 
 

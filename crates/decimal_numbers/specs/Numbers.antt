@@ -6,6 +6,10 @@ use Rattle.std.specs.Int.Digits.{number_from_digits}
 abbrev pub is_digit : ℕ → Bool
 is_digit c = nat_le 48 c && nat_le c 57
 
+-- the value of a digit
+abbrev pub digit_of : ℕ → Option ℕ
+digit_of c = if is_digit c then Some (c - 48) else None
+
 -- whether a field is 1 to 20 decimal digits
 abbrev pub is_decimal : List ℕ → Bool
 is_decimal field = nat_le 1 (length field) && nat_le (length field) 20 && list_all is_digit field

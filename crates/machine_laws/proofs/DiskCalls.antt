@@ -16,6 +16,7 @@ use Rattle.wal_core.specs.Steps.{IsPageLoaded}
 use Rattle.wal_core.specs.Positioned.{ReadsBelow}
 use Rattle.wal_core.specs.Durable.{IsStaged}
 use Rattle.wal_core.proofs.Tapes.{state_behind, tape_behind}
+use Rattle.machine_laws.proofs.LoadedLast.{loaded_there}
 use Rattle.machine_laws.proofs.LogReading.{ReadsBelow-create, ReadsBelow-sync, ReadsBelow-write}
 
 -- the words of a page that were loaded are the log's, where all is copied below an address
@@ -26,7 +27,8 @@ pub loaded_words : (setup : Setup) (order : List Entry) (known number : ℕ) (by
     ≡ log_word_bytes setup.segment_size setup.sysid order (number * 8192 + 8 * n)
 loaded_words setup order known number bytes staged loaded all n low below =
     let l = loaded n low in
-    let s = All-contains (IsStaged setup order known) staged (number * 1024 + n, l.0) all l.1 in
+    let s = All-contains (IsStaged setup order known) staged (number * 1024 + n, l.0) all
+    (loaded_there (number * 1024 + n) l.0 staged l.1) in
     let at : 8 * (number * 1024 + n) ≡ number * 8192 + 8 * n = omega arith in
     l.2 ∙ ap (to_le_bytes w64) (s.below (omega (arith, at, below)))
     ∙ ap (λ (a : ℕ). log_word_bytes setup.segment_size setup.sysid order a) at

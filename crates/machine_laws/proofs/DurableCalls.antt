@@ -26,6 +26,7 @@ use Rattle.wal_core.specs.Moves.{CallOutcome, Done, Failed, after_create, after_
 use Rattle.wal_core.specs.Positioned.{ReadsBelow}
 use Rattle.wal_core.specs.Durable.{IsLawfulAt, IsLogBelow, IsOnDisk, IsStaged}
 use Rattle.wal_core.specs.Steps.{IsNextWrite}
+use Rattle.machine_laws.proofs.LoadedLast.{loaded_there}
 use Rattle.machine_laws.proofs.SegmentStates.{SegmentAssures-weaker}
 use Rattle.wal_core.proofs.Tapes.{state_behind, tape_behind}
 
@@ -106,7 +107,8 @@ module _ (setup : Setup) (valid : IsSegmentSize setup.segment_size) (order : Lis
         × IsStaged setup order l.known ((segment * pages_of size + page) * 1024 + n, value)
     put_word n low =
         let found = may.loaded n low in
-        let is = All-contains (IsStaged setup order l.known) l.staged _ staged found.1 in (
+        let is = All-contains (IsStaged setup order l.known) l.staged _ staged
+        (loaded_there ((l.writer).written / 8192 * 1024 + n) found.0 l.staged found.1) in (
           found.0,
           found.2,
           subst (λ (p : ℕ). IsStaged setup order l.known

@@ -7,6 +7,7 @@ use Rattle.wal_core.specs.Views.{HasAt, Flight, Plain, Reserving, View, Writing,
 use Rattle.wal_core.specs.Ordered.{OrderHolds}
 use Rattle.wal_core.specs.Locked.{SwitchesStandAlone}
 use Rattle.wal_core.specs.Positioned.{PositionsHold}
+use Rattle.wal_core.specs.Reading.{ReadingHolds}
 use Rattle.wal_core.specs.Moves.{after_split, split_off, after_join, spent, without_work, orphan_of}
 use Rattle.wal_core.specs.Steps.{State, Splits, IsResting, Joins, IsStranded, GivesUp}
 use Rattle.wal_core.specs.Aligned.{LearnsAligned}
@@ -19,6 +20,7 @@ use Rattle.machine_laws.specs.LocksBehind.{WorksHold, TurnsHold}
 use Rattle.machine_laws.proofs.SoundLockSteps.{works_now, turns_now}
 use Rattle.machine_laws.proofs.LockPassSteps.{one_changes, two_change, works_split, works_give_up, works_join, turns_split, turns_give_up, turns_join}
 use Rattle.machine_laws.proofs.AloneBehind.{split_alone, give_up_alone, join_alone}
+use Rattle.machine_laws.proofs.ReadingBehind.{reading_split, reading_given_up, reading_taken_in}
 use Rattle.machine_laws.specs.RingBehind.{HasRingWith, HasPagesWith}
 use Rattle.machine_laws.proofs.RingPassSteps.{ring-split, ring-taken_in, ring-given_up, pages-split, pages-taken_in, pages-given_up}
 use Rattle.machine_laws.specs.PositionParts.{Positions, HasPositions}
@@ -63,6 +65,9 @@ module _ {first : DiskState} (words : List ℕ) (home : Option Plain) (views : L
     HasOrderWith rs = OrderHolds (v.opening).setup (v.opening).found k.order
         (position_word words) (prev_word words) rs
 
+    abbrev HasReadingWith : List Writing → Type 0
+    HasReadingWith ws = ReadingHolds first v.opening k.memory k.writer ws
+
     abbrev HasPositionsWith : List Flight → List Writing → Type 0
     HasPositionsWith fs ws = PositionsHold first v.opening k.order (written_word words)
         (flushed_word words) (down_word words) home k.writer fs ws
@@ -77,6 +82,7 @@ module _ {first : DiskState} (words : List ℕ) (home : Option Plain) (views : L
         → HasPagesWith v.opening words home views k changed
         → (fs : List Flight) → map flight_of changed ≡ fs
         → (ws : List Writing) → map writing_of changed ≡ ws → HasPositionsWith fs ws
+        → HasReadingWith ws
         → HasDurableWith v.opening words home views k changed
         → ((j : ℕ) (u : View) → HasAt changed j u
         → CountsOn (async_word (v.opening).setup words) u)
@@ -84,7 +90,7 @@ module _ {first : DiskState} (words : List ℕ) (home : Option Plain) (views : L
         → FaultIsKnown (down_word words) changed
         → IsSound first v.opening words home changed
     changed_sound grounded rs are_reserving reserved works turns alone ring pages fs are_flights ws
-        are_writing positions durable counts learn failed = record {
+        are_writing positions reading durable counts learn failed = record {
           order = k.order;
           memory = k.memory;
           reach = k.reach;
@@ -106,6 +112,7 @@ module _ {first : DiskState} (words : List ℕ) (home : Option Plain) (views : L
           positions = subst (λ (x : List Flight × List Writing). HasPositionsWith x.0 x.1)
               (λ j. (sym are_flights j, sym are_writing j)) positions;
           durable = durable;
+          reading = subst (λ (ws : List Writing). HasReadingWith ws) (sym are_writing) reading;
           watching = works.watched;
           async = record {
             reserved = (k.async).reserved;
@@ -188,6 +195,7 @@ module _ {first : DiskState} (words : List ℕ) (home : Option Plain) (views : L
       _ (one_changes flight_of views id v here (after_split v) (split_off v))
       _ (one_changes writing_of views id v here (after_split v) (split_off v))
       (positions.split_keeps all id v has_all)
+      (reading_split words home views id v k here)
       (durable-split words home views id v k here)
       (counts_added (after_split v) (split_off v) (counts id v here) (omega arith, refl))
       (learns_added (after_split v) (split_off v) (learns_same v (after_split v) refl learns)
@@ -213,6 +221,7 @@ module _ {first : DiskState} (words : List ℕ) (home : Option Plain) (views : L
       _ (one_changes flight_of views id v here (without_work v) (orphan_of v))
       _ (one_changes writing_of views id v here (without_work v) (orphan_of v))
       (positions.give_up_keeps all id v has_all)
+      (reading_given_up words home views id v k here)
       (durable-given_up words home views id v k here)
       (counts_added (without_work v) (orphan_of v) (counts id v here) (omega arith, refl))
       (learns_added (without_work v) (orphan_of v) (learns_same v (without_work v) refl learns)
@@ -244,6 +253,7 @@ module _ {first : DiskState} (words : List ℕ) (home : Option Plain) (views : L
       _ (two_change flight_of views id v here other (after_join v w) (spent w))
       _ (two_change writing_of views id v here other (after_join v w) (spent w))
       (positions.join_keeps all id v has_all other w)
+      (reading_taken_in words home views id v k here other w)
       (durable-taken_in words home views id v k here other w there apart)
       (one_set (λ j u. Counts u) (set views other (spent w)) id (after_join v w)
       (λ j u not_this at. one_set (λ i x. Counts x) views other (spent w)

@@ -17,6 +17,7 @@ pub mod LockPassSteps
 pub mod SoundLockSteps
 pub mod Buffers
 pub mod LeftSteps
+pub mod LoadedLast
 pub mod LoadedWords
 pub mod PageLaws
 pub mod PageSteps
@@ -28,6 +29,7 @@ pub mod ShownLaws
 pub mod StoredWords
 pub mod CopiedWords
 pub mod LogReading
+pub mod GrowthLaws
 pub mod DiskCalls
 pub mod Copies
 pub mod PositionSteps
@@ -56,6 +58,10 @@ mod AlignedBehind
 mod AsyncBehind
 mod FaultBehind
 mod AloneBehind
+mod WordsRead
+mod ReadingParts
+mod ReadingCalls
+mod ReadingBehind
 pub mod WholeInvariant
 pub mod EveryPassStep
 pub mod EveryStep

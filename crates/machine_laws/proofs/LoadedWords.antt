@@ -1,4 +1,5 @@
--- A word that is loaded for a write: its page is present, and it is 0 or the log's.
+-- A word that is loaded for a write: its page is present, it is the one in memory, and 0 or the
+-- log's.
 use Rattle.std.proofs.Common.{◌≡◌, inl, inr, ℕ, ◌+◌, ◌*◌, ◌/◌, ◌%◌, ◌<◌, ◌≤◌, List, ap, ◌∙◌, ⊎_elim, arith}
 use mathlib.Core.Option.{Option}
 use mathlib.Core.Logic.{dite}
@@ -46,40 +47,51 @@ module _ (setup : Setup) (order : List Entry) (reach : ℕ) (memory : ℕ → �
       (pages : PagesHold setup.ring_pages reach stage initialised written ends ring memory
       confirmed)
     where
-      pub loads : size ≤ written → known ≤ end_form setup (end_position size order) → (n : ℕ)
+      -- it is the one in memory
+      pub loads_memory : size ≤ written → known ≤ end_form setup (end_position size order) → (n : ℕ)
           → written < (n / 1024 + 1) * 8192 → n / 1024 * 8192 < known
-          → IsStaged setup order known (n, ring (ring_place setup n))
-      loads begun reserved n unwritten begins =
+          → ring (ring_place setup n) ≡ memory n
+      loads_memory begun reserved n unwritten begins =
           let page : ℕ = n / 1024 in
           let low = not_given_up setup.ring_pages reach stage initialised written ends ring memory
           confirmed pages page unwritten in
           let high = copied_is_mapped reserved page begins (omega arith) in
           let number : page * 1024 + n % 1024 ≡ n = omega arith in
-          let here : ring (ring_place setup n) ≡ memory n =
-          pages.content page (n % 1024) low high (omega arith) ∙ ap memory number in
-          record {
-            lawful = ⊎_elim (λ t. inr (here ∙ t)) (λ t. inl (here ∙ t.0)) (k.words n);
-            below = λ less. ⊎_elim (λ t. here ∙ t)
-                (λ t. absurd (not_awaited (8 * n) less t.1)) (k.words n);
-          }
+          pages.content page (n % 1024) low high (omega arith) ∙ ap memory number
 
-pub loads_staged : {first : DiskState} (o : Opening) (order : List Entry) (reach : ℕ) (memory : ℕ → ℕ)
+      pub loads : (n : ℕ) → ring (ring_place setup n) ≡ memory n
+          → IsStaged setup order known (n, ring (ring_place setup n))
+      loads n here = record {
+        lawful = ⊎_elim (λ t. inr (here ∙ t)) (λ t. inl (here ∙ t.0)) (k.words n);
+        below = λ less. ⊎_elim (λ t. here ∙ t)
+            (λ t. absurd (not_awaited (8 * n) less t.1)) (k.words n);
+      }
+
+module _ {first : DiskState} (o : Opening) (order : List Entry) (reach : ℕ) (memory : ℕ → ℕ)
     (flights : List Flight) (stage : Stage) (initialised written flushed down : ℕ)
     (ends ring : ℕ → ℕ) (confirmed : List ℕ) (home : Option Plain) (writer : Plain)
     (parts : List Writing) (id n : ℕ) (x : Writing) (l : Lent)
-    → IsSegmentSize (o.setup).segment_size → IsChained (o.setup).segment_size order
-    → RingHolds o.setup order reach memory flights
-    → PagesHold (o.setup).ring_pages reach stage initialised written ends ring memory confirmed
-    → PositionsHold first o order written flushed down home writer flights parts
-    → HasAt parts id x → x.hold ≡ Out l → l.writer ≡ writer → IsToBeWritten n l
-    → IsStaged o.setup order l.known (n, ring (ring_place o.setup n))
-loads_staged o order reach memory flights stage initialised written flushed down ends ring
-    confirmed home writer parts id n x l valid chain k pages positions here out same to_write =
-    let of_view = (positions.views id x here).known l out in
-    let begun = positions.begun in
-    let flushed_low = positions.flushed_low in
-    let written_low = positions.written_low in
-    let own : (l.writer).written ≡ writer.written = ap (λ (p : Plain). p.written) same in
-    let unwritten = to_write.unwritten in
-    loads o.setup order reach memory flights k valid chain l.known of_view.1 stage initialised
-    written ends ring confirmed pages (omega arith) of_view.0 n (omega arith) to_write.copied
+    (valid : IsSegmentSize (o.setup).segment_size)
+    (chain : IsChained (o.setup).segment_size order)
+    (k : RingHolds o.setup order reach memory flights)
+    (pages : PagesHold (o.setup).ring_pages reach stage initialised written ends ring memory
+    confirmed)
+    (positions : PositionsHold first o order written flushed down home writer flights parts)
+    (here : HasAt parts id x) (out : x.hold ≡ Out l) (same : l.writer ≡ writer)
+    (to_write : IsToBeWritten n l) where
+  of_view : (l.known ≤ end_form o.setup (end_position (o.setup).segment_size order))
+      × IsCopiedBelow (o.setup).segment_size flights l.known
+  of_view = (positions.views id x here).known l out
+
+  pub memory_loaded : ring (ring_place o.setup n) ≡ memory n
+  memory_loaded =
+      let own : (l.writer).written ≡ writer.written = ap (λ (p : Plain). p.written) same in
+      loads_memory o.setup order reach memory flights k valid chain l.known of_view.1 stage
+      initialised written ends ring confirmed pages
+      (omega (arith, positions.begun, positions.flushed_low)) of_view.0 n
+      (omega (arith, to_write.unwritten, positions.written_low, own)) to_write.copied
+
+  pub loads_staged : IsStaged o.setup order l.known (n, ring (ring_place o.setup n))
+  loads_staged =
+      loads o.setup order reach memory flights k valid chain l.known of_view.1 stage initialised
+      written ends ring confirmed pages n memory_loaded

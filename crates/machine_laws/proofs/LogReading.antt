@@ -23,13 +23,13 @@ use Rattle.wal_core.specs.Positioned.{ReadsBelow}
 
 -- ---- a page of a segment, read behind a write
 
-read_here : (s : Segment) (page size : ℕ) (done : Bool) (bytes : PageBytes)
+pub read_here : (s : Segment) (page size : ℕ) (done : Bool) (bytes : PageBytes)
     → page_as_read (record s { writes = s.writes ++ (page, bytes.bytes) ∷ [] }) page ≡ bytes.bytes
 read_here s page size done bytes = (kept_write page s.pages
     (Some (record { ref_ptr = (0, 0); now = record { bytes = page_as_read s page } })) (Some s)
     size done (record { ref_ptr = (0, 0); now = bytes }) (refl, refl)).1
 
-read_elsewhere : (s : Segment) (page other size : ℕ) (done : Bool) (bytes : PageBytes)
+pub read_elsewhere : (s : Segment) (page other size : ℕ) (done : Bool) (bytes : PageBytes)
     → other ≢ page
     → page_as_read (record s { writes = s.writes ++ (other, bytes.bytes) ∷ [] }) page
     ≡ page_as_read s page
@@ -57,7 +57,7 @@ module _ (size geometry page : ℕ) (bytes : PageBytes) (done : Bool) (address :
       ∙ ap (λ (p : ℕ). word_of (page_as_read now p) w) at
       ∙ ap (λ (p : List ℕ). word_of p w) (read_here s page geometry done bytes)
 
-  word_unwritten : (s : Option Segment) → page ≢ address % size / 8192
+  pub word_unwritten : (s : Option Segment) → page ≢ address % size / 8192
       → word_in size (segment_after (Write page bytes) geometry done s) address
       ≡ word_in size s address
   word_unwritten None other = refl
@@ -66,7 +66,7 @@ module _ (size geometry page : ℕ) (bytes : PageBytes) (done : Bool) (address :
       ap (λ (p : List ℕ). if nat_lt n s.pages then word_of p (address % size % 8192 / 8)
       else zero_word) (read_elsewhere s n page geometry done bytes other)
 
-word_synced : (size geometry address : ℕ) (done : Bool) (s : Option Segment)
+pub word_synced : (size geometry address : ℕ) (done : Bool) (s : Option Segment)
     → word_in size (segment_after Sync geometry done s) address ≡ word_in size s address
 word_synced size geometry address done None = refl
 word_synced size geometry address true (Some s) = refl
@@ -78,7 +78,7 @@ module _ (size : ℕ) (valid : IsSegmentSize size) (address : ℕ) where
   abbrev in_segment : ℕ
   in_segment = address % size / 8192
 
-  page_of_address : (address / size * pages_of size + in_segment ≡ address / 8192)
+  pub page_of_address : (address / size * pages_of size + in_segment ≡ address / 8192)
       × (in_segment < pages_of size) × (address % size % 8192 ≡ address % 8192)
   page_of_address =
       let count : ℕ = pages_of size in
@@ -113,15 +113,15 @@ module _ (size : ℕ) (valid : IsSegmentSize size) (address : ℕ) where
 
 -- ---- the log below an address, behind a call
 
-abbrev creating : ℕ → ℕ → Bool → Bool → Call
+abbrev pub creating : ℕ → ℕ → Bool → Bool → Call
 creating geometry segment made done =
     record { geometry = geometry; segment = segment; kind = Create made; done = done }
 
-abbrev syncing : ℕ → ℕ → Bool → Call
+abbrev pub syncing : ℕ → ℕ → Bool → Call
 syncing geometry segment done =
     record { geometry = geometry; segment = segment; kind = Sync; done = done }
 
-abbrev writing : ℕ → ℕ → ℕ → PageBytes → Bool → Call
+abbrev pub writing : ℕ → ℕ → ℕ → PageBytes → Bool → Call
 writing geometry segment page bytes done =
     record { geometry = geometry; segment = segment; kind = Write page bytes; done = done }
 

@@ -5,6 +5,7 @@ use Rattle.std.specs.Int.{w64, to_le_bytes}
 use Rattle.std.proofs.lemmas.Bool.{cases_eq, le-ltb, lt-ltb}
 use Rattle.std.specs.List.{Contains}
 use Rattle.std.specs.Option.{IsSomeAnd}
+use Rattle.std.proofs.lemmas.List.{drop_all}
 use Rattle.std.proofs.lemmas.List.Elements.{All-head, All-nil, All-tail}
 use Rattle.std.proofs.Math.Nat.{mod-lt}
 use mathlib.Core.Option.{some, some-injective, some-ne-none}
@@ -21,7 +22,7 @@ use Rattle.byte_position.proofs.EndAddresses.{end_address_of-mono}
 use Rattle.byte_position.proofs.Words.{end_address_of-mod_word}
 use Rattle.wal_core.specs.declared.setup.Setup.{Setup}
 use Rattle.wal_core.specs.Words.{Opening, position_word, prev_word, lock_word, mapping_turn, write_turn, initialised_word, written_word, flushed_word, moment_word, down_word, end_word, word_of_ring, async_word, found_end, found_position}
-use Rattle.wal_core.specs.Views.{HasAt, Plain, Away, Landed, Copying, AreSomeOf, View, mapper_of, receipts_of, writer_of}
+use Rattle.wal_core.specs.Views.{HasAt, Plain, Away, Landed, Copying, IsLoadedLast, Out, AreSomeOf, View, mapper_of, receipts_of, writer_of}
 use Rattle.wal_core.specs.Opened.{AreFirstWords, IsFirstWriter, IsOpenable, first_view}
 use Rattle.wal_core.specs.Ordered.{HasLive, IsUnused, entries_under, is_pass, OrderHolds, Role, active, spare, ended, unborn}
 use Rattle.wal_core.specs.Locked.{LocksHold, ProgressHolds, StandsAlone, SwitchesStandAlone, most_told}
@@ -29,12 +30,14 @@ use Rattle.wal_core.specs.Ringed.{RingHolds, IsOfOrder, log_word_of}
 use Rattle.wal_core.specs.Paged.{PagesHold}
 use Rattle.wal_core.specs.Watched.{IsCopiedToBound, WatchHolds}
 use Rattle.wal_core.specs.Positioned.{PositionsHold}
+use Rattle.wal_core.specs.Growing.{AllOnlyAdd, IsZeroOr}
+use Rattle.wal_core.specs.Reading.{IsLoadedRightly, ReadingHolds}
 use Rattle.machine_laws.proofs.AloneBehind.{landed_alone}
 use Rattle.machine_laws.proofs.Buffers.{one_page}
 use Rattle.wal_core.specs.Durable.{DurabilityHolds, one_if_some, IsToldRightly, IsLawfulAt, IsLogBelow}
 use Rattle.segment_disk.specs.DiskImage.{image_as_read, word_of}
 use Rattle.segment_disk.specs.declared.disk.Call.{Call}
-use Rattle.segment_disk.specs.Tape.{DiskState, Segment, Tape, after_calls, page_as_read, state_now}
+use Rattle.segment_disk.specs.Tape.{DiskState, Segment, Tape, after_calls, page_as_read, state_at, state_now}
 use Rattle.std.proofs.Math.Seq.{take-length}
 use Rattle.flush_core.specs.Pages.{HoldsNothing}
 use Rattle.wal_core.specs.Suited.{BeganSuited, IsLogAt, IsSuited, tape_from}
@@ -358,26 +361,11 @@ module _ (opening : Opening) (words : List ℕ) (writer : Plain) (log : IsOpenab
   there_now n None holds made = absurd (holds made)
   there_now n (Some s) holds made = holds.0
 
-  -- as it is read, the disk holds the log below its end
-  reads_now : (k : ℕ) → 8 * k < end → (o : Option Segment)
-      → Holds (8 * k / setup.segment_size) o
-      → segment_word (image_as_read (λ (n : ℕ). o) 0) (8 * k % setup.segment_size)
+  -- as it is read, the disk holds the log in each segment that is there
+  read_there : (k : ℕ) (s : Segment) → Holds (8 * k / setup.segment_size) (Some s)
+      → segment_word (image_as_read (λ (n : ℕ). Some s) 0) (8 * k % setup.segment_size)
       ≡ log_word_bytes setup.segment_size setup.sysid found (8 * k)
-  reads_now k below None holds =
-      let size = setup.segment_size in
-      let high = log.reaches in
-      let some_size : 0 < size = (let pages = segment_size_in_pages size valid.size in
-      omega (arith, pages.0, pages.1)) in
-      let quotient : 8 * k / size < opening.made + 1
-      = (div-lt_iff_lt-mul some_size).1 (omega arith) in
-      let first : 8 * k / size ≡ 0 = elim (cases_eq (8 * k / size) 0) [
-        | inl is ↦ is
-        | inr other ↦ absurd (holds (omega arith, omega arith))
-      ] in
-      let before : 8 * k < 1 * size
-      = (div-lt_iff_lt-mul some_size).0 (omega (arith, first)) in
-      ap (to_le_bytes w64) (sym (none_before k (omega (arith, before))))
-  reads_now k below (Some s) holds =
+  read_there k s holds =
       let size = setup.segment_size in
       let whole = segment_size_in_pages size valid.size in
       let n = 8 * k / size in
@@ -398,6 +386,34 @@ module _ (opening : Opening) (words : List ℕ) (writer : Plain) (log : IsOpenab
       ∙ holds.1 page word on_page small bytes
       (read_word s.writes page word (s.durable page) bytes refl)
       ∙ ap (log_word_bytes size setup.sysid found) at
+
+  -- as it is read, the disk holds the log below its end
+  reads_now : (k : ℕ) → 8 * k < end → (o : Option Segment)
+      → Holds (8 * k / setup.segment_size) o
+      → segment_word (image_as_read (λ (n : ℕ). o) 0) (8 * k % setup.segment_size)
+      ≡ log_word_bytes setup.segment_size setup.sysid found (8 * k)
+  reads_now k below None holds =
+      let size = setup.segment_size in
+      let high = log.reaches in
+      let some_size : 0 < size = (let pages = segment_size_in_pages size valid.size in
+      omega (arith, pages.0, pages.1)) in
+      let quotient : 8 * k / size < opening.made + 1
+      = (div-lt_iff_lt-mul some_size).1 (omega arith) in
+      let first : 8 * k / size ≡ 0 = elim (cases_eq (8 * k / size) 0) [
+        | inl is ↦ is
+        | inr other ↦ absurd (holds (omega arith, omega arith))
+      ] in
+      let before : 8 * k < 1 * size
+      = (div-lt_iff_lt-mul some_size).0 (omega (arith, first)) in
+      ap (to_le_bytes w64) (sym (none_before k (omega (arith, before))))
+  reads_now k below (Some s) holds = read_there k s holds
+
+  -- and nothing but zeros in each other one
+  reads_at_most : (k : ℕ) (o : Option Segment) → Holds (8 * k / setup.segment_size) o
+      → IsZeroOr (to_le_bytes w64 (log_word_of setup found (8 * k)))
+      (segment_word (image_as_read (λ (n : ℕ). o) 0) (8 * k % setup.segment_size))
+  reads_at_most k None holds = inl refl
+  reads_at_most k (Some s) holds = inr (read_there k s holds)
 
   -- on a disk that held this at first
   module _ (first : DiskState) where
@@ -431,6 +447,23 @@ module _ (opening : Opening) (words : List ℕ) (writer : Plain) (log : IsOpenab
             stored = λ l is. absurd (cc);
           });
         }
+
+    reading_begins : ReadingHolds first opening (λ k. log_word_of setup found (8 * k)) writer
+        (view.writing ∷ [])
+    reading_begins = record {
+      adds = IfSome_then (tape_from first writer.calls) counted (λ t count suited.
+          subst (λ (calls : List Call). AllOnlyAdd setup.segment_size
+          (state_at t opening.moment) calls)
+          (sym (drop_all opening.moment t.calls (omega (arith, count, begins.moment_is)))) tt);
+      reads = IfSome_then (tape_from first writer.calls) counted (λ t count suited k.
+          let held = suited_now t count suited in
+          reads_at_most k (state_now t (8 * k / setup.segment_size))
+          (held (8 * k / setup.segment_size)));
+      staged = λ id x l at. only_one view.writing
+          (λ j u. u.hold ≡ Out l → (k word : ℕ) → IsLoadedLast k word l.staged
+          → IsLoadedRightly first opening (λ n. log_word_of setup found (8 * n)) writer k word)
+          (λ is. absurd (cc)) id x at;
+    }
 
     told_begins : IsToldRightly first opening found (flushed_word words) (moment_word words)
         (down_word words) writer (receipts_of view)
@@ -535,6 +568,7 @@ logs_begin first opening words writer log zeroed begins = record {
   pages = pages_begin opening words writer log zeroed begins;
   positions = positions_begin opening words writer log zeroed begins first;
   durable = durable_begins opening words writer log zeroed begins first;
+  reading = reading_begins opening words writer log zeroed begins first;
   watching = watching_begins opening words writer log zeroed begins;
   async = async_begins opening words writer log zeroed begins;
   aligned = aligned_begins opening words writer log zeroed begins;

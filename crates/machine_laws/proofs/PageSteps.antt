@@ -22,7 +22,7 @@ use Rattle.machine_laws.specs.RingBehind.{met_by, words_behind, HasPages}
 use Rattle.machine_laws.proofs.PutWords.{put_is, end_put, ring_put, buffer-below, place-below, ring_place-below}
 use Rattle.machine_laws.proofs.PageLaws as page
 use Rattle.machine_laws.proofs.StoredWords.{stores_word}
-use Rattle.machine_laws.proofs.LoadedWords.{loads_staged}
+use Rattle.machine_laws.proofs.LoadedWords.{loads_staged, memory_loaded}
 use Rattle.segment_disk.specs.Tape.{DiskState}
 
 module _ {first : DiskState} (v : View) (words : List ℕ) (home : Option Plain) (views : List View) (id : ℕ)
@@ -142,18 +142,32 @@ module _ {first : DiskState} (v : View) (words : List ℕ) (home : Option Plain)
       (page.gets_ready pages s.reach s.stage (initialised_word words) (written_word words)
       (end_word words) (word_of_ring setup words) s.memory (set all_met id met) stays))
 
-  -- a word that is loaded for a write
-  pub staged_behind : (n : ℕ) (l : Lent) → (v.writing).hold ≡ Out l → MayStep v (load_ring_word n)
-      → IsStaged setup s.order l.known (n, met_by v words home views id (load_ring_word n))
-  staged_behind n l out may =
-      let same : may.0 ≡ l = (let e : Out may.0 ≡ Out l = sym may.1 ∙ out in cc) in
-      let writer_is = subst (StandsTo _ _ _ _ _ _) out
-      (((s.locks).writing).each id (writer_of v) (part_at writer_of views id v here)) in
-      loads_staged v.opening s.order s.reach s.memory (map flight_of views) s.stage
-      (initialised_word words) (written_word words) _ _ (end_word words) (word_of_ring setup words)
-      all_met home s.writer (map writing_of views) id n v.writing l (s.setup_is).size
-      (s.reserved).chained s.ring s.pages s.positions (part_at writing_of views id v here) out
-      writer_is.3 (subst (λ (x : Lent). IsToBeWritten n x) same may.2)
+  -- a word that is loaded for a write: 0 or the log's, and the one in memory
+  module _ (n : ℕ) (l : Lent) (out : (v.writing).hold ≡ Out l) (may : MayStep v (load_ring_word n))
+    where
+      to_be_written : IsToBeWritten n l
+      to_be_written =
+          let same : may.0 ≡ l = (let e : Out may.0 ≡ Out l = sym may.1 ∙ out in cc) in
+          subst (λ (x : Lent). IsToBeWritten n x) same may.2
+
+      writer_is : l.writer ≡ s.writer
+      writer_is = (subst (StandsTo _ _ _ _ _ _) out
+          (((s.locks).writing).each id (writer_of v) (part_at writer_of views id v here))).3
+
+      pub staged_behind : IsStaged setup s.order l.known
+          (n, met_by v words home views id (load_ring_word n))
+      staged_behind = loads_staged v.opening s.order s.reach s.memory (map flight_of views) s.stage
+          (initialised_word words) (written_word words) _ _ (end_word words)
+          (word_of_ring setup words) all_met home s.writer (map writing_of views) id n v.writing l
+          (s.setup_is).size (s.reserved).chained s.ring s.pages s.positions
+          (part_at writing_of views id v here) out writer_is to_be_written
+
+      pub memory_met : met_by v words home views id (load_ring_word n) ≡ s.memory n
+      memory_met = memory_loaded v.opening s.order s.reach s.memory (map flight_of views) s.stage
+          (initialised_word words) (written_word words) _ _ (end_word words)
+          (word_of_ring setup words) all_met home s.writer (map writing_of views) id n v.writing l
+          (s.setup_is).size (s.reserved).chained s.ring s.pages s.positions
+          (part_at writing_of views id v here) out writer_is to_be_written
 
   -- ---- the turn
 

@@ -365,6 +365,37 @@ module _ (setup : Setup) (order : List Entry) (reach : ℕ) (memory : ℕ → �
             (λ before. on (8 * n) (k.ahead n far from (omega arith)));
       }
 
+  -- the next word of a copy is the log's, so a store of it changes nothing but a word that was 0
+  module _ (id : ℕ) (c : Copy) (here : HasAt flights id (Copying c))
+      (left : c.copied < words_owned segment c.entry) where
+    pub next_is_logs : log_word_of setup order (address_of_word segment c.entry c.copied)
+        ≡ next_word setup c
+    next_is_logs =
+        let s = k.in_flight id c here in
+        let whole = copy-whole segment valid order chain c s in
+        let a : ℕ = address_of_word segment c.entry c.copied in
+        let a_whole : a % 8 ≡ 0 = first_word-whole segment valid c.entry whole c.copied in
+        let owns = numbered_word-owned segment valid c.entry whole c.copied left in
+        ap (λ (es : List Entry). log_word_of setup es a) s.are
+        ∙ log_word-entry segment setup.sysid valid s.front s.back c.entry
+        (subst (IsChained segment) s.are chain) a a_whole owns
+        ∙ ap (λ (p : ℕ). entry_word segment setup.sysid (assembled (c.entry).value)
+        (c.entry).start p a) (sym s.prev_is)
+
+    pub memory_grows : (memory2 : ℕ → ℕ)
+        → IsPut memory (number_of_next setup (Copying c)) (next_word setup c) memory2
+        → (n : ℕ) → (memory n ≡ 0) ⊎ (memory n ≡ memory2 n)
+    memory_grows memory2 put n =
+        let a : ℕ = address_of_word segment c.entry c.copied in
+        let whole : a % 8 ≡ 0 = first_word-whole segment valid c.entry
+        (copy-whole segment valid order chain c (k.in_flight id c here)) c.copied in
+        dite (ℕ_discrete n (a / 8))
+        (λ e. let at : 8 * n ≡ a = omega arith in ⊎_elim
+        (λ t. inr (t ∙ ap (log_word_of setup order) at ∙ next_is_logs ∙ sym put.here
+        ∙ ap memory2 (sym e)))
+        (λ t. inl t.0) (k.words n))
+        (λ ne. inr (sym (put.elsewhere n ne)))
+
   -- the next word of a copy is stored, in a page that was mapped
   pub copies : (id : ℕ) (c : Copy) (memory2 : ℕ → ℕ) → HasAt flights id (Copying c)
       → c.copied < words_owned segment c.entry
@@ -397,13 +428,7 @@ module _ (setup : Setup) (order : List Entry) (reach : ℕ) (memory : ℕ → �
       })
       (λ other. awaited_at segment flights after (8 * n) w.id w
       (set_else flights id w.id (Copying new) other ∙ w.in_flight)) in
-      let owns = numbered_word-owned segment valid c.entry whole c.copied left in
-      let word : log_word_of setup order a ≡ next_word setup c =
-      ap (λ (es : List Entry). log_word_of setup es a) s.are
-      ∙ log_word-entry segment setup.sysid valid s.front s.back c.entry
-      (subst (IsChained segment) s.are chain) a a_whole owns
-      ∙ ap (λ (p : ℕ). entry_word segment setup.sysid (assembled (c.entry).value)
-      (c.entry).start p a) (sym s.prev_is) in
+      let word = next_is_logs id c here left in
       record {
         in_flight = λ j d there. one_set
             (λ i u. u ≡ Copying d → IsOfOrder segment order d) flights id (Copying new)

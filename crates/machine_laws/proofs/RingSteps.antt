@@ -1,6 +1,6 @@
 -- Ring and pages behind each kind of step that changes what is said of them, in a state that keeps
 -- the invariant.
-use Rattle.std.proofs.Common.{◌≡◌, ℕ, ◌+◌, true, List, [], ◌∷◌, ◌++◌, map, set, sym, refl, ap, ◌∙◌, subst, arith}
+use Rattle.std.proofs.Common.{◌≡◌, ◌⊎◌, ℕ, ◌+◌, true, List, [], ◌∷◌, ◌++◌, map, set, sym, refl, ap, ◌∙◌, subst, arith}
 use mathlib.Core.Option.{Option}
 use Rattle.wal_types.specs.declared.record.Record.{Record}
 use Rattle.wal_page.specs.Order.{Entry, end_position, prev_of}
@@ -66,21 +66,34 @@ module _ {first : DiskState} (v : View) (words : List ℕ) (home : Option Plain)
       (ring.releases setup s.order s.reach s.memory flights s.ring (s.setup_is).size
       (s.reserved).chained id (v.working).flight flies lock may.1)
 
-  pub ring_behind-stored : MayStep v store_ring_word
-      → HasRing v words home views id store_ring_word s.order s.reach (memory_stored v s.memory)
-  ring_behind-stored may =
-      ring_by store_ring_word s.order s.reach (memory_stored v s.memory) (one_more (Copying may.0))
-      (ap one_more may.1)
-      (ring.copies setup s.order s.reach s.memory flights s.ring (s.setup_is).size
-      (s.reserved).chained id may.0 (memory_stored v s.memory)
-      (subst (λ (f : Flight). HasAt flights id f) may.1 flies) (may.2).left
-      (is_mapped setup s.reach s.stage (initialised_word words) (written_word words)
-      (end_word words) (word_of_ring setup words) s.memory (map confirmed_of views) s.pages may.0 id
-      (v.mapping).confirmed (part_at confirmed_of views id v here) may.2)
-      (subst (λ (f : Flight). IsPut s.memory (number_of_next setup f) (next_value v f)
-      (memory_stored v s.memory))
-      may.1 (put_is s.memory (number_of_next setup (v.working).flight)
-      (next_value v (v.working).flight))))
+  module _ (may : MayStep v store_ring_word) where
+    copy_flies : HasAt flights id (Copying may.0)
+    copy_flies = subst (λ (f : Flight). HasAt flights id f) may.1 flies
+
+    next_put : IsPut s.memory (number_of_next setup (Copying may.0)) (next_value v (Copying may.0))
+        (memory_stored v s.memory)
+    next_put = subst (λ (f : Flight). IsPut s.memory (number_of_next setup f) (next_value v f)
+        (memory_stored v s.memory))
+        may.1 (put_is s.memory (number_of_next setup (v.working).flight)
+        (next_value v (v.working).flight))
+
+    pub ring_behind-stored : HasRing v words home views id store_ring_word s.order s.reach
+        (memory_stored v s.memory)
+    ring_behind-stored =
+        ring_by store_ring_word s.order s.reach (memory_stored v s.memory)
+        (one_more (Copying may.0)) (ap one_more may.1)
+        (ring.copies setup s.order s.reach s.memory flights s.ring (s.setup_is).size
+        (s.reserved).chained id may.0 (memory_stored v s.memory) copy_flies (may.2).left
+        (is_mapped setup s.reach s.stage (initialised_word words) (written_word words)
+        (end_word words) (word_of_ring setup words) s.memory (map confirmed_of views) s.pages may.0
+        id (v.mapping).confirmed (part_at confirmed_of views id v here) may.2)
+        next_put)
+
+    -- in memory the word turns from 0, or stays
+    pub memory_turns : (n : ℕ) → (s.memory n ≡ 0) ⊎ (s.memory n ≡ memory_stored v s.memory n)
+    memory_turns = ring.memory_grows setup s.order s.reach s.memory flights s.ring
+        (s.setup_is).size (s.reserved).chained id may.0 copy_flies (may.2).left
+        (memory_stored v s.memory) next_put
 
   pub ring_behind-published : HasRing v words home views id publish_end s.order (s.reach + 1)
       s.memory

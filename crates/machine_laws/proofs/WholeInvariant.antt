@@ -10,7 +10,7 @@ use Rattle.wal_core.specs.Sound.{IsSound}
 use Rattle.wal_core.proofs.Lists.{part_at}
 use Rattle.machine_laws.specs.LocksBehind.{order_behind, stage_behind, writer_behind, moved as stage_moved}
 use Rattle.machine_laws.proofs.SoundLockSteps.{locks_behind}
-use Rattle.machine_laws.specs.RingBehind.{HasRing, HasPages, memory_stored}
+use Rattle.machine_laws.specs.RingBehind.{HasRing, HasPages, memory_behind}
 use Rattle.machine_laws.specs.RingLeft.{LeavesCopies, LeavesPages}
 use Rattle.machine_laws.proofs.LeftSteps as left
 use Rattle.machine_laws.proofs.PageSteps as page
@@ -26,16 +26,13 @@ use Rattle.machine_laws.proofs.AlignedBehind.{aligned_behind}
 use Rattle.machine_laws.proofs.AloneBehind.{alone_behind}
 use Rattle.machine_laws.proofs.AsyncBehind.{async_behind}
 use Rattle.machine_laws.proofs.FaultBehind.{failed_behind}
+use Rattle.machine_laws.proofs.ReadingBehind.{reading_behind}
 use Rattle.segment_disk.specs.Tape.{DiskState}
 
--- how many pages are mapped behind a step, and the log's words in memory
+-- how many pages are mapped behind a step
 abbrev pub reach_behind : StepKind → ℕ → ℕ
 reach_behind publish_end reach = reach + 1
 reach_behind other reach = reach
-
-abbrev pub memory_behind : View → StepKind → (ℕ → ℕ) → ℕ → ℕ
-memory_behind v store_ring_word memory = memory_stored v memory
-memory_behind v other memory = memory
 
 -- what holds of the stage that a load leaves, where only the mapper moves it
 by_moved : (P : Stage → Type 0) (own stage : Stage) (f : Stage → Stage) → P stage
@@ -244,6 +241,7 @@ module _ {first : DiskState} (words : List ℕ) (home : Option Plain) (views : L
         pages = pages_hold e may;
         positions = positions_hold words home views id v k here live e may;
         durable = durable_holds e may;
+        reading = reading_behind words home views id v k here e may;
         watching = (behind.0).watched;
         async = async_behind words home views id v k here live e may;
         aligned = aligned_behind words home views id v k here live e may;

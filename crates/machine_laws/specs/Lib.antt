@@ -17,3 +17,4 @@ pub mod SoundPositions
 pub mod SoundWatches
 pub mod LonePasses
 pub mod Switches
+pub mod Growth

@@ -7,7 +7,7 @@ use Rattle.wal_core.specs.Views.{Stage, Plain, View, flight_of, confirmed_of}
 use Rattle.wal_core.specs.Ringed.{RingHolds}
 use Rattle.wal_core.specs.Paged.{PagesHold}
 use Rattle.wal_core.specs.Sound.{IsSound}
-use Rattle.wal_core.specs.Steps.{StepKind, number_of_next, next_value, word_of_step, value_behind, view_behind}
+use Rattle.wal_core.specs.Steps.{StepKind, store_ring_word, number_of_next, next_value, word_of_step, value_behind, view_behind}
 use Rattle.machine_laws.specs.WordsPut.{put}
 use Rattle.segment_disk.specs.Tape.{DiskState}
 
@@ -15,6 +15,11 @@ use Rattle.segment_disk.specs.Tape.{DiskState}
 abbrev pub memory_stored : View → (ℕ → ℕ) → ℕ → ℕ
 memory_stored v memory = put memory (number_of_next (v.opening).setup (v.working).flight)
     (next_value v (v.working).flight)
+
+-- and behind a step of any kind
+abbrev pub memory_behind : View → StepKind → (ℕ → ℕ) → ℕ → ℕ
+memory_behind v store_ring_word memory = memory_stored v memory
+memory_behind v other memory = memory
 
 module _ (v : View) (words : List ℕ) (home : Option Plain) (views : List View) (id : ℕ)
     (e : StepKind)

@@ -12,6 +12,7 @@ pub mod device_calls;
 pub mod durable_states;
 pub mod durable_steps;
 pub mod every_step;
+pub mod growing;
 pub mod lock_steps;
 pub mod locks_held;
 pub mod locks_told;

@@ -1,12 +1,12 @@
 -- The words of a page are loaded one by one.
-use Rattle.std.proofs.Common.{◌≡◌, ℕ, suc, ◌+◌, ◌*◌, ◌<◌, inl, inr, List, ◌∷◌, Contains, refl, sym, ap, ◌∙◌, subst, arith}
+use Rattle.std.proofs.Common.{◌≡◌, ◌≢◌, ℕ, ◌+◌, ◌*◌, ◌<◌, inl, inr, List, ◌∷◌, refl, sym, ap, ◌∙◌, subst, arith}
 use Rattle.std.proofs.lemmas.Bool.{cases_lt}
 use Rattle.std.specs.Int.{w64, to_le_bytes}
 use Rattle.segment_disk.specs.DiskImage.{word_of}
 use Rattle.segment_disk.specs.Tape.{Tape}
 use Rattle.wal_core.specs.Moves.{with_hold}
 use Rattle.wal_core.specs.Steps.{IsPageLoaded, IsToBeWritten, ring_number, ring_place}
-use Rattle.wal_core.specs.Views.{Hold, Plain, View}
+use Rattle.wal_core.specs.Views.{Hold, IsLoadedLast, Plain, View}
 use Rattle.wal_core.specs.declared.setup.Setup.{Setup}
 use Rattle.wal_rule.specs.declared.seated.SeatedPass.{SeatedPass}
 use Rattle.wal_rule.specs.declared.writer.LogWriter.{LogWriter}
@@ -20,11 +20,8 @@ staged_in v = (lent_in (v.writing).hold).staged
 -- the first words of a page were loaded, and are these bytes
 abbrev pub IsFrontLoaded : (count page : ℕ) → List ℕ → List (ℕ × ℕ) → Type 0
 IsFrontLoaded count page bytes staged = (n : ℕ) → n < count
-    → (value : ℕ) × Contains staged (page * 1024 + n, value)
-    × (word_of bytes n ≡ to_le_bytes w64 value)
-
-there_too : (s : ℕ × ℕ) (ss : List (ℕ × ℕ)) (x : ℕ × ℕ) → Contains ss x → Contains (s ∷ ss) x
-there_too s ss x at = (suc at.0, (let low = at.1 in omega arith), at.2)
+    → (word : ℕ) × IsLoadedLast (page * 1024 + n) word staged
+    × (word_of bytes n ≡ to_le_bytes w64 word)
 
 -- one word more
 module _ (n page word : ℕ) (old new : List ℕ) (staged : List (ℕ × ℕ))
@@ -34,16 +31,17 @@ module _ (n page word : ℕ) (old new : List ℕ) (staged : List (ℕ × ℕ))
   more = (page * 1024 + n, word) ∷ staged
 
   abbrev IsIn : ℕ → Type 0
-  IsIn m = (value : ℕ) × Contains more (page * 1024 + m, value)
-      × (word_of new m ≡ to_le_bytes w64 value)
+  IsIn m = (found : ℕ) × IsLoadedLast (page * 1024 + m) found more
+      × (word_of new m ≡ to_le_bytes w64 found)
 
   last : IsIn n
-  last = (word, (0, omega arith, refl), own)
+  last = (word, inl (refl, refl), own)
 
   pub one_more : IsFrontLoaded (n + 1) page new more
   one_more m less = elim (cases_lt m n) [
     | inl earlier ↦ (let e = front m earlier in
-        (e.0, there_too (page * 1024 + n, word) staged _ e.1, others m earlier ∙ e.2))
+        let apart : page * 1024 + n ≢ page * 1024 + m = (λ same. omega (arith, same, earlier)) in
+        (e.0, inr (apart, e.1), others m earlier ∙ e.2))
     | inr on ↦ (let same : n ≡ m = omega arith in subst IsIn same last)
   ]
 

@@ -1,7 +1,8 @@
 -- The words of a record.
-use Rattle.std.proofs.Common.{◌≡◌, ℕ, ◌+◌, ◌-◌, ◌*◌, ◌<◌, ◌≤◌, List, ◌∷◌, ◌++◌, length, get_or, take, drop, replicate, refl, sym, ap, ◌∙◌, arith, inl, inr}
+use Rattle.std.proofs.Common.{◌≡◌, ℕ, zero, suc, ◌+◌, ◌-◌, ◌*◌, ◌^◌, ◌<◌, ◌≤◌, List, [], ◌∷◌, ◌++◌, append_assoc, length, get_or, take, drop, replicate, refl, sym, ap, ◌∙◌, arith, inl, inr}
 use Rattle.std.specs.Int.{w32, w64, from_le_bytes, to_le_bytes}
 use Rattle.std.proofs.lemmas.Bool.{cases_lt}
+use Rattle.std.proofs.lemmas.Nat.{from_le_bytes-to_le_bytes_8, le_bytes_4, le_bytes_8}
 use Rattle.std.proofs.lemmas.List.{length-append, length-take, get_or-take, get_or_past, get_or_append_left, get_or-append_right, get_or-replicate, length-replicate, drop-append-le, drop-drop, drop_at}
 use Rattle.record_spelling.specs.Spelling.{Assembled, assembled_size, assembled_room, header_front, crc_of, spelled, filled, word_at}
 
@@ -35,15 +36,58 @@ front_read xs ys n i h =
 padded_word : (xs : List ℕ) (k : ℕ) → from_le_bytes w64 (take 8 (xs ++ replicate k 0)) ≡ from_le_bytes w64 (take 8 xs)
 padded_word xs k = same_word _ _ (λ i. front_read (xs ++ replicate k 0) xs 8 i (padded_read xs k))
 
--- the words of the header, by its bytes up to the CRC
-pub first_of_front : (a : Assembled) (prev n : ℕ) → n ≡ 0 → from_le_bytes w64 (take 8 (header_front a prev)) ≡ word_at (filled a prev) n
-first_of_front a prev n e = rw e refl
+-- the numbers of which a header is made
+pub halves : (low high : ℕ) → low < 2 ^ 32 → high < 2 ^ 32 → low + high * 4294967296 ≡ from_le_bytes w64 (to_le_bytes w32 low ++ to_le_bytes w32 high)
+halves low high low_fits high_fits = omega arith
 
-pub second_of_front : (a : Assembled) (prev n : ℕ) → n ≡ 1 → from_le_bytes w64 (take 8 (drop 8 (header_front a prev))) ≡ word_at (filled a prev) n
-second_of_front a prev n e = rw e refl
+pub halves_bytes : (low high n : ℕ) → low < 2 ^ 32 → high < 2 ^ 32 → n ≡ low + high * 4294967296 → to_le_bytes w64 n ≡ to_le_bytes w32 low ++ to_le_bytes w32 high
+halves_bytes low high n low_fits high_fits e = le_bytes_8 (to_le_bytes w32 low ++ to_le_bytes w32 high) n refl small (e ∙ halves low high low_fits high_fits)
+  where
+    small : (i : ℕ) → get_or (to_le_bytes w32 low ++ to_le_bytes w32 high) i 0 < 256
+    small zero = omega arith
+    small (suc zero) = omega arith
+    small (suc (suc zero)) = omega arith
+    small (suc (suc (suc zero))) = omega arith
+    small (suc (suc (suc (suc zero)))) = omega arith
+    small (suc (suc (suc (suc (suc zero))))) = omega arith
+    small (suc (suc (suc (suc (suc (suc zero)))))) = omega arith
+    small (suc (suc (suc (suc (suc (suc (suc zero))))))) = omega arith
+    small (suc (suc (suc (suc (suc (suc (suc (suc i)))))))) = omega arith
 
-pub third_of_front : (a : Assembled) (prev n : ℕ) → n ≡ 2 → from_le_bytes w64 (a.info ∷ a.rmid ∷ 0 ∷ 0 ∷ to_le_bytes w32 (crc_of a prev)) ≡ word_at (filled a prev) n
-third_of_front a prev n e = rw e refl
+pub two_bytes : (info rmid n : ℕ) → info < 256 → rmid < 256 → n ≡ info + rmid * 256 → to_le_bytes w32 n ≡ info ∷ rmid ∷ 0 ∷ 0 ∷ []
+two_bytes info rmid n info_fits rmid_fits e = le_bytes_4 (info ∷ rmid ∷ 0 ∷ 0 ∷ []) n refl small (e ∙ omega arith)
+  where
+    small : (i : ℕ) → get_or (info ∷ rmid ∷ 0 ∷ 0 ∷ []) i 0 < 256
+    small zero = info_fits
+    small (suc zero) = rmid_fits
+    small (suc (suc zero)) = omega arith
+    small (suc (suc (suc zero))) = omega arith
+    small (suc (suc (suc (suc i)))) = omega arith
+
+flags_and_crc : (info rmid crc : ℕ) → info < 256 → rmid < 256 → crc < 2 ^ 32 → info + rmid * 256 + crc * 4294967296 ≡ from_le_bytes w64 (info ∷ rmid ∷ 0 ∷ 0 ∷ to_le_bytes w32 crc)
+flags_and_crc info rmid crc info_fits rmid_fits crc_fits = omega arith
+
+-- the words of the header
+module _ (a : Assembled) (prev n : ℕ) where
+  pub first_of_header : n ≡ 0 → from_le_bytes w64 (to_le_bytes w32 (assembled_size a) ++ to_le_bytes w32 a.xid) ≡ word_at (filled a prev) n
+  first_of_header e = rw e refl
+
+  pub second_of_header : n ≡ 1 → prev < 2 ^ 64 → prev ≡ word_at (filled a prev) n
+  second_of_header e fits = rw e (sym (from_le_bytes-to_le_bytes_8 prev fits))
+
+  pub third_of_header : (crc : ℕ) → crc ≡ crc_of a prev → n ≡ 2 → a.info < 256 → a.rmid < 256 → crc < 2 ^ 32 → a.info + a.rmid * 256 + crc * 4294967296 ≡ word_at (filled a prev) n
+  third_of_header crc is e info_fits rmid_fits crc_fits =
+      flags_and_crc a.info a.rmid crc info_fits rmid_fits crc_fits
+      ∙ ap (λ (c : ℕ). from_le_bytes w64 (a.info ∷ a.rmid ∷ 0 ∷ 0 ∷ to_le_bytes w32 c)) is
+      ∙ rw e refl
+
+-- the header's front behind bytes, piece by piece
+pub behind_bytes : (a : Assembled) (prev : ℕ) (bytes : List ℕ) → bytes ++ (to_le_bytes w32 (assembled_size a) ++ to_le_bytes w32 a.xid) ++ to_le_bytes w64 prev ++ (a.info ∷ a.rmid ∷ 0 ∷ 0 ∷ []) ≡ bytes ++ header_front a prev
+behind_bytes a prev bytes =
+    let first = to_le_bytes w32 (assembled_size a) ++ to_le_bytes w32 a.xid in
+    let second = to_le_bytes w64 prev in
+    let last = a.info ∷ a.rmid ∷ 0 ∷ 0 ∷ [] in
+    append_assoc (bytes ++ first) second last ∙ append_assoc bytes first (second ++ last)
 
 behind_header : (front crc after_header : List ℕ) (m : ℕ) → length front ≡ 20 → length crc ≡ 4 → drop (24 + m) (front ++ crc ++ after_header) ≡ drop m after_header
 behind_header front crc after_header m f c = sym (drop-drop m 24 (front ++ crc ++ after_header)) ∙ ap (drop m) (drop_at (front ++ crc) after_header 24 (omega (arith, length-append front crc)))

@@ -1,11 +1,11 @@
 //! A record made ready to be written (PostgreSQL's XLogRecordAssemble of xloginsert.c).
 
-ghost use Rattle.std.specs.Prelude.{◌≡◌, ◌+◌, ◌*◌, ◌^◌, ◌<◌, ◌≤◌, ◌++◌, false, length, take, All, None, IfOk, OnOk, IfErr};
-ghost use Rattle.std.specs.Int.{w64, from_le_bytes};
+ghost use Rattle.std.specs.Prelude.{◌≡◌, ℕ, ◌+◌, ◌*◌, ◌^◌, ◌<◌, ◌≤◌, [], ◌∷◌, ◌++◌, false, length, take, slice_index, All, None, IfOk, OnOk, IfErr};
+ghost use Rattle.std.specs.Int.{w32, w64, from_le_bytes, to_le_bytes};
 ghost use Rattle.wal_types.specs.declared.record.Record.{Record};
 ghost use Rattle.record_spelling.specs.Record.{switch_record};
 ghost use Rattle.record_spelling.specs.Refusal.{RefusesToAssemble, refusal_of};
-ghost use Rattle.record_spelling.specs.Spelling.{AssembledFits, IsWritable, RecordOf, assembled, assembled_of, assembled_room, assembled_size, crc_of, filled, header_front, is_assembled_switch, word_at};
+ghost use Rattle.record_spelling.specs.Spelling.{AssembledFits, IsWritable, RecordOf, assembled, assembled_of, assembled_room, assembled_size, crc_of, filled, is_assembled_switch, word_at};
 
 use crate::assembly::after_header;
 use crate::fault::BodyErr;
@@ -25,14 +25,14 @@ pub struct Body {
     rmid: u8,
     info: u8,
     after_header: Vec<u8>,
-    /// The CRC of `after_header`, which goes on over the header.
+    /// The CRC with zeros for the start of the record before, which is known only at its place.
     crc: Crc,
 }
 
 impl Model for Body {
-    ghost use Rattle.std.specs.Prelude.{◌≡◌};
+    ghost use Rattle.std.specs.Prelude.{◌≡◌, ◌++◌};
     ghost use Rattle.wal_crc32c.specs.Crc32c.{HasFed};
-    ghost use Rattle.record_spelling.specs.Spelling.{Assembled, AssembledFits, RecordOf, assembled_of};
+    ghost use Rattle.record_spelling.specs.Spelling.{Assembled, AssembledFits, RecordOf, assembled_of, header_front};
 
     ghost Value = { Assembled };
 
@@ -40,7 +40,9 @@ impl Model for Body {
 
     ghost invariant = { λ b.
         let value = assembled_of b.xid.0 b.rmid b.info b.after_header.items in
-        HasFed b.crc b.after_header.items × AssembledFits value × RecordOf value };
+        HasFed b.crc (b.after_header.items ++ header_front value 0)
+        × AssembledFits value
+        × RecordOf value };
 }
 
 impl Body {
@@ -78,8 +80,10 @@ impl Body {
         requires { RecordOf (assembled_of xid.0 rmid info after_header.items) }
         ensures { result ≡ assembled_of xid.0 rmid info after_header.items }
     {
+        let size = (HEADER_LEN + after_header.len()) as u32;
         let mut crc = Crc::new();
         crc.update(&after_header);
+        crc.update_round_gap(size_and_xid(size, xid), info_and_manager(info, rmid));
         Body {
             xid,
             rmid,
@@ -97,6 +101,7 @@ impl Body {
     }
 
     /// How many bytes the record is spelled in.
+    #[inline(always)]
     pub fn len(&self) -> u32
         ensures size { result ≡ assembled_size self.now }
         ensures bounds { (24 ≤ result) × (result ≤ 1048576) }
@@ -108,6 +113,7 @@ impl Body {
     }
 
     /// How many bytes the record takes up: a multiple of 8.
+    #[inline(always)]
     pub fn room(&self) -> u32
         ensures room { result ≡ assembled_room self.now }
         ensures bounds { (24 ≤ result) × (result ≤ 1048576) }
@@ -135,23 +141,51 @@ impl Body {
         }
     }
 
-    // One of the three words of the header.
+    // The three words of the header.
+    #[inline(always)]
+    pub(crate) fn header_words(&self, prev: Lsn) -> [u64; 3]
+        ensures words { (n : ℕ) → n < 3
+            → slice_index result n ≡ word_at (filled self.now prev.0) n }
+        ensures three { length result ≡ 3 }
+    {
+        [
+            self.header_word(prev, 0),
+            self.header_word(prev, 1),
+            self.header_word(prev, 2),
+        ]
+    }
+
+    // One of them. Only the last one needs the CRC.
+    #[inline(always)]
     fn header_word(&self, prev: Lsn, n: u32) -> u64
         requires { n < 3 }
         ensures { result ≡ word_at (filled self.now prev.0) n }
     {
-        let front = self.header_front(prev);
         match n {
-            0 => first_word(&front),
-            1 => first_word(&front[8..]),
+            0 => size_and_xid(self.len(), self.xid),
+            1 => prev.0,
             _ => {
-                let [c0, c1, c2, c3] = self.crc(&front, prev).to_le_bytes();
-                u64::from_le_bytes([front[16], front[17], front[18], front[19], c0, c1, c2, c3])
+                u64::from(info_and_manager(self.info, self.rmid))
+                    + (u64::from(self.crc(prev)) << 32)
             }
         }
     }
 
+    // Puts words from the n-th on one by one, as a copy needs that goes on within the header.
+    #[inline(never)]
+    pub(crate) fn put_each(&self, prev: Lsn, n: u32, words: &mut [u64])
+        requires { 8 * (n + length words.old) ≤ assembled_room self.now }
+        ensures { (k : ℕ) → k < length words.old
+            → slice_index words.new k ≡ word_at (filled self.now prev.0) (n + k) }
+    {
+        prove!(words.len() <= self.words() as usize);
+        for (k, word) in words.iter_mut().enumerate() {
+            *word = self.word(prev, n + k as u32);
+        }
+    }
+
     // The bytes behind the header.
+    #[inline(always)]
     pub(crate) fn after_header(&self) -> &[u8]
         ensures bytes { result.now ≡ self.now.after_header }
         ensures ready { AssembledFits self.now }
@@ -159,28 +193,32 @@ impl Body {
         &self.after_header
     }
 
-    // The first 20 bytes.
-    fn header_front(&self, prev: Lsn) -> [u8; 20]
-        ensures { result ≡ header_front self.now prev.0 }
-    {
-        let [s0, s1, s2, s3] = self.len().to_le_bytes();
-        let [x0, x1, x2, x3] = self.xid.0.to_le_bytes();
-        let [p0, p1, p2, p3, p4, p5, p6, p7] = prev.0.to_le_bytes();
-        [
-            s0, s1, s2, s3, x0, x1, x2, x3, p0, p1, p2, p3, p4, p5, p6, p7, self.info, self.rmid,
-            0, 0,
-        ]
-    }
-
-    // The CRC runs over what stands behind the header, and then over the header's front.
-    fn crc(&self, front: &[u8; 20], prev: Lsn) -> u32
-        requires { front.now ≡ header_front self.now prev.0 }
+    // The CRC runs over what stands behind the header, and then over the header's first 20 bytes,
+    // in which the start of the record before is the gap.
+    #[inline(always)]
+    fn crc(&self, prev: Lsn) -> u32
         ensures { result ≡ crc_of self.now prev.0 }
     {
-        let mut crc = self.crc;
-        crc.update(front);
-        crc.value()
+        self.crc.with_gap_filled(prev.0).value()
     }
+}
+
+// The header's first eight bytes as a number: the record's size and its transaction.
+#[inline(always)]
+fn size_and_xid(size: u32, xid: Xid) -> u64
+    ensures number { result ≡ from_le_bytes w64 (to_le_bytes w32 size ++ to_le_bytes w32 xid.0) }
+    ensures bytes { to_le_bytes w64 result ≡ to_le_bytes w32 size ++ to_le_bytes w32 xid.0 }
+{
+    u64::from(size) + (u64::from(xid.0) << 32)
+}
+
+// The four bytes before the header's CRC as a number: info, the manager and two zeros.
+#[inline(always)]
+fn info_and_manager(info: u8, rmid: u8) -> u32
+    ensures number { result ≡ info + rmid * 256 }
+    ensures bytes { to_le_bytes w32 result ≡ info ∷ rmid ∷ 0 ∷ 0 ∷ [] }
+{
+    u32::from(info) + (u32::from(rmid) << 8)
 }
 
 // The numbers of a value of the program fit their fields.

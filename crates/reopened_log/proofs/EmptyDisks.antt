@@ -14,7 +14,6 @@ use Rattle.flush_core.specs.SettledLog.{IsZeroOrLogWord}
 use Rattle.wal_page.proofs.WordPositions.{end_address_of-first_position}
 use Rattle.wal_reader.specs.Pages.{Pages, page_of_image, pages_in}
 use Rattle.wal_reader.specs.Decodes.{Decodes, ReadsFrom, begin_at, begin_in, ended}
-use Rattle.written_log.specs.SettledFound.{IsReadOrLost}
 use Rattle.reopened_log.specs.Empty.{EmptyDisksWereLeft}
 
 -- ---- what a reader finds where no page is there
@@ -90,7 +89,7 @@ empty_disks_were_left size sysid t valid known narrow nothing =
           decodes = nothing_found size state nothing;
         };
         only = λ segment apart. nothing segment;
-        may_lose = assures_nothing size state nothing (IsReadOrLost size state);
+        never_whole = λ more. absurd (omega (arith, more));
         whole = nothing_whole size state nothing;
         low = room;
       },

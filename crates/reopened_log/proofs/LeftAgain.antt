@@ -1,4 +1,4 @@
--- What a crash leaves of a log is a disk that this program left.
+-- What a crash leaves of a log that is written is a disk that this program left.
 use Rattle.std.proofs.Common.{◌≡◌, ℕ, ◌/◌, ◌^◌, ◌<◌, ◌⊎◌, List, [], length, Option, Some, None, inl, inr, refl, sym, ap, subst, ◌∙◌, arith}
 use Rattle.std.specs.Prelude.{IfSome, slice_get}
 use Rattle.std.specs.Option.{IsSomeAnd}
@@ -16,11 +16,11 @@ use Rattle.wal_reader.specs.declared.found.FoundRecord.{FoundRecord}
 use Rattle.wal_reader.proofs.SettledLaws.{decoding_is_settled}
 use Rattle.written_log.specs.FoundLog.{HasFound}
 use Rattle.written_log.specs.SettledFound.{IsReadOrLost, MayOnlyLose, NothingWaits}
-use Rattle.written_log.proofs.SettledFound.{crashed_disks_may_hold_log, crashed_logs_are_found_again}
-use Rattle.reopened_log.specs.Again.{CrashedLogsWereLeft, CrashedSettlingsWereLeft, IsLeftByCrash}
-use Rattle.reopened_log.specs.WasLeft.{WasLeft}
+use Rattle.written_log.proofs.NeverWhole.{losses_never_make_next_whole}
+use Rattle.written_log.proofs.SettledFound.{crashed_disks_may_hold_log}
+use Rattle.reopened_log.specs.Again.{CrashedLogsWereLeft, IsLeftByCrash}
+use Rattle.reopened_log.specs.WasLeft.{WasLeftOf}
 use Rattle.reopened_log.proofs.MadeSegments.{are_only, are_there, made_segments}
-use Rattle.reopened_log.proofs.Surviving.{old}
 
 -- ---- nothing waits
 
@@ -67,16 +67,19 @@ module _ (size count : ℕ) (Fits : ℕ → ℕ → List ℕ → Type 0) (state 
 
 -- ---- a disk on which a log is found that a crash left
 
-was_left : (size sysid count : ℕ) (order : List Entry) (t crashed : Tape) (moment : ℕ) (found : List FoundRecord) → HasFound size sysid count order (state_now crashed) found → AreOnly count (state_now crashed) → count < 2 ^ 60 / size → IsLeftByCrash t moment crashed → WasLeft size sysid crashed found
-was_left size sysid count order t crashed moment found has only low crash = record {
-  order = order;
-  count = count;
-  has_found = has;
-  only = only;
-  may_lose = quiet_loses size count (IsZeroOrLogWord size sysid order) (state_now crashed) has.may.valid crash.quiet has.may.lawful;
-  whole = left_whole size count (IsZeroOrLogWord size sysid order) (state_now crashed) has.may.lawful t moment crash.leaves;
-  low = low;
-}
+pub was_left : (size sysid count : ℕ) (order : List Entry) (t crashed : Tape) (moment : ℕ) (found : List FoundRecord) → HasFound size sysid count order (state_now crashed) found → AreOnly count (state_now crashed) → count < 2 ^ 60 / size → IsLeftByCrash t moment crashed → WasLeftOf size sysid order crashed found
+was_left size sysid count order t crashed moment found has only low crash = (
+  record {
+    order = order;
+    count = count;
+    has_found = has;
+    only = only;
+    never_whole = losses_never_make_next_whole size sysid count order (state_now crashed) found has only (quiet_loses size count (IsZeroOrLogWord size sysid order) (state_now crashed) has.may.valid crash.quiet has.may.lawful);
+    whole = left_whole size count (IsZeroOrLogWord size sysid order) (state_now crashed) has.may.lawful t moment crash.leaves;
+    low = low;
+  },
+  refl,
+)
 
 pub crashed_logs_were_left : CrashedLogsWereLeft
 crashed_logs_were_left size sysid since moment order t crashed valid known narrow chained bounded assures made later crash none_torn =
@@ -94,13 +97,3 @@ crashed_logs_were_left size sysid since moment order t crashed valid known narro
       decodes = settled.2;
     } in
     (settled.0, was_left size sysid segments.0 order t crashed moment settled.0 has only (omega (arith, segments.1, made.low)) crash)
-
-pub crashed_settlings_were_left : CrashedSettlingsWereLeft
-crashed_settlings_were_left opening handed moment t began crashed found r since crash none_torn =
-    let size = (opening.setup).segment_size in
-    let sysid = (opening.setup).sysid in
-    let state = state_now crashed in
-    let settled = decoding_is_settled size (image_as_read state) size None r.left.has_found.may.valid in
-    let again =
-    crashed_logs_are_found_again size sysid r.left.count handed moment r.left.order (state_now t) state found began r.left.has_found r.left.only (old opening handed t began found r) since crash.quiet crash.leaves none_torn settled.0 settled.1 settled.2 in
-    (settled.0, was_left size sysid r.left.count r.left.order began crashed moment settled.0 again.0 again.1 r.left.low crash)

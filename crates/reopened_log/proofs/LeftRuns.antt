@@ -30,8 +30,9 @@ use Rattle.wal_script.specs.Asked.{AskedLine}
 use Rattle.told_lines.specs.declared.told.Told.{Told}
 use Rattle.told_lines.specs.Told.{order_from}
 use Rattle.run_laws.specs.Assured.{RunAssures, TapeGoesOn, order_told}
-use Rattle.reopened_log.specs.Again.{CrashedReopenedRunsWereLeft, CrashedRunsWereLeft, HasMadeInTurn}
-use Rattle.reopened_log.proofs.LeftAgain.{crashed_logs_were_left, crashed_settlings_were_left}
+use Rattle.reopened_log.specs.Again.{CrashedReopenedRunsWereLeft, CrashedRunsWereLeft, HasMadeInTurn, IsOrderAt}
+use Rattle.reopened_log.proofs.CrashedSettlings.{crashed_reopened_settlings_were_left}
+use Rattle.reopened_log.proofs.LeftAgain.{crashed_logs_were_left}
 use Rattle.reopened_log.proofs.MadeSegments.{first_page}
 use Rattle.reopened_log.proofs.SuitedDisks.{only_began, reopened_logs_are_suited}
 use Rattle.reopened_log.proofs.Surviving.{calls_counted, left_before, some_tape}
@@ -69,7 +70,7 @@ made_low setup is position made last written within few low reached =
     let counted : last + 2 ≤ 2 ^ 60 / size = (le-div_iff_mul-le positive).1 far in
     omega (arith, counted)
 
-some_id : (n : ℕ) → n ≢ 0 → 0 < n
+pub some_id : (n : ℕ) → n ≢ 0 → 0 < n
 some_id n other = elim (cases_lt 0 n) [ inl lt ↦ lt | inr nothing ↦ absurd (other (omega (arith, nothing))) ]
 
 -- ---- the writer
@@ -106,14 +107,14 @@ page_there size segment IsThere Fits (Some s) positive assures there =
     first_page s (omega (arith, positive, assures.0))
 
 module _ (opening : Opening) (began now : Tape) (goes_on : TapeGoesOn (Some began) (Some now)) (counted : opening.moment ≡ length began.calls) where
-  state_then : state_at now opening.moment ≡ state_now began
+  pub state_then : state_at now opening.moment ≡ state_now began
   state_then =
       let is : now ≡ record began { calls = began.calls ++ goes_on.0 } = some_tape now (record began { calls = began.calls ++ goes_on.0 }) goes_on.1 in
       ap (λ (t : Tape). state_at t opening.moment) is
       ∙ ap (λ (n : ℕ). after_calls began.at_first (take n (began.calls ++ goes_on.0))) counted
       ∙ ap (λ (calls : List Call). after_calls began.at_first calls) (take-append_seam began.calls goes_on.0)
 
-  began_suited : IsSuited opening (state_now began) → BeganSuited opening now
+  pub began_suited : IsSuited opening (state_now began) → BeganSuited opening now
   began_suited suited = subst (IsSuited opening) (sym state_then) suited
 
   module _ (positive : 0 < pages_of (opening.setup).segment_size)
@@ -133,19 +134,19 @@ module _ (opening : Opening) (last faults : ℕ) (began now : Tape) (script : Li
   abbrev sysid : ℕ
   sysid = (opening.setup).sysid
 
-  setup_is : IsSetup opening.setup
+  pub setup_is : IsSetup opening.setup
   setup_is = run.machine.sound.setup_is
 
-  bounded : end_address_of (opening.setup).segment_size (end_position (opening.setup).segment_size (order_told opening script lists)) ≤ 2 ^ 60
+  pub bounded : end_address_of (opening.setup).segment_size (end_position (opening.setup).segment_size (order_told opening script lists)) ≤ 2 ^ 60
   bounded = subst (λ (es : List Entry). end_address_of size (end_position size es) ≤ 2 ^ 60) run.machine.order_is (omega (arith, ends_low opening.setup setup_is (end_position size run.machine.sound.order) run.machine.sound.reserved.within))
 
   home_is : run.machine.writer ≡ run.machine.sound.writer
   home_is = same_writer _ run.machine.writer run.machine.sound.writer _ run.machine.sound.locks.writing
 
-  writer_tape : tape_from run.machine.first (run.machine.sound.writer).calls ≡ Some now
+  pub writer_tape : tape_from run.machine.first (run.machine.sound.writer).calls ≡ Some now
   writer_tape = ap (λ (w : Plain). tape_from run.machine.first w.calls) (sym home_is) ∙ run.machine.tape_is
 
-  assures : BeganSuited opening now → TapeAssures (opening.setup).segment_size IsNowhere (IsZeroOrLogWord (opening.setup).segment_size (opening.setup).sysid (order_told opening script lists)) opening.moment now
+  pub assures : BeganSuited opening now → TapeAssures (opening.setup).segment_size IsNowhere (IsZeroOrLogWord (opening.setup).segment_size (opening.setup).sysid (order_told opening script lists)) opening.moment now
   assures suited = subst (λ (es : List Entry). TapeAssures size IsNowhere (IsZeroOrLogWord size sysid es) opening.moment now) run.machine.order_is
       (at_suited run.machine.first opening run.machine.sound.writer (TapeAssures size IsNowhere (IsLawfulAt opening.setup run.machine.sound.order) opening.moment) now writer_tape suited run.machine.sound.durable.lawful)
 
@@ -157,7 +158,7 @@ module _ (opening : Opening) (last faults : ℕ) (began now : Tape) (script : Li
       (only : AreOnly opening.made (state_now began))
       (few : opening.made ≤ (opening.setup).cap_segments)
       (counted : opening.moment ≡ length began.calls) where
-    made_in_turn : HasMadeInTurn (opening.setup).segment_size opening.moment now
+    pub made_in_turn : HasMadeInTurn (opening.setup).segment_size opening.moment now
     made_in_turn =
         let positive : 0 < pages_of size =
         omega (arith, (segment_size_in_pages size setup_is.size).1) in
@@ -179,20 +180,45 @@ crashed_runs_were_left opening moment last faults began now crashed script lists
     crashed_logs_were_left (opening.setup).segment_size (opening.setup).sysid opening.moment moment (order_told opening script lists) now crashed is.size (some_id (opening.setup).sysid is.named) narrow run.gapless (bounded opening last faults began now script lists run)
     (assures opening last faults began now script lists run (began_suited opening began now run.goes_on counted suited)) (made_in_turn opening last faults began now script lists run suited only few counted) since crash none_torn
 
+-- ---- of which order
+
+module _ (opening : Opening) (moment : ℕ) (handed_in of_run order : List Entry) where
+  pub order_before : moment < opening.moment → order ≡ handed_in
+      → IsOrderAt opening moment handed_in of_run order
+  order_before early is = record {
+    early = λ _. is;
+    later = λ later. absurd (omega (arith, early, later));
+  }
+
+  pub order_since : opening.moment ≤ moment → order ≡ of_run
+      → IsOrderAt opening moment handed_in of_run order
+  order_since later is = record {
+    early = λ early. absurd (omega (arith, early, later));
+    later = λ _. is;
+  }
+
 pub crashed_reopened_runs_were_left : CrashedReopenedRunsWereLeft
 crashed_reopened_runs_were_left opening handed moment last faults t began now crashed found script lists r run since crash old_torn none_torn =
+    let es = order_told opening script lists in
     elim (cases_lt moment opening.moment) [
-      | inl early ↦ crashed_settlings_were_left opening handed moment t began crashed found r since
-          (record {
-            quiet = crash.quiet;
-            leaves = left_before opening handed t began found r now
-                (order_from (opening.setup).segment_size 1 script lists) script lists last
-                run.goes_on run.moments moment (image_as_read (state_now crashed)) since
-                crash.leaves early;
-          }) old_torn
-      | inr later ↦ crashed_runs_were_left opening moment last faults began now crashed script lists
-          run (reopened_logs_are_suited opening handed t began found r)
+      | inl early ↦
+          (let leaves = left_before opening handed t began found r now
+          (order_from (opening.setup).segment_size 1 script lists) script lists last run.goes_on
+          run.moments moment (image_as_read (state_now crashed)) since crash.leaves early in
+          let was = crashed_reopened_settlings_were_left opening handed moment t began crashed found
+          r since (record { quiet = crash.quiet; leaves = leaves }) old_torn in (
+            was.0,
+            was.1.0,
+            order_before opening moment r.left.order es was.1.0.order early was.1.1,
+          ))
+      | inr later ↦
+          (let was = crashed_runs_were_left opening moment last faults began now crashed script
+          lists run (reopened_logs_are_suited opening handed t began found r)
           (only_began opening handed t began found r) r.openable.made_within
           (calls_counted opening handed t began found r) r.left.has_found.may.narrow later crash
-          none_torn
+          none_torn in (
+            was.0,
+            was.1.0,
+            order_since opening moment r.left.order es was.1.0.order later was.1.1,
+          ))
     ]

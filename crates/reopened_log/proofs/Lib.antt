@@ -4,7 +4,12 @@ pub mod EarlyMoments
 pub mod Surviving
 pub mod MadeSegments
 pub mod LeftAgain
+pub mod CutWrites
+pub mod SettlingCalls
+pub mod StoppedSettlings
+pub mod CrashedSettlings
 pub mod LeftRuns
+pub mod StoppedRuns
 pub mod EmptyDisks
 pub mod OwnRows
 pub mod OwnPages

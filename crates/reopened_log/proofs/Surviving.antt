@@ -16,7 +16,8 @@ use Rattle.wal_reader.specs.Decodes.{Decodes}
 use Rattle.written_log.specs.FoundLog.{end_behind}
 use Rattle.written_log.specs.Torn.{NoTornPass}
 use Rattle.written_log.specs.Written.{found_entry, found_from, found_of}
-use Rattle.written_log.proofs.SettledFound.{losses_leave_fronts, synced_logs_decode_to_found}
+use Rattle.written_log.proofs.NeverWhole.{unsynced_logs_decode_to_fronts}
+use Rattle.written_log.proofs.SettledFound.{synced_logs_decode_to_found}
 use Rattle.wal_script.specs.Asked.{AskedLine}
 use Rattle.told_lines.specs.declared.told.Told.{Told}
 use Rattle.told_lines.specs.Crash.{IsFrontWithTold}
@@ -80,7 +81,7 @@ module _ (opening : Opening) (handed : ℕ) (t began : Tape) (found : List Found
   module _ (moment : ℕ) (image : DiskImage) (since : handed ≤ moment) (leaves : LeftAt began moment image) (none_torn : NoTornPass (opening.setup).segment_size (pages_in (opening.setup).segment_size image) r.left.order) (told : List FoundRecord) (answer : Answer)
       (decodes : Decodes (opening.setup).segment_size (pages_in (opening.setup).segment_size image) (opening.setup).segment_size None told answer) where
     pub front_before : (behind : List FoundRecord) × (found ≡ told ++ behind)
-    front_before = losses_leave_fronts size sysid r.left.count handed moment r.left.order (before opening handed t began found r) found began image r.left.has_found r.left.only r.left.may_lose old since leaves none_torn told answer decodes
+    front_before = unsynced_logs_decode_to_fronts size sysid r.left.count handed moment r.left.order (before opening handed t began found r) found began image r.left.has_found r.left.only r.left.never_whole old since leaves none_torn told answer decodes
 
     pub all_synced : handed + opening.made ≤ moment → take (length opening.found) told ≡ found_of (opening.setup).segment_size opening.found
     all_synced after =

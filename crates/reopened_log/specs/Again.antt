@@ -6,12 +6,14 @@ use Rattle.segment_disk.specs.Assured.{IsNowhere, TapeAssures}
 use Rattle.segment_disk.specs.DiskImage.{LeftAt, image_as_read}
 use Rattle.segment_disk.specs.Tape.{Tape, state_at, state_now}
 use Rattle.wal_page.specs.Order.{Entry, IsChained, end_position}
-use Rattle.flush_core.specs.Settled.{AreThere}
+use Rattle.flush_core.specs.Settled.{AreThere, HasSettled}
 use Rattle.flush_core.specs.SettledLog.{AreOnly, IsZeroOrLogWord}
 use Rattle.wal_reader.specs.Pages.{pages_in}
 use Rattle.wal_reader.specs.declared.found.FoundRecord.{FoundRecord}
 use Rattle.written_log.specs.SettledFound.{NothingWaits}
 use Rattle.written_log.specs.Torn.{NoTornPass}
+use Rattle.found_log.specs.Found.{FindsLog, HasBegunToSettle}
+use Rattle.found_log.specs.declared.finding.FoundLog.{FoundLog}
 use Rattle.wal_script.specs.Asked.{AskedLine}
 use Rattle.told_lines.specs.declared.told.Told.{Told}
 use Rattle.wal_core.specs.Made.{MakeInTurn}
@@ -19,7 +21,7 @@ use Rattle.wal_core.specs.Suited.{IsSuited}
 use Rattle.wal_core.specs.Words.{Opening}
 use Rattle.run_laws.specs.Assured.{RunAssures, order_told}
 use Rattle.reopened_log.specs.Reopened.{IsReopenedOn}
-use Rattle.reopened_log.specs.WasLeft.{WasLeft}
+use Rattle.reopened_log.specs.WasLeft.{WasLeft, WasLeftOf}
 
 -- a disk as a crash leaves it at a moment of a tape: nothing waits for a sync on it
 pub record IsLeftByCrash (t : Tape) (moment : ℕ) (crashed : Tape) : Type 0 where
@@ -36,8 +38,10 @@ pub record HasMadeInTurn (size since : ℕ) (t : Tape) : Type 0 where
   pub in_turn : MakeInTurn first (drop since t.calls) last
   pub low : last + 1 < 2 ^ 60 / size
 
+-- ---- a log that is written
+
 -- what a crash leaves, of a tape that holds nothing but words of an order's log from a moment on,
--- was left by this program
+-- was left by this program, with that order
 abbrev pub CrashedLogsWereLeft : Type 0
 CrashedLogsWereLeft =
     (size sysid since moment : ℕ) (order : List Entry) (t crashed : Tape) → IsSegmentSize size
@@ -46,11 +50,44 @@ CrashedLogsWereLeft =
     → TapeAssures size IsNowhere (IsZeroOrLogWord size sysid order) since t
     → HasMadeInTurn size since t → since ≤ moment → IsLeftByCrash t moment crashed
     → NoTornPass size (pages_in size (image_as_read (state_now crashed))) order
-    → (found : List FoundRecord) × WasLeft size sysid crashed found
+    → (found : List FoundRecord) × WasLeftOf size sysid order crashed found
 
--- so was what a crash leaves between the moment at which such a disk was handed in and the opening
-abbrev pub CrashedSettlingsWereLeft : Type 0
-CrashedSettlingsWereLeft =
+-- ---- a log that is settled
+
+-- what a crash leaves of a disk that was left so was left so too, with the same order: of one on
+-- which no call was made since,
+abbrev pub CrashedDisksWereLeft : Type 0
+CrashedDisksWereLeft =
+    (size sysid : ℕ) (t crashed : Tape) (found : List FoundRecord)
+    → (left : WasLeft size sysid t found) → IsLeftByCrash t (length t.calls) crashed
+    → NoTornPass size (pages_in size (image_as_read (state_now crashed))) left.order
+    → (told : List FoundRecord) × WasLeftOf size sysid left.order crashed told
+
+-- at any moment since it was handed in, where a call of the disk failed, so that its log was not
+-- settled,
+abbrev pub CrashedStoppedSettlingsWereLeft : Type 0
+CrashedStoppedSettlingsWereLeft =
+    (size sysid cap handed last moment : ℕ) (t now crashed : Tape) (found : List FoundRecord)
+    → (left : WasLeft size sysid t found) → handed ≡ length t.calls
+    → HasBegunToSettle size sysid cap (Some t) (Some now) handed last → handed ≤ moment
+    → IsLeftByCrash now moment crashed
+    → NoTornPass size (pages_in size (image_as_read (state_now crashed))) left.order
+    → (told : List FoundRecord) × WasLeftOf size sysid left.order crashed told
+
+-- where it was settled in the end,
+abbrev pub CrashedCompletedSettlingsWereLeft : Type 0
+CrashedCompletedSettlingsWereLeft =
+    (size sysid cap handed last moment : ℕ) (log : FoundLog) (t now crashed : Tape)
+    (found : List FoundRecord) → (left : WasLeft size sysid t found) → handed ≡ length t.calls
+    → FindsLog size sysid cap (Some t) log
+    → HasSettled size log.spelled.end.0 log.made (Some t) (Some now) handed last → handed ≤ moment
+    → IsLeftByCrash now moment crashed
+    → NoTornPass size (pages_in size (image_as_read (state_now crashed))) left.order
+    → (told : List FoundRecord) × WasLeftOf size sysid left.order crashed told
+
+-- and where its log was opened, up to then
+abbrev pub CrashedReopenedSettlingsWereLeft : Type 0
+CrashedReopenedSettlingsWereLeft =
     (opening : Opening) (handed moment : ℕ) (t began crashed : Tape) (found : List FoundRecord)
     → (reopened : IsReopenedOn opening handed t began found) → handed ≤ moment
     → IsLeftByCrash began moment crashed
@@ -58,10 +95,21 @@ CrashedSettlingsWereLeft =
     (pages_in (opening.setup).segment_size (image_as_read (state_now crashed)))
     (reopened.left).order
     → (told : List FoundRecord)
-    × WasLeft (opening.setup).segment_size (opening.setup).sysid crashed told
+    × WasLeftOf (opening.setup).segment_size (opening.setup).sysid (reopened.left).order crashed
+    told
 
--- so was what a crash leaves of a run, at any moment since its log was opened: on a disk that had
--- no segment then but those that were found, as one that held nothing, or one that was settled
+-- ---- a run
+
+-- until the opening an order is the one with which the disk was handed in, and from then on that of
+-- the run
+pub record IsOrderAt (opening : Opening) (moment : ℕ) (handed_in of_run order : List Entry)
+    : Type 0 where
+  pub early : moment < opening.moment → order ≡ handed_in
+  pub later : opening.moment ≤ moment → order ≡ of_run
+
+-- what a crash leaves of a run was left so, with the run's order, at any moment since its log was
+-- opened: on a disk that had no segment then but those that were found, as one that held nothing,
+-- or one that was settled
 abbrev pub CrashedRunsWereLeft : Type 0
 CrashedRunsWereLeft =
     (opening : Opening) (moment last faults : ℕ) (began now crashed : Tape)
@@ -75,7 +123,8 @@ CrashedRunsWereLeft =
     (pages_in (opening.setup).segment_size (image_as_read (state_now crashed)))
     (order_told opening script lists)
     → (found : List FoundRecord)
-    × WasLeft (opening.setup).segment_size (opening.setup).sysid crashed found
+    × WasLeftOf (opening.setup).segment_size (opening.setup).sysid
+    (order_told opening script lists) crashed found
 
 -- so was what a crash leaves of a run that goes on with a log, at any moment since its disk was
 -- handed in: the log that is found there may be settled and gone on with as this one was
@@ -93,4 +142,5 @@ CrashedReopenedRunsWereLeft =
     (pages_in (opening.setup).segment_size (image_as_read (state_now crashed)))
     (order_told opening script lists)
     → (told : List FoundRecord)
-    × WasLeft (opening.setup).segment_size (opening.setup).sysid crashed told
+    × (again : WasLeft (opening.setup).segment_size (opening.setup).sysid crashed told)
+    × IsOrderAt opening moment (reopened.left).order (order_told opening script lists) again.order

@@ -4,4 +4,6 @@ pub mod FoundFirst
 pub mod Reopened
 pub mod Surviving
 pub mod Again
+pub mod StopsAt
+pub mod Stopped
 pub mod Own

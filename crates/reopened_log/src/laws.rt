@@ -1,8 +1,25 @@
-ghost use Rattle.reopened_log.specs.Again.{CrashedLogsWereLeft, CrashedReopenedRunsWereLeft, CrashedRunsWereLeft, CrashedSettlingsWereLeft};
+ghost use Rattle.reopened_log.specs.Again.{
+  CrashedCompletedSettlingsWereLeft,
+  CrashedDisksWereLeft,
+  CrashedLogsWereLeft,
+  CrashedReopenedRunsWereLeft,
+  CrashedReopenedSettlingsWereLeft,
+  CrashedRunsWereLeft,
+  CrashedStoppedSettlingsWereLeft,
+};
 ghost use Rattle.reopened_log.specs.Empty.{EmptyDisksWereLeft};
 ghost use Rattle.reopened_log.specs.FoundFirst.{FoundEntriesComeFirst, LeftLogsAreRead};
 ghost use Rattle.reopened_log.specs.Own.{LeftLogsAreNotForeign, LeftLogsAreOwn};
 ghost use Rattle.reopened_log.specs.Reopened.{ReopenedLogsAreSuited};
+ghost use Rattle.reopened_log.specs.Stopped.{
+  ReopenedSettlingsWereLeft,
+  StoppedLogsWereLeft,
+  StoppedReopenedRunsWereLeft,
+  StoppedRunsWereLeft,
+  StoppedSettlingsWereLeft,
+  CompletedSettlingsWereLeft,
+};
+ghost use Rattle.reopened_log.specs.StopsAt.{TapesStopAtTheirEnds};
 ghost use Rattle.reopened_log.specs.Surviving.{ReopenedLogsSurviveCrashes};
 
 /// A law: nobody's entries whose records were found of a log are the log's first entries but for
@@ -25,13 +42,38 @@ pub fn reopened_logs_survive_crashes()
     ensures { ReopenedLogsSurviveCrashes }
 {}
 
-/// A law: what a crash leaves is again a disk that this program left, of a log that is settled as
-/// well as of one that a run writes.
+/// A law: what a crash leaves of a disk that this program left is again such a disk, with the same
+/// order: of one on which no call was made, and while its log is settled.
+pub fn crashed_settlings_were_left()
+    ensures uncalled { CrashedDisksWereLeft }
+    ensures stopped { CrashedStoppedSettlingsWereLeft }
+    ensures completed { CrashedCompletedSettlingsWereLeft }
+    ensures reopened { CrashedReopenedSettlingsWereLeft }
+{}
+
+/// A law: what a crash leaves while a log is written is a disk that this program left, with that
+/// log's order.
 pub fn crashed_logs_were_left()
     ensures written { CrashedLogsWereLeft }
-    ensures settled { CrashedSettlingsWereLeft }
     ensures run { CrashedRunsWereLeft }
     ensures reopened { CrashedReopenedRunsWereLeft }
+{}
+
+/// A law: where a process stops while a log is settled, with no crash of the disk behind it, be it
+/// within a write, the disk is one that this program left, with the same records and order. So it
+/// is where all calls were made (`now`).
+pub fn stopped_settlings_were_left()
+    ensures stopped { StoppedSettlingsWereLeft }
+    ensures completed { CompletedSettlingsWereLeft }
+    ensures reopened { ReopenedSettlingsWereLeft }
+    ensures now { TapesStopAtTheirEnds }
+{}
+
+/// A law: so it is while a log is written, with that log's order and records of it.
+pub fn stopped_logs_were_left()
+    ensures written { StoppedLogsWereLeft }
+    ensures run { StoppedRunsWereLeft }
+    ensures reopened { StoppedReopenedRunsWereLeft }
 {}
 
 /// A law: a disk that holds nothing counts as left by this program, with the log of no entries.

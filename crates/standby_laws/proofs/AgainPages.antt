@@ -65,7 +65,7 @@ none_as_read state segment None is = refl
 none_as_read state segment (Some s) is = absurd (let no : ⊥ = cc in no)
 
 -- where nothing waits, what may stand is what is read
-stands_read : (s : Segment) (page word : ℕ) (bytes : List ℕ) → s.writes ≡ [] → (bytes ≡ word_of (s.durable page) word) ⊎ IsWritten s.writes page word bytes → bytes ≡ word_of (page_as_read s page) word
+pub stands_read : (s : Segment) (page word : ℕ) (bytes : List ℕ) → s.writes ≡ [] → (bytes ≡ word_of (s.durable page) word) ⊎ IsWritten s.writes page word bytes → bytes ≡ word_of (page_as_read s page) word
 stands_read s page word bytes none (inl kept) = kept ∙ ap (λ (writes : List (ℕ × List ℕ)). word_of (after_writes writes page (s.durable page)) word) (sym none)
 stands_read s page word bytes none (inr written) = absurd (subst (λ (writes : List (ℕ × List ℕ)). IsWritten writes page word bytes) none written)
 

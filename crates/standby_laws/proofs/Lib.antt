@@ -4,6 +4,7 @@ pub mod StepsInTurn
 pub mod OpenedInTurn
 pub mod LeftLogs
 pub mod AgainPages
+pub mod FailedOpenings
 pub mod OpenedAgain
 pub mod ManyLives
 pub mod LaterOrders

@@ -19,7 +19,7 @@ use Rattle.wal_stream.specs.declared.standby.Standby.{Standby}
 use Rattle.wal_stream.proofs.FollowLaws.{follows_and_keeps}
 use Rattle.wal_stream.proofs.ImagesLeft.{promised_is_left}
 use Rattle.standby_laws.specs.InTurn.{MakesInTurn}
-use Rattle.standby_laws.specs.Lives.{AllHeld, AllReach, AreLives, FollowsThrough, IsFrontKept, IsLife, Life, ReachesEntries, last_handed, last_opened}
+use Rattle.standby_laws.specs.Lives.{AllHeld, AllReach, AreLives, FollowsThrough, IsFrontKept, IsLife, Life, ReachesEntries, last_handed, last_opened, opened_on}
 use Rattle.standby_laws.proofs.OpenedAgain.{follows_again, reaches}
 
 reaches_further : (size : ℕ) (es : List Entry) (a b c : ℕ) → ReachesEntries size es a b → ReachesEntries size es b c → ReachesEntries size es a c
@@ -39,7 +39,7 @@ module _ {D : Type 0} (tape : D → Option Tape) (moment faults : D → ℕ) (sy
       let again = follows_again tape moment faults sysid es since first life counts order follows in_turn life_is in
       let end = standby_end (last_opened life.next lives) in
       reaches_further first.geometry es kept (standby_end life.next) end (reaches tape moment faults sysid es since first life counts order follows in_turn life_is (since, kept) keeps life_is.later)
-      (subst (λ (n : ℕ). ReachesEntries n es (standby_end life.next) end) life_is.opened.size_is (reaches_last (moment life.disk) (standby_end life.next) life.next lives (next_order since first life life_is order) again.follows again.in_turn again.keeps are.1))
+      (subst (λ (n : ℕ). ReachesEntries n es (standby_end life.next) end) life_is.opened.size_is (reaches_last (moment (opened_on life)) (standby_end life.next) life.next lives (next_order since first life life_is order) again.follows again.in_turn again.keeps are.1))
 
   pub follows_through : (since : ℕ) (first : Standby D) (lives : List (Life D)) → IsLogOrder first.geometry sysid es → FollowsLog tape sysid es since first → MakesInTurn tape since first → AreLives tape moment faults sysid es since first lives → FollowsThrough tape moment sysid es since first lives
   follows_through since first [] order follows in_turn are = record { follows = follows; in_turn = in_turn; promised = tt }
@@ -48,9 +48,9 @@ module _ {D : Type 0} (tape : D → Option Tape) (moment faults : D → ℕ) (sy
       let size_is = life_is.opened.size_is in
       let again = follows_again tape moment faults sysid es since first life counts order follows in_turn life_is in
       let next = next_order since first life life_is order in
-      let rest = follows_through (moment life.disk) life.next lives next again.follows again.in_turn are.1 in
+      let rest = follows_through (moment (opened_on life)) life.next lives next again.follows again.in_turn are.1 in
       let end = standby_end (last_opened life.next lives) in
-      let last = subst (λ (n : ℕ). ReachesEntries n es (standby_end life.next) end) size_is (reaches_last (moment life.disk) (standby_end life.next) life.next lives next again.follows again.in_turn again.keeps are.1) in
+      let last = subst (λ (n : ℕ). ReachesEntries n es (standby_end life.next) end) size_is (reaches_last (moment (opened_on life)) (standby_end life.next) life.next lives next again.follows again.in_turn again.keeps are.1) in
       record {
         follows = rest.follows;
         in_turn = rest.in_turn;
@@ -86,7 +86,7 @@ module _ {D : Type 0} (tape : D → Option Tape) (moment faults : D → ℕ) (sy
   keeps_last since first [] order follows in_turn keeps are = keeps
   keeps_last since first (life ∷ lives) order follows in_turn keeps are =
       let again = follows_again tape moment faults sysid es since first life counts order follows in_turn are.0 in
-      keeps_last (moment life.disk) life.next lives (next_order since first life are.0 order)
+      keeps_last (moment (opened_on life)) life.next lives (next_order since first life are.0 order)
       again.follows again.in_turn again.keeps are.1
 
   last_size : (since : ℕ) (first : Standby D) (lives : List (Life D))
@@ -94,7 +94,7 @@ module _ {D : Type 0} (tape : D → Option Tape) (moment faults : D → ℕ) (sy
       → (last_opened first lives).geometry ≡ first.geometry
   last_size since first [] are = refl
   last_size since first (life ∷ lives) are =
-      last_size (moment life.disk) life.next lives are.1 ∙ are.0.opened.size_is
+      last_size (moment (opened_on life)) life.next lives are.1 ∙ are.0.opened.size_is
 
   -- records that reach an address hold each entry that ends at or below another one
   all_held : (size end : ℕ) (found : List FoundRecord) → IsFrontUpto size es end found
@@ -128,7 +128,7 @@ module _ {D : Type 0} (tape : D → Option Tape) (moment faults : D → ℕ) (sy
       let last = last_opened life.next lives in
       let end = standby_end last in
       let again = follows_again tape moment faults sysid es since first life counts order follows in_turn are.0 in
-      let keeps = keeps_last (moment life.disk) life.next lives (next_order since first life are.0 order)
+      let keeps = keeps_last (moment (opened_on life)) life.next lives (next_order since first life are.0 order)
       again.follows again.in_turn again.keeps are.1 in
       let kept = kept_is_left (last_handed moment since all) hardened at last steps image
       (last_handed moment since all, end) crashed keeps in

@@ -29,7 +29,7 @@ use Rattle.written_log.specs.Written.{found_of}
 use Rattle.written_log.proofs.FoundImages.{end_of_front}
 use Rattle.written_log.proofs.LawfulLaws.{lawful_images_decode_to_fronts}
 use Rattle.flush_core.specs.Lawful.{IsLawful}
-use Rattle.found_log.specs.Found.{HasBegunToSettle, IsFound}
+use Rattle.found_log.specs.Found.{IsFound}
 use Rattle.found_log.specs.Spelled.{spelled_entries}
 use Rattle.wal_stream.specs.FollowedLog.{IsLogOrder}
 use Rattle.wal_stream.specs.Following.{FollowsLog, HaveLogBelow, KeepsLogUpto, promises_of, standby_behind}
@@ -38,15 +38,14 @@ use Rattle.wal_stream.specs.Standby.{HasResumed, own_page, standby_disk, standby
 use Rattle.wal_stream.specs.declared.standby.Standby.{Standby}
 use Rattle.wal_stream.proofs.FollowLaws.{FollowsAndKeeps, follows_and_keeps}
 use Rattle.wal_stream.proofs.ImagesLeft.{promised_is_left}
-use Rattle.reopened_log.specs.Again.{HasMadeInTurn}
-use Rattle.standby_laws.specs.InTurn.{AreMadeInTurn, MakesInTurn}
-use Rattle.standby_laws.specs.Left.{FailedOpeningsLeaveLog, HasFirstSegments, HasOnlyLog, IsLeftOfLog}
-use Rattle.standby_laws.specs.Lives.{FollowsAgain, IsLife, Life, OpensOnLog, ReachesEntries}
+use Rattle.standby_laws.specs.InTurn.{MakesInTurn}
+use Rattle.standby_laws.specs.Left.{HasOnlyLog, IsLeftOfLog}
+use Rattle.standby_laws.specs.Lives.{FollowsAgain, IsLife, Life, OpensOnLog, ReachesEntries, opened_on}
 use Rattle.standby_laws.proofs.AgainPages.{holds_log_pages, keeps_found, only_these, read_or_zero, settled_pages, settled_puts, word_below, word_lawful}
-use Rattle.standby_laws.proofs.LeftLogs.{finish_within, first_segments, found_end, keeps_only, lawful, only_made, read_below, spelled_below, whole}
-use Rattle.standby_laws.proofs.OpenedInTurn.{counted_so, first_in_turn}
+use Rattle.standby_laws.proofs.FailedOpenings.{TriesOn, tries_on}
+use Rattle.standby_laws.proofs.LeftLogs.{finish_within, first_segments, found_end, lawful, only_made, read_below, spelled_below, whole}
+use Rattle.standby_laws.proofs.OpenedInTurn.{first_in_turn}
 use Rattle.standby_laws.proofs.StepsInTurn.{made_since, steps_in_turn}
-use Rattle.standby_laws.proofs.Turns.{GrowsInTurn, MakeNone, begun_in_turn, few_are_low, grown_in_turn, settle_none, stopped_in_turn}
 use Rattle.standby_laws.proofs.Weaker.{TapeAssures-within}
 
 -- ---- a standby that follows a log has nothing else on its disk
@@ -229,14 +228,22 @@ module _ {D : Type 0} (tape : D → Option Tape) (moment faults : D → ℕ) (sy
     none_torn = l.none_torn;
   }
 
+  -- what it is opened on, behind all openings that failed
+  tried : TriesOn tape first.geometry sysid es l.left (opened_on life)
+  tried = tries_on tape moment first.geometry sysid es counts life.disk l.left left_of_log
+      l.told_left life.failed l.failed
+
   last_reaches : (promise : ℕ × ℕ) → KeepsLogUpto tape sysid es (standby_behind first life.steps) promise → promise.0 ≤ life.at → ReachesEntries first.geometry es promise.1 (standby_end life.next)
   last_reaches promise keeps after =
       let size_is = all.stays.size in
       let valid = subst IsSegmentSize (sym size_is) order.valid in
       let chained = subst (λ (n : ℕ). IsChained n es) (sym size_is) order.chained in
       let is = promised_is_left tape sysid es since last l.t l.told valid chained (all.stays.follows follows) life.at l.later (image_as_read (state_now l.left)) l.crash.leaves promise keeps after in
-      reaches_left tape moment faults first.geometry sysid l.cap es l.left left_of_log life.disk life.next l.told_left l.opened promise.1
-      (subst (λ (n : ℕ). IsLawful n sysid (image_as_read (state_now l.left)) es promise.1) size_is is)
+      let still = tried.hands.keeps promise.1
+      (subst (λ (n : ℕ). IsLawful n sysid (image_as_read (state_now l.left)) es promise.1) size_is is) in
+      let behind = reaches_left tape moment faults first.geometry sysid l.cap es tried.last
+      tried.hands.left_of (opened_on life) life.next tried.told l.opened still.still still.lawful in
+      λ i e got low. behind i e got (still.reaches i e got low)
 
   -- what was kept before is reached again
   pub reaches : (promise : ℕ × ℕ) → KeepsLogUpto tape sysid es first promise → promise.0 ≤ life.at → ReachesEntries first.geometry es promise.1 (standby_end life.next)
@@ -244,11 +251,13 @@ module _ {D : Type 0} (tape : D → Option Tape) (moment faults : D → ℕ) (sy
 
   pub follows_again : FollowsAgain tape moment sysid es first life
   follows_again = record {
-    follows = opened_follows tape moment faults first.geometry sysid l.cap es l.left left_of_log life.disk life.next l.told_left l.opened;
-    in_turn = first_in_turn tape moment faults counts first.geometry sysid l.cap l.left life.disk
-        life.next l.few l.told_left (first_segments first.geometry sysid es l.left left_of_log)
-        l.opened;
-    keeps = opened_keeps tape moment faults first.geometry sysid l.cap es l.left left_of_log life.disk life.next l.told_left l.opened;
+    follows = opened_follows tape moment faults first.geometry sysid l.cap es tried.last
+        tried.hands.left_of (opened_on life) life.next tried.told l.opened;
+    in_turn = first_in_turn tape moment faults counts first.geometry sysid l.cap tried.last
+        (opened_on life) life.next l.few tried.told
+        (first_segments first.geometry sysid es tried.last tried.hands.left_of) l.opened;
+    keeps = opened_keeps tape moment faults first.geometry sysid l.cap es tried.last
+        tried.hands.left_of (opened_on life) life.next tried.told l.opened;
     promised = All-weaker (KeepsLogUpto tape sysid es last) (λ promise. promise.0 ≤ life.at → ReachesEntries first.geometry es promise.1 (standby_end life.next)) last_reaches (promises_of moment life.steps) (all.promises follows);
   }
 
@@ -266,50 +275,4 @@ opens_on_log tape moment faults counts size sysid cap es left disk s o told few 
       (first_segments size sysid es left o) stands;
   keeps = opened_keeps tape moment faults size sysid cap es left o disk s told stands;
   reaches = reaches_left tape moment faults size sysid cap es left o disk s told stands;
-}
-
--- ---- not opened
-
-module _ (size sysid cap old_moment new_moment : ℕ) (es : List Entry) (left after : Tape)
-    (o : IsLeftOfLog size sysid es left)
-    (begun : HasBegunToSettle size sysid cap (Some left) (Some after) old_moment new_moment) where
-  abbrev segments : HasFirstSegments size left
-  segments = first_segments size sysid es left o
-
-  -- the calls of settling make none
-  grows : GrowsInTurn (first_segments size sysid es left o).count
-      (first_segments size sysid es left o).count (Some left) (Some after)
-  grows =
-      let stopped = begun.stopped in
-      stopped_in_turn segments.count (Some left) (Some after) old_moment new_moment
-      stopped.calls.front stopped.calls.others
-      (subst MakeNone (sym stopped.calls.are)
-      (settle_none size begun.log.spelled.end.0 (state_now left) stopped.count)) stopped.calls.ends
-
-  stays_in_turn : cap ≤ 4096 → old_moment ≡ length left.calls → HasMadeInTurn size old_moment after
-  stays_in_turn few counted =
-      let more = grows.more in
-      let is : Some after ≡ Some (record left { calls = left.calls ++ more }) =
-      grows.grown ∙ with_calls-some left more in
-      let begun_at = subst (λ (n : ℕ). AreMadeInTurn n segments.count left) (sym counted)
-      (begun_in_turn segments.count left segments.there segments.only) in
-      let made = subst (λ (t : Option Tape). IfSome t (AreMadeInTurn old_moment grows.last)) (sym is)
-      (grown_in_turn old_moment segments.count grows.last left more begun_at grows.turn) in
-      let count = counted_so size begun.log.made segments.count (state_now left) segments.there
-      segments.only segments.low begun.found.tells.counted.there in
-      record {
-        first = made.first;
-        there = made.there;
-        only = made.only;
-        last = grows.last;
-        in_turn = made.in_turn;
-        low = few_are_low size grows.last o.order.valid
-            (omega (arith, grows.low, count, begun.found.within, few));
-      }
-
-pub failed_openings_leave_log : FailedOpeningsLeaveLog
-failed_openings_leave_log size sysid cap old_moment new_moment es left after o begun = record {
-  only = keeps_only size sysid es left o begun.stopped.count begun.log.spelled.end.0 old_moment after
-      (begun.stopped.keeps_old (whole size sysid es left o));
-  in_turn = stays_in_turn size sysid cap old_moment new_moment es left after o begun;
 }

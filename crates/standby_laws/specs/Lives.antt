@@ -1,4 +1,5 @@
--- The lives of a standby: it follows a log until a crash, and is opened again on what that left.
+-- The lives of a standby: it follows a log until a crash, and is opened again on what that left, at
+-- the first try or behind some that failed.
 use Rattle.std.specs.Prelude.{◌≡◌, ℕ, ◌≤◌, All, List, [], ◌∷◌, Option, Some, None, slice_get}
 use Rattle.segment_disk.specs.DiskImage.{DiskImage, image_as_read}
 use Rattle.segment_disk.specs.Tape.{Tape, state_now}
@@ -16,14 +17,21 @@ use Rattle.wal_stream.specs.Standby.{standby_disk, standby_end}
 use Rattle.wal_stream.specs.declared.standby.Standby.{Standby}
 use Rattle.reopened_log.specs.Again.{IsLeftByCrash}
 use Rattle.standby_laws.specs.InTurn.{MakesInTurn}
+use Rattle.standby_laws.specs.Openings.{AreFailedOpenings, FailedOpening, disk_behind}
 
--- what is done with a standby until a crash, the moment of that, the disk that it leaves, and the
--- standby that is opened there
+-- what is done with a standby until a crash, the moment of that, the disk that it leaves, the
+-- openings that failed then, each with a crash or the next one behind it, and the standby that is
+-- opened at last
 pub record Life (D : Type 0) : Type 0 where
   pub steps : List (SentStep × Standby D)
   pub at : ℕ
   pub disk : D
+  pub failed : List (FailedOpening D)
   pub next : Standby D
+
+-- the disk on which that one is opened
+abbrev pub opened_on : {D : Type 0} → Life D → D
+opened_on life = disk_behind life.disk life.failed
 
 -- the standby is sent frames of a log alone; the crash comes at a moment from `since` on, before or
 -- behind the last of these steps; no torn record passes its CRC on what it leaves. The next standby
@@ -40,9 +48,10 @@ pub record IsLife {D : Type 0} (tape : D → Option Tape) (moment faults : D →
   pub crash : IsLeftByCrash t life.at left
   pub none_torn : NoTornPass first.geometry
       (pages_in first.geometry (image_as_read (state_now left))) es
+  pub failed : AreFailedOpenings tape moment first.geometry sysid es life.disk life.failed
   pub cap : ℕ
   pub few : cap ≤ 4096
-  pub opened : StandsAtFound tape moment faults first.geometry sysid cap life.disk life.next
+  pub opened : StandsAtFound tape moment faults first.geometry sysid cap (opened_on life) life.next
 
 -- each entry that ends at or below an address ends at or below another one
 abbrev pub ReachesEntries : ℕ → List Entry → ℕ → ℕ → Type 0
@@ -54,9 +63,9 @@ ReachesEntries size es upto end = (i : ℕ) (e : Entry) → slice_get es i ≡ S
 -- then, and that is all that was promised before the crash
 pub record FollowsAgain {D : Type 0} (tape : D → Option Tape) (moment : D → ℕ) (sysid : ℕ)
     (es : List Entry) (first : Standby D) (life : Life D) : Type 0 where
-  pub follows : FollowsLog tape sysid es (moment life.disk) life.next
-  pub in_turn : MakesInTurn tape (moment life.disk) life.next
-  pub keeps : KeepsLogUpto tape sysid es life.next (moment life.disk, standby_end life.next)
+  pub follows : FollowsLog tape sysid es (moment (opened_on life)) life.next
+  pub in_turn : MakesInTurn tape (moment (opened_on life)) life.next
+  pub keeps : KeepsLogUpto tape sysid es life.next (moment (opened_on life), standby_end life.next)
   pub promised : All (λ promise. promise.0 ≤ life.at
       → ReachesEntries first.geometry es promise.1 (standby_end life.next))
       (promises_of moment life.steps)
@@ -78,7 +87,7 @@ abbrev pub AreLives : {D : Type 0} → (D → Option Tape) → (D → ℕ) → (
 AreLives tape moment faults sysid es since first [] = Unit {0}
 AreLives tape moment faults sysid es since first (life ∷ lives) =
     IsLife tape moment faults sysid es since first life
-    × AreLives tape moment faults sysid es (moment life.disk) life.next lives
+    × AreLives tape moment faults sysid es (moment (opened_on life)) life.next lives
 
 -- the last standby, and the moment at which its disk was handed in
 abbrev pub last_opened : {D : Type 0} → Standby D → List (Life D) → Standby D
@@ -87,7 +96,7 @@ last_opened first (life ∷ lives) = last_opened life.next lives
 
 abbrev pub last_handed : {D : Type 0} → (D → ℕ) → ℕ → List (Life D) → ℕ
 last_handed moment since [] = since
-last_handed moment since (life ∷ lives) = last_handed moment (moment life.disk) lives
+last_handed moment since (life ∷ lives) = last_handed moment (moment (opened_on life)) lives
 
 -- all that was promised before a crash, in each of these lives, lies at or below an address
 abbrev pub AllReach : {D : Type 0} → (D → ℕ) → ℕ → List Entry → ℕ → List (Life D) → Type 0

@@ -20,8 +20,8 @@ ghost use Rattle.standby_laws.specs.Sent.{SentFramesAreOfLog, SentFramesComeOfLo
 use segment_disk::Disk;
 
 /// A law: a standby that is opened on what a crash left of one that followed a log follows that log
-/// again, with all that `harden` promised before. Where it could not be opened, its disk still
-/// holds nothing but the log.
+/// again, with all that `harden` promised before, however many openings failed in between, each
+/// with a crash behind it. Where it could not be opened, its disk still holds nothing but the log.
 pub fn opened_standbys_follow<D: Disk>()
     ensures follows { (sysid since : ℕ) (es : List Entry) (first : Standby D) (life : Life D)
         → IsLogOrder first.geometry sysid es → FollowsLog D.tape sysid es since first
@@ -47,9 +47,9 @@ pub fn opened_standbys_make_in_turn<D: Disk>()
         → MakesInTurn D.tape (D.moment (standby_disk s)) s }
 {}
 
-/// A law: so crashes and openings may be mixed in for ever. Behind as many as may be the standby
-/// follows the log, and stands at or behind each entry that was promised before any of the crashes;
-/// and whatever a crash leaves of it then holds each of them.
+/// A law: so crashes and openings, failed ones too, may be mixed in for ever. Behind as many as may
+/// be the standby follows the log, and stands at or behind each entry that was promised before any
+/// of the crashes; and whatever a crash leaves of it then holds each of them.
 pub fn standbys_follow_through_crashes<D: Disk>()
     ensures follows { (sysid since : ℕ) (es : List Entry) (first : Standby D)
         (lives : List (Life D)) → IsLogOrder first.geometry sysid es

@@ -13,6 +13,8 @@ mod listed;
 #[cfg(test)]
 mod log;
 #[cfg(test)]
+mod primary;
+#[cfg(test)]
 mod standbys;
 #[cfg(test)]
 mod stops;

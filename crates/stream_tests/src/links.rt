@@ -1,48 +1,89 @@
-//! Links that lose, repeat, reorder and garble frames, and standbys that crash between them.
+//! Links that lose, repeat, reorder, cut and garble the frames of a long log, and standbys that
+//! crash between them.
 
 use crate::frames::{Link, sent_over};
 use crate::listed::Listed;
 use crate::log::{Log, START};
-use crate::standbys::{disk_of, open};
+use crate::primary::with_commits;
+use crate::standbys::open_three;
 use rand_xoshiro::SplitMix64;
 use rand_xoshiro::rand_core::{Rng, SeedableRng};
 use segment_disk::{Disk, MemDisk, Pick};
 use std::alloc::Global;
 use std::process::Abort;
 use std::test::Fail;
-use wal_stream::{Standby, StandbyErr};
+use wal_stream::{Accepted, Standby, StandbyErr};
 use wal_types::Lsn;
 
-// Short and long records, over nine pages.
-const SCRIPT: &[u8] = b"C 700 0\nI 1 10 00 5000*5a\nC 701 0\nC 702 0\nI 2 10 00 20000*a5\nC 703 0
-I 3 10 00 8124*5a\nI 4 10 00 100*11\nI 5 10 00 12000*33\nC 704 0\nI 6 10 00 6000*77
-I 7 10 00 9000*88\nC 705 0\nI 8 10 00 7000*99\nC 706 0\n";
+// Lines of each of the generator's four backends: 4,000 records, over 364 pages of three segments.
+const LINES: u32 = 1000;
 
-const STANDBYS: u64 = 20;
+const STANDBYS: u64 = 8;
 
-// Links that each standby has, with a crash behind each.
-const LINKS: u64 = 10;
+// Links that each standby has.
+const LINKS: u64 = 50;
 
-// Fewer frames than this are sent over a link.
-const FRAMES: u64 = 12;
+// Pages whose frames are sent over a link.
+const SENT: u16 = 40;
+
+// A crash decides so many words at random, those of the first 40 pages that wait for a sync, and
+// loses what is behind them.
+const WORDS: usize = 40_960;
+
+// Commits of a standby that has gone on as a primary.
+const COMMITS: u32 = 3;
 
 // What a link makes of the next frame.
 fn random_link(random: &mut SplitMix64) -> Link {
     let place = (random.next_u64() % 8224) as usize;
-    match random.next_u64() % 8 {
+    match random.next_u64() % 64 {
         0 => Link::Cut(place),
         1 => Link::Byte(place, 0x5a),
         _ => Link::Whole,
     }
 }
 
-// The page that is sent next: the one behind the last, that one again, or any.
-fn random_page(random: &mut SplitMix64, last: u16, pages: u16) -> u16 {
-    match random.next_u64() % 4 {
-        0 => (random.next_u64() % u64::from(pages.max(1))) as u16,
-        1 => last,
-        _ => last.saturating_add(1).min(pages.saturating_sub(1)),
+// Up to where a page is sent: as far as it or the log goes, or up to any of its words.
+fn random_upto(random: &mut SplitMix64, log: &Log, page: u16) -> u64 {
+    let word = random.next_u64() % 1024;
+    match random.next_u64() % 16 {
+        0 => log
+            .end_in(page)
+            .min(START + 8192 * u64::from(page) + 8 * word + 8),
+        _ => log.end_in(page),
     }
+}
+
+// The pages that come over a link, of those from one on: some are lost, some come twice, or late,
+// or behind any other page of the log.
+fn random_pages(
+    alloc: Global,
+    random: &mut SplitMix64,
+    first: u16,
+    pages: u16,
+) -> Result<Vec<u16>, Fail> {
+    let mut order = Vec::new(alloc);
+    let mut late = first;
+    for page in first..first.saturating_add(SENT).min(pages) {
+        match random.next_u64() % 64 {
+            0 => {}
+            1..5 => {
+                order.push(page)?;
+                order.push(page)?;
+            }
+            5..7 => {
+                order.push(late)?;
+                late = page;
+            }
+            7..9 => {
+                order.push((random.next_u64() % u64::from(pages.max(1))) as u16)?;
+                order.push(page)?;
+            }
+            _ => order.push(page)?,
+        }
+    }
+    order.push(late)?;
+    Ok(order)
 }
 
 // The page that holds a place of the log.
@@ -50,94 +91,189 @@ fn page_of(place: u64) -> u16 {
     (place.saturating_sub(START) / 8192).min(1000) as u16
 }
 
-// Offers a frame, which may be lost or garbled, but is of the standby's log.
+// What a standby that has the log up to an end answers to a whole frame of it.
+fn answer_to(end: u64, page: u16, upto: u64) -> Result<Accepted, StandbyErr> {
+    if upto <= end {
+        Ok(Accepted::Old { upto: Lsn(upto) })
+    } else if START / 8192 + u64::from(page) == end / 8192 {
+        Ok(Accepted::Taken { upto: Lsn(upto) })
+    } else {
+        Err(StandbyErr::Gap { at: Lsn(end) })
+    }
+}
+
+// Offers the frame of a page up to a place, as a link makes it: the standby answers by where it
+// stands, and is then where it was, or behind what it took.
 fn offer(
+    rt: &impl Abort,
     alloc: Global,
     standby: &mut Standby<MemDisk>,
     log: &Log,
     page: u16,
+    upto: u64,
     link: Link,
 ) -> Result<(), Fail> {
-    let bytes = log.frame(page, None)?;
-    match standby.accept(&sent_over(alloc, link, &bytes)?) {
-        Err(StandbyErr::Diverged { .. }) => Err(Fail::from("it is the standby's log")),
-        Err(StandbyErr::Disk { .. }) => Err(Fail::from("the disk does not fail")),
-        _ => Ok(()),
-    }
+    let end = standby.upto();
+    let bytes = log.frame(page, Some(upto))?;
+    let sent = sent_over(alloc, link, &bytes)?;
+    let is_whole = sent.as_slice() == bytes.as_slice();
+    let told = if is_whole {
+        answer_to(end.0, page, upto)
+    } else {
+        Err(StandbyErr::Bad)
+    };
+    assert_eq!(rt; standby.accept(&sent), told);
+    let behind = match told {
+        Ok(Accepted::Taken { upto }) => upto,
+        _ => end,
+    };
+    assert_eq!(rt; standby.upto(), behind);
+    Ok(())
 }
 
-fn random_pick(random: &mut SplitMix64) -> Pick {
-    match random.next_u64() % 3 {
-        0 => Pick::Old,
-        1 => Pick::New,
-        _ => Pick::Odd,
-    }
-}
-
-// Some frames come over a link, the first of them of the page in which the standby's log ends.
+// Frames come over a link, from the page on in which the standby's log ends.
 fn feed(
+    rt: &impl Abort,
     alloc: Global,
     random: &mut SplitMix64,
     log: &Log,
     standby: &mut Standby<MemDisk>,
 ) -> Result<(), Fail> {
-    let mut page = page_of(standby.upto().0);
-    for _frame in 0..random.next_u64() % FRAMES {
-        offer(alloc, standby, log, page, random_link(random))?;
-        page = random_page(random, page, log.pages());
+    let first = page_of(standby.upto().0);
+    for page in &random_pages(alloc, random, first, log.pages())? {
+        let upto = random_upto(random, log, *page);
+        let link = random_link(random);
+        offer(rt, alloc, standby, log, *page, upto, link)?;
     }
     Ok(())
 }
 
-// A standby hardens behind a link, and a crash comes at some moment: what is left is a front of the
-// log, with all that was found and was hardened by then.
-fn live(
+// A standby that is opened on a disk hardens behind a link; the disk holds a front of the log then,
+// with all that was promised. Noted is from which moments on how much is: what it found, from its
+// opening on, and what it hardened.
+fn over_link(
     rt: &impl Abort,
     alloc: Global,
     random: &mut SplitMix64,
     log: &Log,
     disk: MemDisk,
+    promises: &mut Vec<(u64, u64)>,
 ) -> Result<MemDisk, Fail> {
-    let mut standby = open(alloc, disk)?;
-    let found = standby.upto().0;
-    feed(alloc, random, log, &mut standby)?;
+    let begun = disk.moment();
+    let mut standby = open_three(alloc, disk)?;
+    promises.push((begun, standby.upto().0))?;
+    feed(rt, alloc, random, log, &mut standby)?;
     let upto = standby.harden()?.0;
-    let disk = standby.close();
+    let mut disk = standby.close();
     let last = disk.moment();
-    let moment = random.next_u64() % last.saturating_add(1);
-    let promised = if moment == last { upto } else { found };
-    let mut left = disk.crash(alloc, moment, random_pick(random))?;
-    assert!(rt; Listed::of(alloc, &mut left)?.is_front(&log.ends, promised));
+    promises.push((last, upto))?;
+    let listed = Listed::of(alloc, &mut disk)?;
+    assert!(rt; listed.is_front(&log.ends, promised_by(promises, last)));
+    Ok(disk)
+}
+
+// Up to where the log was promised by a moment.
+fn promised_by(promises: &[(u64, u64)], moment: u64) -> u64 {
+    let mut upto = 0;
+    for (since, promised) in promises {
+        if *since <= moment {
+            upto = upto.max(*promised);
+        }
+    }
+    upto
+}
+
+// Of each word the write that is kept: none, or one of the first two since its segment's sync.
+fn random_writes(alloc: Global, random: &mut SplitMix64) -> Result<Vec<u32>, Fail> {
+    let mut numbers = Vec::with_capacity(alloc, WORDS)?;
+    for _word in 0..WORDS {
+        numbers.push((random.next_u64() % 3) as u32)?;
+    }
+    Ok(numbers)
+}
+
+fn random_pick(alloc: Global, random: &mut SplitMix64) -> Result<Pick, Fail> {
+    match random.next_u64() % 4 {
+        0 => Ok(Pick::Old),
+        1 => Ok(Pick::New),
+        _ => Ok(Pick::List(random_writes(alloc, random)?)),
+    }
+}
+
+// A crash comes at some moment: what is left is a front of the log, with all that was promised by
+// then.
+fn crashed(
+    rt: &impl Abort,
+    alloc: Global,
+    random: &mut SplitMix64,
+    log: &Log,
+    disk: &MemDisk,
+    promises: &[(u64, u64)],
+) -> Result<MemDisk, Fail> {
+    let last = disk.moment();
+    let moment = match random.next_u64() % 4 {
+        0 => last,
+        _ => random.next_u64() % last.saturating_add(1),
+    };
+    let mut left = disk.crash(alloc, moment, random_pick(alloc, random)?)?;
+    let listed = Listed::of(alloc, &mut left)?;
+    assert!(rt; listed.is_front(&log.ends, promised_by(promises, moment)));
     Ok(left)
 }
 
-// Over a link that loses nothing the whole log comes.
-fn catch_up(rt: &impl Abort, alloc: Global, log: &Log, disk: MemDisk) -> Result<(), Fail> {
-    let mut standby = open(alloc, disk)?;
+// Behind a link that loses nothing the standby has the whole log.
+fn catch_up(rt: &impl Abort, alloc: Global, log: &Log, disk: MemDisk) -> Result<MemDisk, Fail> {
+    let mut standby = open_three(alloc, disk)?;
     for page in 0..log.pages() {
-        offer(alloc, &mut standby, log, page, Link::Whole)?;
+        offer(
+            rt,
+            alloc,
+            &mut standby,
+            log,
+            page,
+            log.end_in(page),
+            Link::Whole,
+        )?;
     }
     assert_eq!(rt; standby.harden(), Ok(Lsn(log.end())));
-    let listed = Listed::of(alloc, &mut standby.close())?;
+    let mut disk = standby.close();
+    let listed = Listed::of(alloc, &mut disk)?;
     assert!(rt; listed.ends == log.ends && listed.end == Ok(log.end()));
-    Ok(())
+    Ok(disk)
 }
 
-fn follow(rt: &impl Abort, alloc: Global, random: &mut SplitMix64, log: &Log) -> Result<(), Fail> {
-    let mut disk = disk_of(alloc, &[])?;
+fn follow(
+    rt: &impl Abort,
+    alloc: Global,
+    random: &mut SplitMix64,
+    log: &Log,
+) -> Result<MemDisk, Fail> {
+    let mut disk = MemDisk::new(alloc, 3, 1000, Vec::new(alloc), Vec::new(alloc))?;
+    let mut promises = Vec::new(alloc);
     for _link in 0..LINKS {
-        disk = live(rt, alloc, random, log, disk)?;
+        disk = over_link(rt, alloc, random, log, disk, &mut promises)?;
+        if random.next_u64() % 2 == 0 {
+            disk = crashed(rt, alloc, random, log, &disk, &promises)?;
+            promises.clear();
+        }
     }
     catch_up(rt, alloc, log, disk)
 }
 
+// The last one goes on as a primary then.
 #[test]
 fn standbys_follow_their_log_over_links(rt: HostRuntime) -> Result<(), Fail> {
     let alloc = rt.alloc();
-    let log = Log::of_script(alloc, SCRIPT)?;
+    let log = Log::generated(alloc, LINES)?;
     let mut random = SplitMix64::seed_from_u64(0);
-    for _standby in 0..STANDBYS {
-        follow(&rt, alloc, &mut random, &log)?;
+    let mut disk = follow(&rt, alloc, &mut random, &log)?;
+    for _standby in 1..STANDBYS {
+        disk = follow(&rt, alloc, &mut random, &log)?;
     }
+    let mut disk = with_commits(&rt, alloc, disk, COMMITS)?;
+    let listed = Listed::of(alloc, &mut disk)?;
+    assert!(rt; listed.ends.starts_with(&log.ends));
+    assert_eq!(rt; listed.ends.len(), log.ends.len() + COMMITS as usize);
+    assert!(rt; listed.end.is_ok());
     Ok(())
 }

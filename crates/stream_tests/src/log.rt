@@ -3,6 +3,7 @@
 ghost use Rattle.std.specs.Prelude.{◌≡◌};
 
 use byte_position::Geometry;
+use generated_lines::generate;
 use record_spelling::Body;
 use std::alloc::Global;
 use std::test::Fail;
@@ -31,7 +32,7 @@ pub(crate) fn smallest() -> Geometry
 /// A frame's bytes.
 pub(crate) type FrameBytes = [u8; FRAME_SIZE];
 
-/// A log that fills less than a segment.
+/// A log of at most a thousand pages.
 #[derive(Drop)]
 pub(crate) struct Log {
     words: Vec<u64>,
@@ -52,6 +53,15 @@ impl Log {
             Ok(backends) => Log::of(alloc, &backends),
             Err(_) => Err(Fail::from("a script that is read")),
         }
+    }
+
+    /// The log of the generator's script with so many lines of each of its four backends.
+    pub(crate) fn generated(alloc: Global, lines: u32) -> Result<Log, Fail> {
+        if lines > 1000 {
+            return Err(Fail::from("a log of at most a thousand pages"));
+        }
+        let backends = generate(alloc, lines)?;
+        Log::of(alloc, &backends)
     }
 
     /// The records of backends, those of each behind those of the one before.
@@ -102,6 +112,11 @@ impl Log {
         self.ends.last().copied().unwrap_or(START)
     }
 
+    /// Where it ends in a page.
+    pub(crate) fn end_in(&self, number: u16) -> u64 {
+        self.end().min(START + 8192 * u64::from(number) + 8192)
+    }
+
     /// How many pages it has.
     pub(crate) fn pages(&self) -> u16 {
         self.words.len().div_ceil(1024).min(1000) as u16
@@ -120,7 +135,7 @@ impl Log {
     /// The frame of a page, up to where that or the log ends, or up to some other place.
     pub(crate) fn frame(&self, number: u16, upto: Option<u64>) -> Result<FrameBytes, Fail> {
         let page = FIRST_PAGE + u64::from(number);
-        let upto = upto.unwrap_or(self.end().min(8192 * page + 8192));
+        let upto = upto.unwrap_or(self.end_in(number));
         if upto % 8 != 0 || upto <= 8192 * page || upto > 8192 * page + 8192 {
             return Err(Fail::from("a place in the page"));
         }

@@ -1,5 +1,7 @@
 //! Standbys of the log of one system, on disks in memory.
 
+ghost use Rattle.std.specs.Prelude.{◌≤◌};
+
 use crate::log::{SYSTEM_ID, smallest};
 use segment_disk::MemDisk;
 use std::alloc::Global;
@@ -13,7 +15,14 @@ pub(crate) fn disk_of(alloc: Global, failing: &[u64]) -> Result<MemDisk, Fail> {
 
 /// A standby of segment 1 alone.
 pub(crate) fn opened(alloc: Global, disk: MemDisk) -> Result<Standby<MemDisk>, MemDisk> {
-    match Standby::open(alloc, disk, smallest(), SYSTEM_ID, 1) {
+    opened_upto(alloc, disk, 1)
+}
+
+// A standby of the segments from 1 to a last one.
+fn opened_upto(alloc: Global, disk: MemDisk, last: u32) -> Result<Standby<MemDisk>, MemDisk>
+    requires { last ≤ 4096 }
+{
+    match Standby::open(alloc, disk, smallest(), SYSTEM_ID, last) {
         Ok(standby) => Ok(standby),
         Err(refused) => Err(refused.disk),
     }
@@ -21,7 +30,16 @@ pub(crate) fn opened(alloc: Global, disk: MemDisk) -> Result<Standby<MemDisk>, M
 
 /// The same on a disk that does not fail.
 pub(crate) fn open(alloc: Global, disk: MemDisk) -> Result<Standby<MemDisk>, Fail> {
-    match opened(alloc, disk) {
+    standby_of(opened(alloc, disk))
+}
+
+/// A standby of three segments, on a disk that does not fail.
+pub(crate) fn open_three(alloc: Global, disk: MemDisk) -> Result<Standby<MemDisk>, Fail> {
+    standby_of(opened_upto(alloc, disk, 3))
+}
+
+fn standby_of(opened: Result<Standby<MemDisk>, MemDisk>) -> Result<Standby<MemDisk>, Fail> {
+    match opened {
         Ok(standby) => Ok(standby),
         Err(_) => Err(Fail::from("a standby is opened")),
     }

@@ -6,6 +6,8 @@ pub mod Ringed
 pub mod Paged
 pub mod Watched
 pub mod Suited
+pub mod Growing
+pub mod Reading
 pub mod Positioned
 pub mod Made
 pub mod Durable

@@ -17,6 +17,7 @@ use Rattle.wal_core.specs.Paged.{PagesHold}
 use Rattle.wal_core.specs.Watched.{WatchHolds}
 use Rattle.wal_core.specs.Positioned.{PositionsHold}
 use Rattle.wal_core.specs.Durable.{DurabilityHolds}
+use Rattle.wal_core.specs.Reading.{ReadingHolds}
 use Rattle.wal_core.specs.Async.{AsyncHolds}
 use Rattle.wal_core.specs.Aligned.{AlignmentHolds}
 use Rattle.wal_core.specs.Failed.{FaultIsKnown}
@@ -86,6 +87,8 @@ pub record IsSound (first : DiskState) (opening : Opening) (words : List ℕ) (h
   -- what crashes leave, and what was promised of it
   pub durable : DurabilityHolds first opening order (flushed_word words) (moment_word words)
       (down_word words) home writer (map receipts_of views)
+  -- what is read of the disk is zeros or the word in memory, and calls only add to it
+  pub reading : ReadingHolds first opening memory writer (map writing_of views)
   -- what watchers have found to be copied is so
   pub watching : WatchHolds opening.setup.segment_size
       (end_form opening.setup (end_position opening.setup.segment_size order))

@@ -19,7 +19,7 @@ use Rattle.wal_page.specs.Order.{room_at}
 use Rattle.wal_page.specs.Placed.{entry_word}
 use Rattle.wal_core.specs.declared.setup.Setup.{Setup}
 use Rattle.wal_core.specs.Words.{async_number, end_form, log_limit}
-use Rattle.wal_core.specs.Views.{HasAt, Place, Free, Locked, Loaded, Stored, StopCause, LogFull, AtSegmentStart, Copy, Flight, Landed, Copying, AreSomeOf, Stage, Taken, Looked, Ready, Zeroing, Published, Plain, Lent, Hold, Idle, Turned, Out, Away, View}
+use Rattle.wal_core.specs.Views.{HasAt, Place, Free, Locked, Loaded, Stored, StopCause, LogFull, AtSegmentStart, Copy, Flight, Landed, Copying, AreSomeOf, Stage, Taken, Looked, Ready, Zeroing, Published, Plain, IsLoadedLast, Lent, Hold, Idle, Turned, Out, Away, View}
 use Rattle.wal_core.specs.Failed.{KnowsOfFault}
 use Rattle.wal_core.specs.Locked.{most_told}
 use Rattle.wal_core.specs.Paged.{IsOpen}
@@ -52,11 +52,11 @@ pub record IsToBeWritten (k : ℕ) (l : Lent) : Type 0 where
   pub unwritten : (l.writer).written < (k / 1024 + 1) * 8192
   pub copied : k / 1024 * 8192 < l.known
 
--- the words of a page were loaded
+-- the words of a page are as they were loaded last
 abbrev pub IsPageLoaded : ℕ → List ℕ → List (ℕ × ℕ) → Type 0
 IsPageLoaded page bytes staged = (n : ℕ) → n < 1024
-    → (value : ℕ) × Contains staged (page * 1024 + n, value)
-    × (word_of bytes n ≡ to_le_bytes w64 value)
+    → (word : ℕ) × IsLoadedLast (page * 1024 + n) word staged
+    × (word_of bytes n ≡ to_le_bytes w64 word)
 
 -- the page under way is written up to an address, into a segment that is made
 pub record IsNextWrite (setup : Setup) (segment page upto : ℕ) (bytes : List ℕ) (l : Lent) : Type 0

@@ -3,7 +3,7 @@
 -- writer), how far the pass is with a reservation, a copy, a watch, a page or a write, and what it
 -- has met. What a step may do rests on the view alone (`MayStep` of Steps): so no step of others
 -- takes from a pass what its view lets it do. What the words hold now is said by the invariant.
-use Rattle.std.specs.Prelude.{◌≡◌, ℕ, ◌+◌, ◌≤◌, Bool, List, [], length, Contains, ◌==◌}
+use Rattle.std.specs.Prelude.{◌≡◌, ◌≢◌, ◌⊎◌, ℕ, ◌+◌, ◌≤◌, Bool, List, [], ◌∷◌, length, Contains, ◌==◌}
 use Rattle.std.specs.List.{list_any}
 use mathlib.Core.Option.{Option, some}
 use lib.ListN.{get_elem?}
@@ -133,9 +133,9 @@ pub record Plain : Type 0 where
   pub fault : Option ℕ
 
 -- with the writer in hand: it, as last kept; the address below which all is copied; the words that
--- were loaded from the ring, by their numbers in the log; the address below which all is durable
--- from the moment on that was stored last, and that moment (0 where none was stored); and the
--- address that was stored as written
+-- were loaded from the ring, by their numbers in the log, the latest first; the address below which
+-- all is durable from the moment on that was stored last, and that moment (0 where none was
+-- stored); and the address that was stored as written
 pub record Lent : Type 0 where
   pub writer : Plain
   pub known : ℕ
@@ -143,6 +143,12 @@ pub record Lent : Type 0 where
   pub hard : ℕ
   pub hard_moment : ℕ
   pub stored : ℕ
+
+-- of a word of the log this was loaded last
+abbrev pub IsLoadedLast : (k word : ℕ) → List (ℕ × ℕ) → Type 0
+IsLoadedLast k word [] = ⊥
+IsLoadedLast k word (s ∷ staged) =
+    ((s.0 ≡ k) × (s.1 ≡ word)) ⊎ ((s.0 ≢ k) × IsLoadedLast k word staged)
 
 -- what a pass has of the write turn
 pub data Hold : Type 0 where

@@ -1,14 +1,15 @@
 -- The remainder of several bytes taken as one number, the first byte lowest.
-use Rattle.std.proofs.Common.{w32, subst, replicate, ◌≡◌, ℕ, zero, suc, ◌+◌, ◌*◌, ◌/◌, ◌%◌, ◌^◌, ◌<◌, List, [], ◌∷◌, length, get_or, fold, refl, sym, ap, ◌∙◌, arith}
+use Rattle.std.proofs.Common.{w32, subst, replicate, ◌≡◌, ℕ, zero, suc, ◌+◌, ◌*◌, ◌/◌, ◌%◌, ◌^◌, ◌<◌, List, [], ◌∷◌, ◌++◌, length, get_or, fold, refl, sym, ap, ◌∙◌, arith}
 use Rattle.std.proofs.Math.Nat.{div-one, div-div-eq-div-mul, pow-suc, add-zero}
-use Rattle.std.proofs.lemmas.Nat.{xor_comm}
+use Rattle.std.proofs.lemmas.List.Sums.{fold-append}
+use Rattle.std.proofs.lemmas.Nat.{from_le_bytes-to_le_bytes_4, from_le_bytes-to_le_bytes_8, xor_comm}
 use Rattle.std.proofs.lemmas.Simd.{Each1-replicate}
 use lib.Lanes.{Each1}
 use Rattle.wal_crc32c.specs.Folding.{remainder}
 use Rattle.wal_crc32c.proofs.LaneLaws.{lane_below}
 use Rattle.std.specs.Int.{w64, from_le_bytes, to_le_bytes, byte_at, bytes_low_first}
 use Rattle.std.specs.Int.Bits.{bit_xor, xor_assoc, xor_zero_r, xor_shifted}
-use Rattle.wal_crc32c.specs.Crc32c.{times_power, after_byte}
+use Rattle.wal_crc32c.specs.Crc32c.{times_power, after_byte, remainder_of}
 use Rattle.wal_crc32c.proofs.Remainders.{times_power-add, times_power-xor, times_power-shifted, times_power-split}
 
 -- n bytes of 0 and one more
@@ -119,6 +120,17 @@ none_further : times_power 64 0 ≡ 0
 unfolding times_power
 none_further = refl
 
+none_before_half : times_power 32 0 ≡ 0
+unfolding times_power
+none_before_half = refl
+
+pub lookups_before_half : (w : ℕ) → w < 2 ^ 64 → times_power 96 w ≡ xor_lookups_ahead 4 0 (to_le_bytes w64 w)
+lookups_before_half w small =
+    times_power-add 32 64 w
+    ∙ ap (times_power 32) (lookups_of_word w small)
+    ∙ lookups_further 4 0 (to_le_bytes w64 w)
+    ∙ ap (λ s. xor_lookups_ahead 4 s (to_le_bytes w64 w)) none_before_half
+
 pub lookups_ahead : (w : ℕ) → w < 2 ^ 64 → times_power 128 w ≡ xor_lookups_ahead 8 0 (to_le_bytes w64 w)
 lookups_ahead w small =
     times_power-add 64 64 w
@@ -160,3 +172,74 @@ remainder-number r fits bs e =
     let number : number_of bytes ≡ r = omega arith in
     subst (λ bs. remainder (get_or bs 0 0 ∷ get_or bs 1 0 ∷ get_or bs 2 0 ∷ get_or bs 3 0 ∷ replicate 12 0) ≡ times_power 128 r) (sym e)
     (fold-after_byte 0 bytes (lane_below bytes small) ∙ ap (times_power 128) (xor_comm 0 (number_of bytes) ∙ xor_zero_r (number_of bytes) ∙ number))
+
+-- ---- a gap that counts as zeros until it is filled
+
+-- what is added to a remainder stays added behind further bytes
+after_byte-xor : (r x byte : ℕ) → after_byte (bit_xor r x) byte ≡ bit_xor (after_byte r byte) (times_power 8 x)
+after_byte-xor r x byte =
+    ap (times_power 8) (xor_assoc r x byte ∙ ap (bit_xor r) (xor_comm x byte) ∙ sym (xor_assoc r byte x))
+    ∙ times_power-xor 8 (bit_xor r byte) x
+
+fold-xor : (r x : ℕ) (bytes : List ℕ) → fold after_byte (bit_xor r x) bytes ≡ bit_xor (fold after_byte r bytes) (times_power (8 * length bytes) x)
+unfolding times_power
+fold-xor r x [] = refl
+fold-xor r x (byte ∷ bytes) =
+    ap (λ s. fold after_byte s bytes) (after_byte-xor r x byte)
+    ∙ fold-xor (after_byte r byte) (times_power 8 x) bytes
+    ∙ ap (bit_xor (fold after_byte (after_byte r byte) bytes)) (sym (times_power-bytes (length bytes) x))
+
+word_small : (w i : ℕ) → get_or (to_le_bytes w64 w) i 0 < 2 ^ 8
+word_small w zero = omega arith
+word_small w (suc zero) = omega arith
+word_small w (suc (suc zero)) = omega arith
+word_small w (suc (suc (suc zero))) = omega arith
+word_small w (suc (suc (suc (suc zero)))) = omega arith
+word_small w (suc (suc (suc (suc (suc zero))))) = omega arith
+word_small w (suc (suc (suc (suc (suc (suc zero)))))) = omega arith
+word_small w (suc (suc (suc (suc (suc (suc (suc zero))))))) = omega arith
+word_small w (suc (suc (suc (suc (suc (suc (suc (suc i)))))))) = omega arith
+
+half_small : (w i : ℕ) → get_or (to_le_bytes w32 w) i 0 < 2 ^ 8
+half_small w zero = omega arith
+half_small w (suc zero) = omega arith
+half_small w (suc (suc zero)) = omega arith
+half_small w (suc (suc (suc zero))) = omega arith
+half_small w (suc (suc (suc (suc i)))) = omega arith
+
+fold-word : (r w : ℕ) → w < 2 ^ 64 → fold after_byte r (to_le_bytes w64 w) ≡ times_power 64 (bit_xor r w)
+fold-word r w fits =
+    fold-eight r (to_le_bytes w64 w) refl (word_small w)
+    ∙ ap (λ x. times_power 64 (bit_xor r x)) (from_le_bytes-to_le_bytes_8 w fits)
+
+fold-half : (r w : ℕ) → w < 2 ^ 32 → fold after_byte r (to_le_bytes w32 w) ≡ times_power 32 (bit_xor r w)
+fold-half r w fits =
+    fold-four r (to_le_bytes w32 w) refl (half_small w)
+    ∙ ap (λ x. times_power 32 (bit_xor r x)) (from_le_bytes-to_le_bytes_4 w fits)
+
+fold-zeros : (r : ℕ) → fold after_byte r (to_le_bytes w64 0) ≡ times_power 64 r
+fold-zeros r = fold-word r 0 (omega arith) ∙ ap (times_power 64) (xor_zero_r r)
+
+-- a word, zeros and four bytes
+pub fold-round_gap : (r before behind : ℕ) (fed : List ℕ) → before < 2 ^ 64 → behind < 2 ^ 32 → r ≡ remainder_of fed
+    → times_power 32 (bit_xor (times_power 128 (bit_xor r before)) behind) ≡ remainder_of (fed ++ to_le_bytes w64 before ++ to_le_bytes w64 0 ++ to_le_bytes w32 behind)
+fold-round_gap r before behind fed before_fits behind_fits e =
+    let first = fed ++ to_le_bytes w64 before in
+    let second = first ++ to_le_bytes w64 0 in
+    let one : fold after_byte 0xFFFFFFFF first ≡ times_power 64 (bit_xor r before) = fold-append after_byte 0xFFFFFFFF fed (to_le_bytes w64 before) ∙ ap (λ s. fold after_byte s (to_le_bytes w64 before)) (sym e) ∙ fold-word r before before_fits in
+    let two : fold after_byte 0xFFFFFFFF second ≡ times_power 128 (bit_xor r before) = fold-append after_byte 0xFFFFFFFF first (to_le_bytes w64 0) ∙ ap (λ s. fold after_byte s (to_le_bytes w64 0)) one ∙ fold-zeros (times_power 64 (bit_xor r before)) ∙ sym (times_power-add 64 64 (bit_xor r before)) in
+    sym (fold-append after_byte 0xFFFFFFFF second (to_le_bytes w32 behind) ∙ ap (λ s. fold after_byte s (to_le_bytes w32 behind)) two ∙ fold-half (times_power 128 (bit_xor r before)) behind behind_fits)
+
+-- the zeros before four bytes are filled
+pub fold-gap_filled : (r word : ℕ) (fed four : List ℕ) → word < 2 ^ 64 → length four ≡ 4 → r ≡ remainder_of (fed ++ to_le_bytes w64 0 ++ four)
+    → bit_xor r (times_power 96 word) ≡ remainder_of (fed ++ to_le_bytes w64 word ++ four)
+fold-gap_filled r word fed four fits four_bytes e =
+    let begun = fold after_byte 0xFFFFFFFF fed in
+    let behind : ℕ → ℕ = λ s. fold after_byte s four in
+    let zeros : r ≡ behind (times_power 64 begun) = e ∙ fold-append after_byte 0xFFFFFFFF (fed ++ to_le_bytes w64 0) four ∙ ap behind (fold-append after_byte 0xFFFFFFFF fed (to_le_bytes w64 0) ∙ fold-zeros begun) in
+    let bits : times_power (8 * length four) (times_power 64 word) ≡ times_power 96 word = ap (λ n. times_power (8 * n) (times_power 64 word)) four_bytes ∙ sym (times_power-add 32 64 word) in
+    sym (fold-append after_byte 0xFFFFFFFF (fed ++ to_le_bytes w64 word) four
+    ∙ ap behind (fold-append after_byte 0xFFFFFFFF fed (to_le_bytes w64 word) ∙ fold-word begun word fits ∙ times_power-xor 64 begun word)
+    ∙ fold-xor (times_power 64 begun) (times_power 64 word) four
+    ∙ ap (bit_xor (behind (times_power 64 begun))) bits
+    ∙ ap (λ s. bit_xor s (times_power 96 word)) (sym zeros))

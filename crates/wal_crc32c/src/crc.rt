@@ -1,10 +1,14 @@
 //! The CRC of bytes that come in pieces.
 
-ghost use Rattle.std.specs.Prelude.{◌≡◌, ℕ, List, [], ◌++◌, fold};
+ghost use Rattle.std.specs.Prelude.{◌≡◌, ℕ, List, [], ◌++◌, fold, length};
+ghost use Rattle.std.specs.Int.{w32, w64, to_le_bytes};
 ghost use Rattle.wal_crc32c.specs.Crc32c.{HasFed, after_byte, crc32c};
 
 use crate::folding::after_blocks;
-use crate::tables::{byte_remainder, half_word_remainder, word_remainder, word_remainder_ahead};
+use crate::tables::{
+    byte_remainder, half_word_remainder, word_remainder, word_remainder_ahead,
+    word_remainder_before_half,
+};
 use std::marker::Model;
 
 // From so many bytes on vectors pay: two blocks of them.
@@ -41,7 +45,32 @@ impl Crc {
         self.remainder = after_bytes(self.remainder, bytes);
     }
 
+    /// Feeds a word, a gap of eight bytes, and four bytes: those of numbers, with their lowest byte
+    /// first. The gap counts as zeros until `with_gap_filled`.
+    pub fn update_round_gap(&mut self, before: u64, behind: u32)
+        ensures { (fed : List ℕ) → HasFed self.old fed
+            → HasFed self.new (fed ++ to_le_bytes w64 before ++ to_le_bytes w64 0
+            ++ to_le_bytes w32 behind) }
+    {
+        let before = word_remainder_ahead(u64::from(self.remainder) ^ before);
+        self.remainder = half_word_remainder(before ^ behind);
+    }
+
+    /// The CRC with the gap before the last four bytes fed filled by a word. It takes the time of
+    /// eight bytes, however many were fed.
+    #[inline(always)]
+    pub fn with_gap_filled(self, word: u64) -> Crc
+        ensures { (fed four : List ℕ) → length four ≡ 4
+            → HasFed self (fed ++ to_le_bytes w64 0 ++ four)
+            → HasFed result (fed ++ to_le_bytes w64 word ++ four) }
+    {
+        Crc {
+            remainder: self.remainder ^ word_remainder_before_half(word),
+        }
+    }
+
     /// The CRC of all bytes fed.
+    #[inline(always)]
     pub fn value(&self) -> u32
         ensures { (fed : List ℕ) → HasFed self.now fed → result ≡ crc32c fed }
     {

@@ -682,3 +682,19 @@ pub(crate) fn word_remainder_ahead(word: u64) -> u32
         ^ byte_remainder(b6, 9)
         ^ byte_remainder(b7, 8)
 }
+
+/// The remainder that eight bytes leave with four more after them.
+#[inline(always)]
+pub(crate) fn word_remainder_before_half(word: u64) -> u32
+    ensures { result ≡ times_power 96 word }
+{
+    let [b0, b1, b2, b3, b4, b5, b6, b7] = word.to_le_bytes();
+    byte_remainder(b0, 11)
+        ^ byte_remainder(b1, 10)
+        ^ byte_remainder(b2, 9)
+        ^ byte_remainder(b3, 8)
+        ^ byte_remainder(b4, 7)
+        ^ byte_remainder(b5, 6)
+        ^ byte_remainder(b6, 5)
+        ^ byte_remainder(b7, 4)
+}

@@ -72,11 +72,10 @@ IsWordOfLog p address word =
     → (owner_at p.size (front ++ e ∷ back) address ≡ Some e)
     × (word ≡ log_word p.size p.sysid (front ++ e ∷ back) address)
 
--- its next `count` words lie together on a page, behind the page's header, and the record's own
--- header lies before them; they are the record's, and not zeros behind it
+-- its next `count` words lie together on a page, behind the page's header; they are the record's
+-- own, and not zeros behind it
 pub record LieTogether (p : PlacedState) (count : ℕ) : Type 0 where
   pub outside : is_in_header p.size p.next ≡ false
-  pub behind_header : p.start + 24 ≤ position_of p.size p.next
   pub on_page : p.next % 8192 + 8 * count ≤ 8192
   pub own : position_of p.size p.next + 8 * count ≤ p.start + assembled_room p.body
 

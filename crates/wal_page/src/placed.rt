@@ -24,9 +24,6 @@ use record_spelling::Body;
 use std::marker::Model;
 use wal_types::Lsn;
 
-/// SizeOfXLogRecord: the length of a record's own header.
-const RECORD_HEADER_LEN: u64 = 24;
-
 /// A record at its place: gives its words with their addresses, those of the page headers that it
 /// owns among them.
 #[derive(Debug, Drop)]
@@ -65,6 +62,7 @@ impl<'a> Model for Placed<'a> {
 impl<'a> Placed<'a> {
     /// A record that starts at a byte position, behind one that starts at `prev` (0 where there is
     /// none).
+    #[inline(always)]
     pub fn new(geometry: Geometry, sysid: u64, body: &'a Body, start: u64, prev: Lsn) -> Placed<'a>
         requires whole { start % 8 ≡ 0 }
         requires within { start + assembled_room_at geometry start body.now < 2 ^ 60 }
@@ -176,6 +174,7 @@ impl<'a> Placed<'a> {
     }
 
     // Which of the record's own words is the next one.
+    #[inline(always)]
     fn word_number(&self) -> u32
         requires { position_of self.now.size self.now.next
             < self.now.start + assembled_room self.now.body }
@@ -186,6 +185,7 @@ impl<'a> Placed<'a> {
     }
 
     // How many of the record's own bytes are left from the next word on; those behind are zeros.
+    #[inline(always)]
     fn own_left(&self) -> u64
         ensures { result ≡ self.now.start + assembled_room self.now.body
             - position_of self.now.size self.now.next }
@@ -194,8 +194,9 @@ impl<'a> Placed<'a> {
     }
 
     /// Puts the record's next words, as many as there are places: those that `next_word` would give
-    /// one by one. Words of the record that lie together on a page are copied at once, and so are
-    /// all zeros behind it.
+    /// one by one. The record's own words that lie together on a page, its header's too, are put at
+    /// once, so those of most short records all together; and so are all zeros behind it.
+    #[inline(always)]
     pub fn put_words(&mut self, words: &mut [u64])
         requires { self.old.next + 8 * length words.old ≤ placed_end self.old }
         ensures placed { self.new
@@ -208,12 +209,31 @@ impl<'a> Placed<'a> {
         }
     }
 
-    // Puts at least one word: all that lie together on a page, or one of a page's header or of the
-    // record's own, or all zeros behind the record.
+    // Puts at least one word: all of the record's own that lie together on a page, or one of a
+    // page's header, or all zeros behind the record.
+    #[inline(always)]
     fn put_some(&mut self, words: &mut [u64]) -> usize
         requires some { 0 < length words.old }
         requires owned { self.old.next + 8 * length words.old ≤ placed_end self.old }
         // As many words as it answers are put at the front, and it goes on behind them.
+        ensures count { (0 < result) × (result ≤ length words.old) }
+        ensures placed { self.new ≡ record self.old { next = self.old.next + 8 * result } }
+        ensures words { HasWordsFrom self.old result words.new }
+    {
+        let count = self.words_together(words.len());
+        if count > 0 {
+            self.put_together(&mut words[..count]);
+            return count;
+        }
+        self.put_others(words)
+    }
+
+    // Puts at least one word where the next one is none of the record's own: all zeros behind the
+    // record, or one of a page's header.
+    #[inline(never)]
+    fn put_others(&mut self, words: &mut [u64]) -> usize
+        requires some { 0 < length words.old }
+        requires owned { self.old.next + 8 * length words.old ≤ placed_end self.old }
         ensures count { (0 < result) × (result ≤ length words.old) }
         ensures placed { self.new ≡ record self.old { next = self.old.next + 8 * result } }
         ensures words { HasWordsFrom self.old result words.new }
@@ -223,26 +243,19 @@ impl<'a> Placed<'a> {
             self.put_zeros(words);
             return count;
         }
-        let count = self.words_together(words.len());
-        if count > 0 {
-            self.put_together(&mut words[..count]);
-            return count;
-        }
         if let Some((_, word)) = self.next_word() {
             words[0] = word;
         }
         1
     }
 
-    // How many of the next words, at most so many, lie together on a page behind its header and the
-    // record's own, and before any zeros behind the record.
+    // How many of the next words, at most so many, lie together on a page behind its header, as the
+    // record's own do, before any zeros behind them.
+    #[inline(always)]
     fn words_together(&self, most: usize) -> usize
         ensures most { result ≤ most }
         ensures together { 0 < result → LieTogether self.now result }
     {
-        if self.passed < RECORD_HEADER_LEN {
-            return 0;
-        }
         if self.geometry.is_in_header(Lsn(self.next)) {
             return 0;
         }
@@ -265,6 +278,7 @@ impl<'a> Placed<'a> {
     }
 
     // Puts words that lie together.
+    #[inline(always)]
     fn put_together(&mut self, words: &mut [u64])
         requires some { 0 < length words.old }
         requires together { LieTogether self.old (length words.old) }
@@ -274,7 +288,7 @@ impl<'a> Placed<'a> {
         ensures words { HasWordsFrom self.old (length words.old) words.new }
     {
         let bytes = WORD * words.len() as u64;
-        self.body.put_words(self.word_number(), words);
+        self.body.put_words(self.prev, self.word_number(), words);
         self.passed += bytes;
         self.next += bytes;
     }

@@ -20,6 +20,7 @@ pub fn next_segment(geometry: Geometry, position: u64) -> u64
 
 /// How many bytes of the log a record takes up that starts at a byte position: its own, and behind
 /// a switch all that are left of its segment. Only a switch asks where its segment ends.
+#[inline(always)]
 pub fn room_at(geometry: Geometry, start: u64, body: &Body) -> u64
     requires whole { start % 8 ≡ 0 }
     requires bound { start < 2 ^ 60 }

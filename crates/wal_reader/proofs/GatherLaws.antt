@@ -77,7 +77,7 @@ crosses_further size pages place total from mid upto a b = record { rises = omeg
 -- the byte position of a page's end is the next page's first
 module _ (size position : ℕ) (cursor : PageCursor) (stands : StandsIn size position cursor) where
   -- a byte that the page has from the cursor on
-  address_from : (k : ℕ) → cursor.offset + k < 8192 → address_of size (position + k) ≡ 8192 * cursor.page + (cursor.offset + k)
+  pub address_from : (k : ℕ) → cursor.offset + k < 8192 → address_of size (position + k) ≡ 8192 * cursor.page + (cursor.offset + k)
   address_from k within =
       let h = header_size size cursor.page in
       let next = position_of-next_page size stands.valid cursor.page in

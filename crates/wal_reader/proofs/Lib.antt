@@ -1,3 +1,4 @@
+pub mod StartLaws
 pub mod CacheLaws
 pub mod ReadsOnLaws
 pub mod BeginningLaws

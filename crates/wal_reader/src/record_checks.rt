@@ -77,6 +77,7 @@ pub(crate) fn found(
     // enough to have an address.
     requires at { extent.at.position < 2 ^ 60 }
     requires start { start.0 ≡ address_of geometry extent.at.position }
+    requires low { start.0 < 2 ^ 60 }
     requires len { (24 ≤ length bytes.now) × (length bytes.now ≡ extent.total) }
     requires end { (value : Record)
         → next_position geometry extent.at.position extent.total value < 2 ^ 60 }
@@ -95,7 +96,7 @@ pub(crate) fn found(
             let next = extent.next_position(geometry, &value);
             let found = FoundRecord {
                 start,
-                end: geometry.to_end_lsn(next),
+                end: extent.end(geometry, start, next),
                 prev: Lsn(u64_at(bytes, PREV_AT)),
                 total: extent.total,
                 value,

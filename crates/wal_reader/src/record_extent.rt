@@ -2,11 +2,11 @@
 //! its segment, whatever stands there.
 
 ghost use Rattle.std.specs.Prelude.{◌≡◌, ◌^◌, ◌<◌};
-ghost use Rattle.byte_position.specs.Position.{address_of};
+ghost use Rattle.byte_position.specs.Position.{address_of, end_address_of};
 ghost use Rattle.wal_reader.specs.Decodes.{next_position};
 
 use crate::record_place::RecordPlace;
-use byte_position::Geometry;
+use byte_position::{Geometry, PAGE_SIZE};
 use record_spelling::is_switch;
 use wal_page::next_segment;
 use wal_types::{Lsn, Record};
@@ -42,5 +42,22 @@ impl RecordExtent {
         } else {
             self.at.position + (total + 7) / 8 * 8
         }
+    }
+
+    /// The end form of the byte position behind it. On the page that it starts on, this is as far
+    /// behind its first byte's address as the position is behind its own.
+    pub(crate) fn end(self, geometry: Geometry, start: Lsn, next: u64) -> Lsn
+        requires start { start.0 ≡ address_of geometry self.at.position }
+        requires low { start.0 < 2 ^ 60 }
+        requires next { next < 2 ^ 60 }
+        ensures { result.0 ≡ end_address_of geometry next }
+    {
+        // That addresses rise with positions rests on a valid size.
+        let _size = geometry.segment_size();
+        let position = self.at.position;
+        if position < next && next - position <= PAGE_SIZE - start.0 % PAGE_SIZE {
+            return Lsn(start.0 + (next - position));
+        }
+        geometry.to_end_lsn(next)
     }
 }

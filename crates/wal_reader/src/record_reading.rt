@@ -100,8 +100,8 @@ fn read_in_page(
     ensures no_disk { IfErr result IsNoDiskFault }
 {
     let Gathering { extent, cursor } = opened;
+    let start = cursor.address();
     let bytes = part_of_page(&cache.bytes, cursor.offset, extent.total);
-    let start = extent.start(cache.geometry);
     check_header(start, extent.at.prev, bytes)?;
     check_crc(start, bytes)?;
     let read = found(alloc, cache.geometry, start, extent, cursor.timeline, bytes)??;

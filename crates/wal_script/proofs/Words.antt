@@ -23,6 +23,11 @@ is_text-long [] c long = absurd (omega arith)
 is_text-long (a ∷ []) c long = absurd (omega arith)
 is_text-long (a ∷ b ∷ text) c long = simp and-false
 
+-- not both hold where the second fails if the first holds
+pub fails_both : (b c : Bool) → (b ≡ true → c ≡ false) → (b && c) ≡ false
+fails_both false c fails = refl
+fails_both true c fails = fails refl
+
 -- texts that are the same
 pub is_text-same : (text other : List ℕ) → is_text text other ≡ true → text ≡ other
 is_text-same [] [] is = refl

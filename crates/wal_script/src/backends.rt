@@ -58,6 +58,7 @@ pub(crate) fn read_backends(
         (backends_from takes_schedule 1 [] [] (lines_of script.now)) }
     ensures within { IfOk result (HasReadBackends (length script.now)) }
 {
+    let mut room = Vec::new(alloc);
     let mut before = Vec::new(alloc);
     let mut lines = Vec::new(alloc);
     let mut number = 0;
@@ -66,7 +67,7 @@ pub(crate) fn read_backends(
         let (line, behind) = cut(text, b'\n');
         rest = behind;
         number += 1;
-        match read_line(alloc, line, takes_schedule).map_err(|cause| cause.at(number))? {
+        match read_line(alloc, &mut room, line, takes_schedule).map_err(|cause| cause.at(number))? {
             LineRead::Pass => {}
             LineRead::Ask(action) => lines.push(Line { number, action })?,
             LineRead::Begin { is_alone } => {
@@ -107,18 +108,24 @@ fn begin_fault(backends: usize, is_alone: bool) -> Option<ScriptFault>
 }
 
 // What a line does.
-fn read_line(alloc: Global, line: &[u8], takes_schedule: bool) -> Result<LineRead, LineError>
+fn read_line(
+    alloc: Global,
+    room: &mut Vec<u8>,
+    line: &[u8],
+    takes_schedule: bool,
+) -> Result<LineRead, LineError>
     ensures { StepGives result (script_line_of takes_schedule line.now) }
 {
     match line {
         [] | [b'#', ..] => Ok(LineRead::Pass),
-        _ => read_fields(alloc, Parts::of(line, b' '), takes_schedule),
+        _ => read_fields(alloc, room, Parts::of(line, b' '), takes_schedule),
     }
 }
 
 // What a line does by its fields.
 fn read_fields(
     alloc: Global,
+    room: &mut Vec<u8>,
     mut fields: Parts,
     takes_schedule: bool,
 ) -> Result<LineRead, LineError>
@@ -133,7 +140,7 @@ fn read_fields(
             no_more(fields)?;
             Ok(LineRead::End)
         }
-        Some(word) => backend_line(alloc, word, fields, takes_schedule),
+        Some(word) => backend_line(alloc, room, word, fields, takes_schedule),
         None => Err(LineError::Fault(ScriptFault::Word)),
     }
 }
@@ -141,6 +148,7 @@ fn read_fields(
 // What a line of a backend does.
 fn backend_line(
     alloc: Global,
+    room: &mut Vec<u8>,
     word: &[u8],
     fields: Parts,
     takes_schedule: bool,
@@ -151,7 +159,7 @@ fn backend_line(
     if takes_schedule && is_of_runs(word) {
         return Err(LineError::Fault(ScriptFault::Word));
     }
-    Ok(LineRead::Ask(action_by(alloc, word, fields)?))
+    Ok(LineRead::Ask(action_by(alloc, room, word, fields)?))
 }
 
 // Whether a letter is one of runs alone.

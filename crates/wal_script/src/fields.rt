@@ -1,21 +1,21 @@
 //! A line's fields, read from the left.
 
-ghost use Rattle.std.specs.Prelude.{◌-◌, ◌^◌, ◌≤◌, IfOk};
+ghost use Rattle.std.specs.Prelude.{◌≡◌, [], ◌-◌, ◌^◌, ◌≤◌, IfOk};
 ghost use Rattle.wal_script.specs.Fields.{next_as, no_more};
 ghost use Rattle.wal_script.specs.Hexadecimal.{byte_spelled, data_of};
 ghost use Rattle.decimal_numbers.specs.Numbers.{number_of, time_of};
 ghost use Rattle.wal_script.specs.Reading.{Judges, JudgesAs};
 ghost use Rattle.wal_script.specs.declared.line.ScriptFault.TheVariants as faults;
 
-use crate::hexadecimal::{byte, data};
+use crate::hexadecimal::{byte, data_in};
 use crate::line::ScriptFault;
 use crate::line_error::LineError;
 use decimal_numbers::{number, time};
-use std::alloc::Global;
 use text_parts::Parts;
 use wal_types::Bytes;
 
 // The next field as a number of at most `most`.
+#[inline(always)]
 fn next_number(fields: &mut Parts, most: u64) -> Result<u64, LineError>
     ensures read { JudgesAs
         (λ n. record { value = n; rest = fields.new }) result
@@ -64,14 +64,15 @@ pub(crate) fn next_byte(fields: &mut Parts) -> Result<u8, LineError>
     Ok(byte(field).ok_or(ScriptFault::Hex)?)
 }
 
-/// The next field as data.
-pub(crate) fn next_data(alloc: Global, fields: &mut Parts) -> Result<Bytes, LineError>
+/// The next field as data, in a vector that holds nothing.
+pub(crate) fn next_data(room: Vec<u8>, fields: &mut Parts) -> Result<Bytes, LineError>
+    requires { room.items ≡ [] }
     ensures { JudgesAs
         (λ bytes. record { value = bytes; rest = fields.new }) result
         (next_as data_of faults.Hex fields.old) }
 {
     let field = fields.next().ok_or(ScriptFault::Count)?;
-    data(alloc, field)
+    data_in(room, field)
 }
 
 /// No field is left.

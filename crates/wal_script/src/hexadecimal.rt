@@ -1,6 +1,6 @@
 //! Bytes as scripts spell them.
 
-ghost use Rattle.std.specs.Prelude.{◌≡◌};
+ghost use Rattle.std.specs.Prelude.{◌≡◌, []};
 ghost use Rattle.std.specs.Option.{ok_or};
 ghost use Rattle.decimal_numbers.specs.Hexadecimal.{hexadecimal_value};
 ghost use Rattle.wal_script.specs.Hexadecimal.{byte_spelled, bytes_of, data_of, pair_of, repeated_of};
@@ -38,17 +38,26 @@ pub(crate) fn byte(field: &[u8]) -> Option<u8>
 pub(crate) fn data(alloc: Global, field: &[u8]) -> Result<Bytes, LineError>
     ensures { Judges result (ok_or (data_of field.now) faults.Hex) }
 {
+    data_in(Vec::new(alloc), field)
+}
+
+/// The same, in a vector that holds nothing.
+pub(crate) fn data_in(room: Vec<u8>, field: &[u8]) -> Result<Bytes, LineError>
+    requires { room.items ≡ [] }
+    ensures { Judges result (ok_or (data_of field.now) faults.Hex) }
+{
     let bytes = match field {
         [] => return Err(LineError::Fault(ScriptFault::Hex)),
-        [b'-'] => Vec::new(alloc),
-        [count @ .., b'*', high, low] => repeated(alloc, count, &[*high, *low])?,
-        digits => bytes(alloc, digits)?,
+        [b'-'] => room,
+        [count @ .., b'*', high, low] => repeated(room, count, &[*high, *low])?,
+        digits => bytes(room, digits)?,
     };
     Ok(Bytes::of(bytes))
 }
 
 // As many bytes as a count says.
-fn repeated(alloc: Global, count: &[u8], hexadecimal: &[u8]) -> Result<Vec<u8>, LineError>
+fn repeated(mut bytes: Vec<u8>, count: &[u8], hexadecimal: &[u8]) -> Result<Vec<u8>, LineError>
+    requires { bytes.items ≡ [] }
     ensures { JudgesAs (λ v. v.items) result
         (ok_or (repeated_of count.now hexadecimal.now) faults.Hex) }
 {
@@ -57,14 +66,16 @@ fn repeated(alloc: Global, count: &[u8], hexadecimal: &[u8]) -> Result<Vec<u8>, 
         Some(count) => count as usize,
     };
     let filler = byte(hexadecimal).ok_or(ScriptFault::Hex)?;
-    Ok(vec![in alloc; filler; count]?)
+    bytes.resize(count, filler)?;
+    Ok(bytes)
 }
 
 // The bytes of digits, two each.
-fn bytes(alloc: Global, digits: &[u8]) -> Result<Vec<u8>, LineError>
+fn bytes(mut bytes: Vec<u8>, digits: &[u8]) -> Result<Vec<u8>, LineError>
+    requires { bytes.items ≡ [] }
     ensures { JudgesAs (λ v. v.items) result (ok_or (bytes_of digits.now) faults.Hex) }
 {
-    let mut bytes = Vec::with_capacity(alloc, digits.len() / 2)?;
+    bytes.reserve(digits.len() / 2)?;
     let mut rest = digits;
     while let [high, low, behind @ ..] = rest {
         bytes.push(pair(*high, *low).ok_or(ScriptFault::Hex)?)?;

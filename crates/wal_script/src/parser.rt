@@ -87,11 +87,12 @@ fn lines(alloc: Global, script: &[u8]) -> Result<Vec<Line>, ParseError>
     requires { length script.now ≤ SCRIPT_LIMIT }
     ensures { GivesLines result (lines_meaning 1 (lines_of script.now)) }
 {
+    let mut room = Vec::new(alloc);
     let mut lines = Vec::new(alloc);
     let mut number = 0;
     for line in Parts::of(script, b'\n') {
         number += 1;
-        if let Some(action) = action_of(alloc, line).map_err(|cause| cause.at(number))? {
+        if let Some(action) = action_of(alloc, &mut room, line).map_err(|cause| cause.at(number))? {
             lines.push(Line { number, action })?;
         }
     }
@@ -99,37 +100,43 @@ fn lines(alloc: Global, script: &[u8]) -> Result<Vec<Line>, ParseError>
 }
 
 // What a line asks for: nothing where it is empty or a comment.
-fn action_of(alloc: Global, line: &[u8]) -> Result<Option<Action>, LineError>
+fn action_of(alloc: Global, room: &mut Vec<u8>, line: &[u8]) -> Result<Option<Action>, LineError>
     ensures { LineGives DoesAny result (line_of line.now) }
 {
     match line {
         [] | [b'#', ..] => Ok(None),
-        _ => Ok(Some(action(alloc, Parts::of(line, b' '))?)),
+        _ => Ok(Some(action(alloc, room, Parts::of(line, b' '))?)),
     }
 }
 
 // What a line's fields ask for; the first that is wrong, from the left, is its fault.
-fn action(alloc: Global, mut fields: Parts) -> Result<Action, LineError>
+fn action(alloc: Global, room: &mut Vec<u8>, mut fields: Parts) -> Result<Action, LineError>
     ensures { LineGives DoesLine result (line_with fields.entry) }
 {
     match fields.next() {
-        Some(word) => action_by(alloc, word, fields),
+        Some(word) => action_by(alloc, room, word, fields),
         None => Err(LineError::Fault(ScriptFault::Word)),
     }
 }
 
-/// What a line asks for by its first field and those behind it.
-pub(crate) fn action_by(alloc: Global, word: &[u8], fields: Parts) -> Result<Action, LineError>
+/// What a line asks for by its first field and those behind it. A record's data is spelled out in
+/// the room.
+pub(crate) fn action_by(
+    alloc: Global,
+    room: &mut Vec<u8>,
+    word: &[u8],
+    fields: Parts,
+) -> Result<Action, LineError>
     ensures { LineGives DoesLine result (line_with (word.now ∷ fields.entry)) }
 {
     match word {
-        b"I" => Ok(Action::Insert(insert(alloc, fields)?)),
-        b"C" => Ok(Action::Commit(commit(alloc, fields)?)),
+        b"I" => Ok(Action::Insert(insert(alloc, room, fields)?)),
+        b"C" => Ok(Action::Commit(commit(alloc, room, fields)?)),
         b"F" => {
             no_more(fields)?;
             Ok(Action::Flush)
         }
-        b"A" => Ok(Action::CommitAsync(commit(alloc, fields)?)),
+        b"A" => Ok(Action::CommitAsync(commit(alloc, room, fields)?)),
         b"L" => {
             no_more(fields)?;
             Ok(Action::WriteBehind)

@@ -1,16 +1,13 @@
 -- The bytes of a page's words that were loaded in order.
-use Rattle.std.proofs.Common.{◌≡◌, inl, inr, ℕ, zero, suc, ◌+◌, ◌*◌, ◌<◌, List, [], ◌∷◌, ◌++◌, length, take, drop, Contains, refl, sym, ap, ◌∙◌, subst, arith}
+use Rattle.std.proofs.Common.{◌≡◌, ◌≢◌, inl, inr, ℕ, zero, suc, ◌+◌, ◌*◌, ◌<◌, List, [], ◌∷◌, ◌++◌, length, take, drop, refl, sym, ap, ◌∙◌, subst, arith}
 use Rattle.std.proofs.lemmas.Bool.{cases_lt}
 use Rattle.std.specs.Int.{w64, to_le_bytes}
 use Rattle.std.proofs.lemmas.List.{length-append, take-append-le, drop-append-le, length-drop}
 use Rattle.std.proofs.Math.Seq.{drop-append_seam, take-length}
 use Rattle.segment_disk.specs.DiskImage.{word_of}
-use Rattle.wal_core.specs.Views.{View}
+use Rattle.wal_core.specs.Views.{IsLoadedLast, View}
 use Rattle.wal_turns.specs.Turned.{bytes_staged}
 use Rattle.wal_turns.specs.Standing.{AreLoaded}
-
-there_too : (s : ℕ × ℕ) (ss : List (ℕ × ℕ)) (x : ℕ × ℕ) → Contains ss x → Contains (s ∷ ss) x
-there_too s ss x at = (suc at.0, (let low = at.1 in omega arith), at.2)
 
 module _ (v : View) (page : ℕ) where
   abbrev bytes : ℕ → List (ℕ × ℕ) → List ℕ
@@ -27,8 +24,8 @@ module _ (v : View) (page : ℕ) where
       omega (arith, before, both, last)
 
   abbrev IsThere : ℕ → List (ℕ × ℕ) → ℕ → Type 0
-  IsThere k staged n = (value : ℕ) × Contains staged (page * 1024 + n, value)
-      × (word_of (bytes k staged) n ≡ to_le_bytes w64 value)
+  IsThere k staged n = (word : ℕ) × IsLoadedLast (page * 1024 + n) word staged
+      × (word_of (bytes k staged) n ≡ to_le_bytes w64 word)
 
   last_word : (k : ℕ) (s : ℕ × ℕ) (ss : List (ℕ × ℕ)) → AreLoaded page k ss
       → word_of (bytes k ss ++ to_le_bytes w64 s.1) k ≡ to_le_bytes w64 s.1
@@ -55,8 +52,9 @@ module _ (v : View) (page : ℕ) where
   bytes-words (suc k) [] all n below = absurd all
   bytes-words (suc k) (s ∷ ss) all n below = elim (cases_lt n k) [
     | inl earlier ↦ (let e = bytes-words k ss all.1 n earlier in
-        (e.0, there_too s ss _ e.1, earlier_word k n s ss all.1 earlier ∙ e.2))
+        let other : s.0 ≢ page * 1024 + n = (λ same. omega (arith, all.0, same, earlier)) in
+        (e.0, inr (other, e.1), earlier_word k n s ss all.1 earlier ∙ e.2))
     | inr last ↦ (let same : n ≡ k = omega arith in
         subst (λ (i : ℕ). IsThere (suc k) (s ∷ ss) i) (sym same)
-        (s.1, (0, omega arith, (λ i. (all.0 i, s.1))), last_word k s ss all.1))
+        (s.1, inl (all.0, refl), last_word k s ss all.1))
   ]

@@ -22,6 +22,14 @@ impl Bytes {
         Bytes { bytes }
     }
 
+    /// The vector that holds the bytes, with what room it has.
+    pub fn into_vec(self) -> Vec<u8>
+        ensures { result.items ≡ self }
+    {
+        let Bytes { bytes } = self;
+        bytes
+    }
+
     pub fn as_slice(&self) -> &[u8]
         ensures { result.now ≡ self.now }
     {

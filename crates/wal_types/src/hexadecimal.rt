@@ -2,6 +2,7 @@ ghost use Rattle.std.specs.Prelude.{◌≡◌, ℕ, ◌%◌};
 ghost use Rattle.wal_types.specs.Hexadecimal.{eight_digits, upper_digit};
 
 /// The eight digits of a number, in upper case and with zeros in front (`%08X`).
+#[inline(always)]
 pub fn upper_hexadecimal(n: u32) -> [u8; 8]
     ensures { result ≡ eight_digits n }
 {
@@ -17,14 +18,12 @@ pub fn upper_hexadecimal(n: u32) -> [u8; 8]
     ]
 }
 
-// The digit of the lowest four bits.
-fn last_digit(n: u32) -> u8
+static DIGITS: [u8; 16] = *b"0123456789ABCDEF";
+
+/// The digit of the lowest four bits.
+#[inline(always)]
+pub(crate) fn last_digit(n: u32) -> u8
     ensures { result ≡ upper_digit (n % 16) }
 {
-    let digit = (n % 16) as u8;
-    if digit < 10 {
-        b'0' + digit
-    } else {
-        b'A' - 10 + digit
-    }
+    DIGITS[(n % 16) as usize]
 }

@@ -1,5 +1,7 @@
 -- Bytes in hexadecimal, part by part.
-use Rattle.std.proofs.Common.{◌≡◌, ℕ, suc, ◌/◌, ◌%◌, ◌<◌, List, [], ◌∷◌, ◌++◌, map, codes, length, get_or, refl, ap, ◌∙◌, arith}
+use Rattle.std.proofs.Common.{◌≡◌, ℕ, suc, ◌+◌, ◌-◌, ◌*◌, ◌/◌, ◌%◌, ◌<◌, ◌≤◌, List, [], ◌∷◌, ◌++◌, map, codes, length, take, drop, get_or, refl, sym, ap, ◌∙◌, append_assoc, arith}
+use Rattle.std.proofs.Math.Seq.{take-append_seam}
+use Rattle.std.proofs.lemmas.List.{length-append, length-drop, take-append-drop, take-append-le}
 use Rattle.std.proofs.lemmas.List.FromFn.{get_or-map-range_with_len}
 use lib.Lanes.{pick_l}
 use Rattle.hex.specs.Hex.{encode_lower, encode_with, lower_digits}
@@ -8,6 +10,34 @@ use Rattle.waldump_text.specs.Names.{hexadecimal, lower_digit}
 pub hexadecimal-append : (a b : List ℕ) → hexadecimal (a ++ b) ≡ hexadecimal a ++ hexadecimal b
 hexadecimal-append [] b = refl
 hexadecimal-append (x ∷ a) b = ap (λ digits. lower_digit (x / 16 % 16) ∷ lower_digit (x % 16) ∷ digits) (hexadecimal-append a b)
+
+pub length-hexadecimal : (bytes : List ℕ) → length (hexadecimal bytes) ≡ 2 * length bytes
+length-hexadecimal [] = refl
+length-hexadecimal (b ∷ bytes) = omega (arith, length-hexadecimal bytes)
+
+-- the digits of the last sixteen bytes may be made again, over those of bytes before the rest
+pub digits_again : (old made rest bytes last : List ℕ) → made ++ hexadecimal rest ≡ old ++ hexadecimal bytes
+    → 16 ≤ length bytes → length rest ≤ 16 → last ≡ drop (length bytes - 16) bytes
+    → take (length made - (32 - 2 * length rest)) made ++ hexadecimal last ≡ old ++ hexadecimal bytes
+digits_again old made rest bytes last same long few is =
+    let front = take (length bytes - 16) bytes in
+    let whole : bytes ≡ front ++ last = sym (ap (λ l. front ++ l) is ∙ take-append-drop (length bytes - 16) bytes) in
+    let parts : old ++ hexadecimal bytes ≡ (old ++ hexadecimal front) ++ hexadecimal last =
+    ap (λ l. old ++ hexadecimal l) whole ∙ ap (λ l. old ++ l) (hexadecimal-append front last) ∙ sym (append_assoc old (hexadecimal front) (hexadecimal last)) in
+    let sixteen : length last ≡ 16 = omega (arith, ap length is, length-drop (length bytes - 16) bytes) in
+    let behind : length made + 2 * length rest ≡ length (old ++ hexadecimal front) + 32 =
+    omega (arith, ap length (same ∙ parts), length-append made (hexadecimal rest), length-append (old ++ hexadecimal front) (hexadecimal last), length-hexadecimal rest, length-hexadecimal last) in
+    let count : length made - (32 - 2 * length rest) ≡ length (old ++ hexadecimal front) = omega arith in
+    ap (λ n. take n made ++ hexadecimal last) count
+    ∙ ap (λ l. l ++ hexadecimal last) (sym (take-append-le (length (old ++ hexadecimal front)) made (hexadecimal rest) (omega arith))
+    ∙ ap (take (length (old ++ hexadecimal front))) (same ∙ parts) ∙ take-append_seam (old ++ hexadecimal front) (hexadecimal last))
+    ∙ sym parts
+
+-- so many digits are made by then
+pub enough_made : (old made rest bytes : List ℕ) → made ++ hexadecimal rest ≡ old ++ hexadecimal bytes
+    → 16 ≤ length bytes → 32 - 2 * length rest ≤ length made
+enough_made old made rest bytes same long =
+    omega (arith, ap length same, length-append made (hexadecimal rest), length-append old (hexadecimal bytes), length-hexadecimal rest, length-hexadecimal bytes)
 
 -- the digit that the table has for a number
 get_or-lower_digits : (d n : ℕ) → n < 16 → d ≡ n → get_or lower_digits d 0 ≡ lower_digit n

@@ -1,3 +1,4 @@
+pub mod AlignedLaws
 pub mod WordLaws
 pub mod SinkLaws
 pub mod HexadecimalLaws

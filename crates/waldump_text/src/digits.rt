@@ -15,12 +15,31 @@ pub(crate) fn push_digits(buffer: &mut LineBuffer, bytes: &[u8])
 {
     let mut rest = bytes;
     while let Some((sixteen, others)) = rest.split_first_chunk::<16>() {
-        let (front, back) = sixteen_digits(sixteen);
-        buffer.push(&front);
-        buffer.push(&back);
+        push_sixteen(buffer, sixteen);
         rest = others;
     }
-    push_few_digits(buffer, rest);
+    if rest.is_empty() {
+        return;
+    }
+    match bytes.last_chunk::<16>() {
+        // Digits of bytes before the rest are made again: so no copy is of a length that is known
+        // only here.
+        Some(last) => {
+            buffer.drop_back(32 - 2 * rest.len());
+            push_sixteen(buffer, last);
+        }
+        None => push_few_digits(buffer, rest),
+    }
+}
+
+#[inline(always)]
+fn push_sixteen(buffer: &mut LineBuffer, bytes: &[u8; 16])
+    requires { length buffer.old + 32 ≤ ROOM }
+    ensures { buffer.new ≡ buffer.old ++ hexadecimal bytes.now }
+{
+    let (front, back) = sixteen_digits(bytes);
+    buffer.push_piece(front);
+    buffer.push_piece(back);
 }
 
 #[inline(always)]

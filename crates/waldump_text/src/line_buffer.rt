@@ -1,5 +1,8 @@
-use crate::putting::{SinkFault, padding, put};
-use itoa::Buffer;
+ghost use Rattle.std.specs.Prelude.{◌≡◌, ◌+◌, ◌≤◌, ◌++◌, length, replicate};
+ghost use Rattle.std.specs.Fmt.{decimal};
+
+use crate::putting::{SinkFault, put};
+use itoa::{Buffer, write_digits};
 use segment_disk::Sink;
 use std::marker::Model;
 use wal_types::Lsn;
@@ -26,7 +29,7 @@ impl Model for LineBuffer {
 }
 
 impl LineBuffer {
-    ghost use Rattle.std.specs.Prelude.{◌≡◌, ◌+◌, ◌≤◌, [], ◌++◌, length, max, OnOk};
+    ghost use Rattle.std.specs.Prelude.{◌≡◌, ◌+◌, ◌-◌, ◌≤◌, [], ◌++◌, length, max, take, OnOk};
     ghost use Rattle.std.specs.Fmt.{decimal};
     ghost use Rattle.wal_types.specs.LsnText.{lsn_text};
     ghost use Rattle.waldump_text.specs.Put.{Puts, PutsBut, padded_left, padded_right};
@@ -56,15 +59,38 @@ impl LineBuffer {
         self.used = end;
     }
 
-    /// A text and blanks behind it.
+    /// A text of a length that is known, which is copied without a call. It is taken by value, so
+    /// that it can be no part of the buffer, and is not looked at again.
+    #[inline(always)]
+    pub(crate) fn push_piece<const N: usize>(&mut self, piece: [u8; N])
+        requires { length self.old + N ≤ ROOM }
+        ensures text { self.new ≡ self.old ++ piece.entry }
+        ensures length { length self.new ≡ length self.old + N }
+    {
+        self.push(&piece);
+    }
+
+    /// Takes so many bytes off the back again.
+    #[inline(always)]
+    pub(crate) fn drop_back(&mut self, count: usize)
+        requires { count ≤ length self.old }
+        ensures text { self.new ≡ take (length self.old - count) self.old }
+        ensures length { length self.new + count ≡ length self.old }
+    {
+        self.used -= count;
+    }
+
+    /// A text and blanks behind it. Sixteen blanks are copied, whatever the text's length, so there
+    /// has to be room for them.
     pub(crate) fn push_left_aligned(&mut self, text: &[u8], width: usize)
         requires width { width ≤ 16 }
-        requires room { length self.old + max width (length text.now) ≤ ROOM }
+        requires room { length self.old + length text.now + 16 ≤ ROOM }
         ensures text { self.new ≡ self.old ++ padded_right width text.now }
         ensures length { length self.new ≡ length self.old + max width (length text.now) }
     {
         self.push(text);
-        self.push(padding(width, text.len()));
+        self.push_piece([b' '; 16]);
+        self.drop_back(16 - width.saturating_sub(text.len()));
     }
 
     /// A number in decimal.
@@ -88,16 +114,20 @@ impl LineBuffer {
     }
 
     /// A number in decimal, behind blanks.
+    #[inline(always)]
     pub(crate) fn push_right_aligned(&mut self, n: u32, width: usize)
         requires width { width ≤ 10 }
         requires room { length self.old + 10 ≤ ROOM }
         ensures text { self.new ≡ self.old ++ padded_left width (decimal n) }
         ensures length { length self.new ≤ length self.old + 10 }
     {
-        let mut buffer = Buffer::new();
-        let digits = buffer.format(n).as_bytes();
-        self.push(padding(width, digits.len()));
-        self.push(digits);
+        let (text, start) = right_aligned(n);
+        // The first is of a length that is known where the width is.
+        if start + width >= 16 {
+            self.push(&text[16 - width..]);
+        } else {
+            self.push(&text[start..]);
+        }
     }
 
     pub(crate) fn push_position(&mut self, at: Lsn)
@@ -105,7 +135,12 @@ impl LineBuffer {
         ensures text { self.new ≡ self.old ++ lsn_text at.0 }
         ensures length { length self.new ≤ length self.old + 17 }
     {
-        self.push(at.text().as_bytes());
+        let text = at.text();
+        // So long is each in a log's first 64 GiB.
+        match text.as_bytes().split_first_chunk::<10>() {
+            Some((front, [])) => self.push(front),
+            _ => self.push(text.as_bytes()),
+        }
     }
 
     /// Lets all that is held back go to the sink.
@@ -144,4 +179,16 @@ impl LineBuffer {
         self.push(text);
         Ok(())
     }
+}
+
+// A number in decimal at the end of blanks, and where it starts.
+#[inline(never)]
+fn right_aligned(n: u32) -> ([u8; 16], usize)
+    ensures text { result.0 ≡ replicate result.1 32 ++ decimal n }
+    ensures start { result.1 + length (decimal n) ≡ 16 }
+    ensures short { length (decimal n) ≤ 10 }
+{
+    let mut text = [b' '; 16];
+    let start = write_digits(u64::from(n), &mut text, 16);
+    (text, start)
 }

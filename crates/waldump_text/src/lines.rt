@@ -51,21 +51,21 @@ fn push_head(buffer: &mut LineBuffer, r: &Listed)
     requires empty { buffer.old ≡ [] }
     ensures { buffer.new ≡ joined (head_pieces r.now) }
 {
-    buffer.push(b"rmgr: ");
+    buffer.push_piece(*b"rmgr: ");
     buffer.push_left_aligned(manager_name(r.value.rmid).as_bytes(), 11);
-    buffer.push(b" len (rec/tot): ");
+    buffer.push_piece(*b" len (rec/tot): ");
     buffer.push_right_aligned(r.total - images_len(r.value.blocks.as_slice()), 6);
-    buffer.push(b"/");
+    buffer.push_piece(*b"/");
     buffer.push_right_aligned(r.total, 6);
-    buffer.push(b", tx: ");
+    buffer.push_piece(*b", tx: ");
     buffer.push_right_aligned(r.value.xid.0, 10);
-    buffer.push(b", lsn: ");
+    buffer.push_piece(*b", lsn: ");
     buffer.push_position(r.start);
-    buffer.push(b", prev ");
+    buffer.push_piece(*b", prev ");
     buffer.push_position(r.prev);
-    buffer.push(b", desc: ");
+    buffer.push_piece(*b", desc: ");
     buffer.push(record_word(r.value.rmid, r.value.info).as_bytes());
-    buffer.push(b" data ");
+    buffer.push_piece(*b" data ");
 }
 
 // Puts a record's data, and behind it the time of a commit where times are asked for.

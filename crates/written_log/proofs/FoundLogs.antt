@@ -36,7 +36,7 @@ use Rattle.written_log.proofs.LawfulPages.{split_by}
 use Rattle.written_log.proofs.ReadImages.{as_read_fits, fits_lawful, fits_whole, read_is}
 
 -- the log of a front has the order's words below its end
-log_word-front : (size sysid : ℕ) → IsSegmentSize size → (front back : List Entry) → IsChained size (front ++ back) → (a : ℕ) → a + 8 ≤ end_address_of size (end_position size front) → log_word size sysid (front ++ back) a ≡ log_word size sysid front a
+pub log_word-front : (size sysid : ℕ) → IsSegmentSize size → (front back : List Entry) → IsChained size (front ++ back) → (a : ℕ) → a + 8 ≤ end_address_of size (end_position size front) → log_word size sysid (front ++ back) a ≡ log_word size sysid front a
 log_word-front size sysid valid front back chained a below =
     let h : (i : ℕ) → i < 8 → log_byte size sysid (front ++ back) (a + i) ≡ log_byte size sysid front (a + i) = λ i lt. log_byte-front size sysid valid back front chained (a + i) (omega (arith, below, lt)) in
     rw (h 0 (omega arith), h 1 (omega arith), h 2 (omega arith), h 3 (omega arith), h 4 (omega arith), h 5 (omega arith), h 6 (omega arith), h 7 (omega arith)) refl

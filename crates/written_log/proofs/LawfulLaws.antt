@@ -53,7 +53,7 @@ around es i e got =
     let behind : drop i es ≡ e ∷ drop (i + 1) es = drop_more es i e (slice_get_within es i e got) ∙ ap (λ (x : Entry). x ∷ drop (i + 1) es) (get_or_from_slice_get es i e e got) in
     sym (take-append-drop i es) ∙ ap (λ (l : List Entry). take i es ++ l) behind
 
-length-found_from : (size prev : ℕ) (es : List Entry) → length (found_from size prev es) ≡ length es
+pub length-found_from : (size prev : ℕ) (es : List Entry) → length (found_from size prev es) ≡ length es
 length-found_from size prev [] = refl
 length-found_from size prev (e ∷ es) = ap suc (length-found_from size (address_of size e.start) es)
 

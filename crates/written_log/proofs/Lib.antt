@@ -26,3 +26,4 @@ pub mod FoundImages
 pub mod ReadImages
 pub mod FoundLogs
 pub mod SettledFound
+pub mod NeverWhole

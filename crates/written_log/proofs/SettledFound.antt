@@ -28,7 +28,7 @@ use Rattle.wal_reader.specs.declared.found.FoundRecord.{FoundRecord}
 use Rattle.wal_reader.specs.Pages.{pages_in}
 use Rattle.wal_reader.specs.Decodes.{Decodes}
 use Rattle.written_log.specs.FoundLog.{HasAllPages, HasFound, end_behind}
-use Rattle.written_log.specs.SettledFound.{CrashedDisksMayHoldLog, CrashedLogsAreFoundAgain, IsReadOrLost, LossesLeaveFronts, MayOnlyLose, NothingWaits, QuietLogsDecodeToFound, SettledLogsDecodeToFound, SyncedLogsDecodeToFound}
+use Rattle.written_log.specs.SettledFound.{CrashedDisksMayHoldLog, CrashedLogsAreFoundAgain, NothingWaits, QuietLogsDecodeToFound, SettledLogsDecodeToFound, SyncedLogsDecodeToFound}
 use Rattle.written_log.specs.Torn.{NoTornPass}
 use Rattle.written_log.specs.Written.{found_of}
 use Rattle.written_log.proofs.FoundImages.{begins_with, end_of_front, front, front_bounded, own_word}
@@ -160,24 +160,6 @@ quiet_read None page word bytes quiet stands = absurd stands
 quiet_read (Some s) page word bytes quiet (inl kept) = kept ∙ ap (λ (writes : List (ℕ × List ℕ)). word_of (after_writes writes page (s.durable page)) word) (sym quiet)
 quiet_read (Some s) page word bytes quiet (inr written) = absurd (subst (λ (writes : List (ℕ × List ℕ)). IsWritten writes page word bytes) quiet written)
 
-pub losses_leave_fronts : LossesLeaveFronts
-losses_leave_fronts size sysid count moment m es before found tape image has only loses keeps later leaves none_torn told answer decodes =
-    let end = end_behind size found in
-    let old = keeps.left m later image leaves in
-    let lawful = settling_keeps_lawful size sysid count end moment m es before tape image has.may.valid has.may.chained has.may.lawful keeps later leaves in
-    let words : (k : ℕ) → (image_word size image (8 * k) ≡ image_word size (image_as_read before) (8 * k)) ⊎ (image_word size image (8 * k) ≡ zero_word) = λ k.
-    (elim (word_or_zero size sysid count end es before has.may.valid only (read_whole size sysid count es before found has) image old k (λ a. Unit {0}) (IsOldOrZero size before end) old (λ among word. lost size sysid count es before has.may.valid loses end _ _ _ (word_stands_at size has.may.valid k).low word)) [
-      | inl same ↦ inl same
-      | inr zero ↦ inr zero.1
-    ]) in
-    front_of_found size sysid count es before found has only image old lawful none_torn told answer decodes words
-  where
-    lost : (size sysid count : ℕ) (es : List Entry) (before : DiskState) (valid : IsSegmentSize size) → MayOnlyLose size count before → (end number word : ℕ) (bytes : List ℕ) → word < 1024 → IsOldOrZero size before end number word bytes → ReadOr size before (λ a. Unit {0}) number word bytes
-    lost size sysid count es before valid loses end number word bytes low old = elim old.1 [
-      | inl stands ↦ elim (stands_fit size (IsAmong count) (IsReadOrLost size before) before valid loses number word bytes (before (number / pages_of size)) refl low stands) [ inl read ↦ inl read | inr zero ↦ inr (tt, zero) ]
-      | inr zero ↦ inr (tt, zero.1)
-    ]
-
 pub quiet_logs_decode_to_found : QuietLogsDecodeToFound
 quiet_logs_decode_to_found size sysid count moment m es before found tape image has only quiet keeps later leaves none_torn told answer decodes =
     let end = end_behind size found in
@@ -194,13 +176,18 @@ quiet_logs_decode_to_found size sysid count moment m es before found tape image 
 
 -- ---- from the end of the first syncs on
 
+-- an image that has below the end nothing but what was read, and above it that or zeros
+pub read_images_decode_to_found : (size sysid count : ℕ) (es : List Entry) (before : DiskState) (found : List FoundRecord) (has : HasFound size sysid count es before found) → AreOnly count before → (image : DiskImage) → DiskImageFits size (IsAmong count) (IsOldOrZero size before (end_behind size found)) image → DiskImageFits size (IsAmong count) (IsReadOrZero size before count (end_behind size found)) image
+    → IsLawful size sysid image es 0 → NoTornPass size (pages_in size image) es → (told : List FoundRecord) (answer : Answer) → Decodes size (pages_in size image) size None told answer → told ≡ found
+read_images_decode_to_found size sysid count es before found has only image old reads lawful none_torn told answer decodes =
+    let end = end_behind size found in
+    just_found size sysid count es before found has only image old lawful none_torn told answer decodes
+    (λ k. word_or_zero size sysid count end es before has.may.valid only (read_whole size sysid count es before found has) image old k (λ a. end ≤ a) (IsReadOrZero size before count end) reads (λ among word. word among))
+
 pub synced_logs_decode_to_found : SyncedLogsDecodeToFound
 synced_logs_decode_to_found size sysid count since moment m es before found tape image has only keeps reads later after leaves none_torn told answer decodes =
-    let end = end_behind size found in
-    let old = keeps.left m later image leaves in
-    let lawful = settling_keeps_lawful size sysid count end since m es before tape image has.may.valid has.may.chained has.may.lawful keeps later leaves in
-    just_found size sysid count es before found has only image old lawful none_torn told answer decodes
-    (λ k. word_or_zero size sysid count end es before has.may.valid only (read_whole size sysid count es before found has) image old k (λ a. end ≤ a) (IsReadOrZero size before count end) (reads.left m after image leaves) (λ among word. word among))
+    let lawful = settling_keeps_lawful size sysid count (end_behind size found) since m es before tape image has.may.valid has.may.chained has.may.lawful keeps later leaves in
+    read_images_decode_to_found size sysid count es before found has only image (keeps.left m later image leaves) (reads.left m after image leaves) lawful none_torn told answer decodes
 
 -- ---- behind all calls
 

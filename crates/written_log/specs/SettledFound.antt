@@ -1,12 +1,13 @@
 -- What images decode to that a crash leaves while a log is settled that was found on a disk, and
 -- behind it.
-use Rattle.std.specs.Prelude.{◌≡◌, ℕ, ◌≤◌, ◌⊎◌, List, [], ◌++◌, None, IfSome}
+use Rattle.std.specs.Prelude.{◌≡◌, ◌≢◌, ℕ, ◌+◌, ◌*◌, ◌<◌, ◌≤◌, ◌⊎◌, List, [], ◌++◌, length, take, None, IfSome}
 use Rattle.segment_disk.specs.Assured.{IsNowhere, StateAssures, TapeAssures}
 use Rattle.segment_disk.specs.DiskImage.{DiskImage, LeftAt, image_as_read}
 use Rattle.segment_disk.specs.ImageWords.{zero_word}
 use Rattle.segment_disk.specs.Tape.{DiskState, Tape}
+use Rattle.wal_page.specs.Log.{log_word}
 use Rattle.wal_page.specs.Order.{Entry}
-use Rattle.flush_core.specs.Settled.{AreThere, IsAmong, IsAsRead, KeepsOld, KeepsRead, StaysSettled}
+use Rattle.flush_core.specs.Settled.{AreThere, IsAmong, IsAsRead, KeepsOld, KeepsRead, MayStand, StaysSettled}
 use Rattle.flush_core.specs.SettledLog.{AreOnly, IsZeroOrLogWord}
 use Rattle.wal_reader.specs.declared.found.Answer.{Answer}
 use Rattle.wal_reader.specs.declared.found.Answer.TheVariants.{End}
@@ -18,6 +19,20 @@ use Rattle.written_log.specs.Torn.{NoTornPass}
 
 -- ---- what waits for a sync when a log is found
 
+-- the log of entries has a word in whose place a crash leaves nothing but zeros: whatever it
+-- leaves, they are not all whole there
+pub record AreNeverWhole (size sysid : ℕ) (es : List Entry) (state : DiskState) : Type 0 where
+  pub page : ℕ
+  pub word : ℕ
+  pub small : word < 1024
+  pub wanted : log_word size sysid es (page * 8192 + 8 * word) ≢ 0
+  pub lacked : (bytes : List ℕ) → MayStand size state page word bytes → bytes ≡ zero_word
+
+-- the entry behind those that were found, if there is one, is never whole
+abbrev pub NextIsNeverWhole : ℕ → ℕ → List Entry → List FoundRecord → DiskState → Type 0
+NextIsNeverWhole size sysid es found state =
+    length found < length es → AreNeverWhole size sysid (take (length found + 1) es) state
+
 -- a word that a crash may leave is as it is read, or zeros
 abbrev pub IsReadOrLost : ℕ → DiskState → ℕ → ℕ → List ℕ → Type 0
 IsReadOrLost size state page word bytes = IsAsRead size state page word bytes ⊎ (bytes ≡ zero_word)
@@ -25,20 +40,27 @@ IsReadOrLost size state page word bytes = IsAsRead size state page word bytes �
 abbrev pub MayOnlyLose : ℕ → ℕ → DiskState → Type 0
 MayOnlyLose size count state = StateAssures size (IsAmong count) (IsReadOrLost size state) state
 
--- no write does, as on a disk that a crash left
+-- so a word that the next entry lacks as it is read it always lacks
+abbrev pub LossesNeverMakeNextWhole : Type 0
+LossesNeverMakeNextWhole =
+    (size sysid count : ℕ) (es : List Entry) (state : DiskState) (found : List FoundRecord)
+    → HasFound size sysid count es state found → AreOnly count state
+    → MayOnlyLose size count state → NextIsNeverWhole size sysid es found state
+
+-- no write waits, as on a disk that a crash left
 abbrev pub NothingWaits : DiskState → Type 0
 NothingWaits state = (segment : ℕ) → IfSome (state segment) (λ s. s.writes ≡ [])
 
 -- ---- an image that a crash leaves, in which no torn record passes its CRC
 
--- it decodes to a front of what was found, where a crash may have left nothing but words as they
--- were read and zeros
-abbrev pub LossesLeaveFronts : Type 0
-LossesLeaveFronts =
+-- it decodes to a front of what was found, if the entry behind that was never whole
+abbrev pub UnsyncedLogsDecodeToFronts : Type 0
+UnsyncedLogsDecodeToFronts =
     (size sysid count moment m : ℕ) (es : List Entry) (before : DiskState)
     (found : List FoundRecord) (tape : Tape) (image : DiskImage)
     → HasFound size sysid count es before found → AreOnly count before
-    → MayOnlyLose size count before → KeepsOld size before count (end_behind size found) moment tape
+    → NextIsNeverWhole size sysid es found before
+    → KeepsOld size before count (end_behind size found) moment tape
     → moment ≤ m → LeftAt tape m image → NoTornPass size (pages_in size image) es
     → (told : List FoundRecord) (answer : Answer)
     → Decodes size (pages_in size image) size None told answer

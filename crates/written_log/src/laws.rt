@@ -4,10 +4,11 @@ ghost use Rattle.written_log.specs.LawfulLog.{LawfulImagesDecodeToFronts, WholeL
 ghost use Rattle.written_log.specs.SettledFound.{
   CrashedDisksMayHoldLog,
   CrashedLogsAreFoundAgain,
-  LossesLeaveFronts,
+  LossesNeverMakeNextWhole,
   QuietLogsDecodeToFound,
   SettledLogsDecodeToFound,
   SyncedLogsDecodeToFound,
+  UnsyncedLogsDecodeToFronts,
 };
 ghost use Rattle.written_log.specs.SettledLog.{SettlingLogsDecodeToFronts, SyncedLogsDecodeToFronts};
 ghost use Rattle.written_log.specs.TornLaws.{EntriesUptoAreWhole, SeenTornFailsChecks};
@@ -60,13 +61,15 @@ pub fn found_logs_stand()
 /// A law: while a log that was found is settled, what images decode to that a crash leaves, in
 /// which no torn record passes its CRC. From the end of the first syncs on, and from the first
 /// moment on if nothing waited for a sync, it is just what was found. Before that it is a front of
-/// it, if a crash may leave nothing but words as they are read and zeros.
+/// it, if a crash never leaves the entry behind it whole; and so it is if a crash may leave nothing
+/// but words as they are read and zeros.
 ///
 /// Once the log is settled it is what was found, and then the end, with no premise on torn records.
 /// What a crash leaves meanwhile is a disk on which a log was found, with the same order; and what
 /// is asked of such a disk's words holds of one that a crash left of a log that was written.
 pub fn settling_keeps_found()
-    ensures losses { LossesLeaveFronts }
+    ensures unsynced { UnsyncedLogsDecodeToFronts }
+    ensures losses { LossesNeverMakeNextWhole }
     ensures quiet { QuietLogsDecodeToFound }
     ensures synced { SyncedLogsDecodeToFound }
     ensures settled { SettledLogsDecodeToFound }

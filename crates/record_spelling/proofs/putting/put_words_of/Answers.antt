@@ -19,8 +19,8 @@ returns-then-whole-words c =
     let each : (k : ℕ) → k < whole → get_or put k 0 ≡ from_le_bytes w64 (get_or chunks k []) = λ k lt. c.put_chunks.ensures k (omega arith) in
     let less : whole < length words = omega (arith, length-append put (drop whole words), length-drop whole words) in
     let all : whole ≡ length bytes / 8 = omega arith in
-    last_word bytes words put chunks whole c.as_chunks.ensures.front within long each c.first_word.result
-    (c.first_word.ensures ∙ ap (λ (tail : List ℕ). from_le_bytes w64 (take 8 tail)) c.as_chunks.ensures.back) all c.requires less
+    last_word bytes words put chunks whole c.as_chunks.ensures.front within long each c.last_word.result
+    (c.last_word.ensures ∙ ap (λ (tail : List ℕ). from_le_bytes w64 (take 8 tail)) c.as_chunks.ensures.back) all c.requires less
 
 pub returns-else-whole-words : goal.returns-else-whole-words
 returns-else-whole-words c = λ k lt.

@@ -1,12 +1,9 @@
-use Rattle.reopened_log.proofs.LeftAgain.{crashed_logs_were_left, crashed_settlings_were_left}
+use Rattle.reopened_log.proofs.LeftAgain.{crashed_logs_were_left}
 use Rattle.reopened_log.proofs.LeftRuns.{crashed_reopened_runs_were_left, crashed_runs_were_left}
 use Rattle.reopened_log.proofs.laws.crashed_logs_were_left.Goals as goal
 
 pub returns-clause-written : goal.returns-clause-written
 returns-clause-written c = crashed_logs_were_left
-
-pub returns-clause-settled : goal.returns-clause-settled
-returns-clause-settled c = crashed_settlings_were_left
 
 pub returns-clause-run : goal.returns-clause-run
 returns-clause-run c = crashed_runs_were_left

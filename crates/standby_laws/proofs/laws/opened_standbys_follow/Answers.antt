@@ -1,5 +1,6 @@
 -- What is found on the disk is the log's, and so is what settling leaves of it.
-use Rattle.standby_laws.proofs.OpenedAgain.{failed_openings_leave_log, follows_again, opens_on_log}
+use Rattle.standby_laws.proofs.FailedOpenings.{failed_openings_leave_log}
+use Rattle.standby_laws.proofs.OpenedAgain.{follows_again, opens_on_log}
 use Rattle.standby_laws.proofs.laws.opened_standbys_follow.Goals as goal
 
 pub returns-clause-follows : goal.returns-clause-follows

@@ -1,30 +1,39 @@
-use Rattle.std.proofs.Common.{◌≡◌, ℕ, List, take, drop, sym, ap, ◌∙◌}
+use Rattle.std.proofs.Common.{◌≡◌, ℕ, List, take, drop, sym, ap, ◌∙◌, arith}
 use Rattle.std.proofs.lemmas.Result.{err_from_is_err_and}
-use Rattle.byte_position.specs.Position.{end_address_of}
+use Rattle.byte_position.specs.Position.{address_of, end_address_of}
 use Rattle.wal_reader.specs.declared.found.FoundRecord.{FoundRecord}
 use Rattle.wal_reader.specs.declared.record_place.RecordPlace.{RecordPlace}
 use Rattle.wal_reader.specs.RecordRead.{behind_read, without_place}
 use Rattle.wal_reader.specs.Spelled.{IsSpelled}
 use Rattle.wal_reader.proofs.RecordReads.{of_found, header_fails_here, crc_fails_here, read_here, found_here, end_in_page, goes_on_behind}
+use Rattle.wal_reader.proofs.StartLaws.{address_at_cursor}
 use Rattle.wal_reader.proofs.record_reading.read_in_page.Goals as goal
 use Rattle.wal_reader.proofs.record_reading.read_in_page.Goals.{After-part_of_page-bytes}
 
 own : (c : After-part_of_page-bytes) → c.part_of_page-bytes.result.now ≡ take c.args.opened.extent.total (drop c.args.opened.cursor.offset c.args.cache.now.bytes.value)
 own c = c.part_of_page-bytes.ensures.bytes ∙ ap (λ (page : List ℕ). take c.args.opened.extent.total (drop c.args.opened.cursor.offset page)) c.deref.ensures
 
+own_start : (c : After-part_of_page-bytes) → c.address-start.result.0 ≡ address_of c.args.cache.now.geometry c.args.opened.extent.at.position
+own_start c =
+    c.address-start.ensures
+    ∙ address_at_cursor c.args.cache.now.geometry c.args.opened.extent.at.position c.args.opened.cursor c.requires.opened.none.gathered (omega (arith, c.requires.opened.large, c.requires.within))
+
+pub found-requires-clause-start : goal.found-requires-clause-start
+found-requires-clause-start c = own_start ((goal.at.found-requires-clause-start c).After-part_of_page-bytes)
+
 pub returns-in_err-check_header-clause-reads : goal.returns-in_err-check_header-clause-reads
 returns-in_err-check_header-clause-reads c = λ pages here.
     let before = (goal.at.returns-in_err-check_header-clause-reads c).After-part_of_page-bytes in
     let size = c.args.cache.now.geometry in
     let stop = err_from_is_err_and c.from_residual.result c.from_residual.ensures.1 in
-    rw (stop.1, stop.2) (header_fails_here size pages c.args.opened.extent.at c.start-start.result c.args.opened.extent.total c.args.opened.cursor _ _ c.start-start.ensures c.requires.opened.page c.requires.opened.none.gathered here c.requires.whole c.requires.opened.large c.requires.within (own before) _ c.in_err-check_header.ensures)
+    rw (stop.1, stop.2) (header_fails_here size pages c.args.opened.extent.at c.address-start.result c.args.opened.extent.total c.args.opened.cursor _ _ (own_start before) c.requires.opened.page c.requires.opened.none.gathered here c.requires.whole c.requires.opened.large c.requires.within (own before) _ c.in_err-check_header.ensures)
 
 pub returns-in_err-check_crc-clause-reads : goal.returns-in_err-check_crc-clause-reads
 returns-in_err-check_crc-clause-reads c = λ pages here.
     let before = (goal.at.returns-in_err-check_crc-clause-reads c).After-part_of_page-bytes in
     let size = c.args.cache.now.geometry in
     let stop = err_from_is_err_and c.from_residual-in_err-check_crc.result c.from_residual-in_err-check_crc.ensures.1 in
-    rw (stop.1, stop.2) (crc_fails_here size pages c.args.opened.extent.at c.start-start.result c.args.opened.extent.total c.args.opened.cursor _ _ c.start-start.ensures c.requires.opened.page c.requires.opened.none.gathered here c.requires.whole c.requires.opened.large c.requires.within (own before) c.in_ok-check_header.ensures _ c.in_err-check_crc.ensures)
+    rw (stop.1, stop.2) (crc_fails_here size pages c.args.opened.extent.at c.address-start.result c.args.opened.extent.total c.args.opened.cursor _ _ (own_start before) c.requires.opened.page c.requires.opened.none.gathered here c.requires.whole c.requires.opened.large c.requires.within (own before) c.in_ok-check_header.ensures _ c.in_err-check_crc.ensures)
 
 pub found-requires-clause-end : goal.found-requires-clause-end
 found-requires-clause-end c =
@@ -35,7 +44,7 @@ returns-in_err-read-clause-reads c = λ pages here.
     let before = (goal.at.returns-in_err-read-clause-reads c).After-part_of_page-bytes in
     let size = c.args.cache.now.geometry in
     let stop = err_from_is_err_and c.from_residual-in_err-read.result c.from_residual-in_err-read.ensures.1 in
-    let read = read_here size pages c.args.opened.extent.at c.start-start.result c.args.opened.extent.total c.args.opened.cursor _ _ c.start-start.ensures c.requires.opened.page c.requires.opened.none.gathered here c.requires.whole c.requires.opened.large c.requires.within (own before) c.in_ok-check_header.ensures c.in_ok-check_crc.ensures in
+    let read = read_here size pages c.args.opened.extent.at c.address-start.result c.args.opened.extent.total c.args.opened.cursor _ _ (own_start before) c.requires.opened.page c.requires.opened.none.gathered here c.requires.whole c.requires.opened.large c.requires.within (own before) c.in_ok-check_header.ensures c.in_ok-check_crc.ensures in
     rw (stop.1, stop.2) (read ∙ sym c.in_ok-found.ensures.read ∙ ap without_place c.in_err-read.was)
 
 pub returns-clause-answered : goal.returns-clause-answered
@@ -58,8 +67,8 @@ returns-clause-reads c = λ pages here.
     let size = c.args.cache.now.geometry in
     let extent = c.args.opened.extent in
     let read = c.in_ok-read.read in
-    let reads = read_here size pages extent.at c.start-start.result extent.total c.args.opened.cursor _ _ c.start-start.ensures c.requires.opened.page c.requires.opened.none.gathered here c.requires.whole c.requires.opened.large c.requires.within (own before) c.in_ok-check_header.ensures c.in_ok-check_crc.ensures in
+    let reads = read_here size pages extent.at c.address-start.result extent.total c.args.opened.cursor _ _ (own_start before) c.requires.opened.page c.requires.opened.none.gathered here c.requires.whole c.requires.opened.large c.requires.within (own before) c.in_ok-check_header.ensures c.in_ok-check_crc.ensures in
     let said = sym c.in_ok-found.ensures.read ∙ ap without_place c.in_ok-read.was in
     let at_page = of_found c.in_ok-found.field-0 (λ (read : FoundRecord × RecordPlace). read.1 ≡ behind_read size extent.at read.0 extent.total c.args.opened.cursor.timeline) read c.in_ok-read.was c.in_ok-found.ensures.behind in
-    let behind = found_here size pages extent.at c.start-start.result extent.total c.args.opened.cursor _ _ c.start-start.ensures c.requires.opened.page c.requires.opened.none.gathered here c.requires.whole c.requires.opened.large c.requires.within (own before) read.0 c.requires.opened.none.on.1 said in
+    let behind = found_here size pages extent.at c.address-start.result extent.total c.args.opened.cursor _ _ (own_start before) c.requires.opened.page c.requires.opened.none.gathered here c.requires.whole c.requires.opened.large c.requires.within (own before) read.0 c.requires.opened.none.on.1 said in
     (reads ∙ said, at_page ∙ behind)

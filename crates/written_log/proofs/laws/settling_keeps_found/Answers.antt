@@ -1,8 +1,12 @@
-use Rattle.written_log.proofs.SettledFound.{crashed_disks_may_hold_log, crashed_logs_are_found_again, losses_leave_fronts, quiet_logs_decode_to_found, settled_logs_decode_to_found, synced_logs_decode_to_found}
+use Rattle.written_log.proofs.SettledFound.{crashed_disks_may_hold_log, crashed_logs_are_found_again, quiet_logs_decode_to_found, settled_logs_decode_to_found, synced_logs_decode_to_found}
+use Rattle.written_log.proofs.NeverWhole.{losses_never_make_next_whole, unsynced_logs_decode_to_fronts}
 use Rattle.written_log.proofs.laws.settling_keeps_found.Goals as goal
 
+pub returns-clause-unsynced : goal.returns-clause-unsynced
+returns-clause-unsynced c = unsynced_logs_decode_to_fronts
+
 pub returns-clause-losses : goal.returns-clause-losses
-returns-clause-losses c = losses_leave_fronts
+returns-clause-losses c = losses_never_make_next_whole
 
 pub returns-clause-quiet : goal.returns-clause-quiet
 returns-clause-quiet c = quiet_logs_decode_to_found

@@ -8,23 +8,17 @@ use Rattle.wal_page.proofs.placed.Placed.put_together.Goals as goal
 abbrev IsOwned : ℕ → PlacedState → Type 0
 IsOwned count s = s.next + 8 * count ≤ placed_end s
 
-pub put_words-requires-clause-behind_header : goal.put_words-requires-clause-behind_header
-put_words-requires-clause-behind_header c =
-    let run = subst (λ (s : PlacedState). LieTogether s (length c.args.words.now)) (sym c.self.view_is) c.requires.together in
-    let number = rw (← c.self.view_is) at c.word_number.ensures in
-    omega (arith, run.behind_header, number)
-
 pub put_words-requires-clause-starts_within : goal.put_words-requires-clause-starts_within
 put_words-requires-clause-starts_within c =
     let run = subst (λ (s : PlacedState). LieTogether s (length c.args.words.now)) (sym c.self.view_is) c.requires.together in
     let number = rw (← c.self.view_is) at c.word_number.ensures in
-    omega (arith, run.own, run.behind_header, number, c.requires.some)
+    omega (arith, run.own, number, c.self.invariant.position, c.requires.some)
 
 pub put_words-requires-clause-ends_within : goal.put_words-requires-clause-ends_within
 put_words-requires-clause-ends_within c =
     let run = subst (λ (s : PlacedState). LieTogether s (length c.args.words.now)) (sym c.self.view_is) c.requires.together in
     let number = rw (← c.self.view_is) at c.word_number.ensures in
-    omega (arith, run.own, run.behind_header, number)
+    omega (arith, run.own, number, c.self.invariant.position)
 
 pub overflow_add-self : goal.overflow_add-self
 overflow_add-self c =
@@ -50,4 +44,4 @@ returns-clause-words c =
     let count = length c.args.words.now in
     let run = subst (λ (s : PlacedState). LieTogether s count) (sym c.self.view_is) c.requires.together in
     let number = rw (← c.self.view_is) at c.word_number.ensures in
-    rw (← c.self.view_is) (λ k lt. c.put_words.ensures.words p.prev.0 k lt ∙ sym (own_words_next p.geometry p.body.now p.start p.room p.next p.passed c.self.invariant run.outside count run.on_page p.sysid p.prev.0 c.word_number.result number run.own k lt))
+    rw (← c.self.view_is) (λ k lt. c.put_words.ensures.words k lt ∙ sym (own_words_next p.geometry p.body.now p.start p.room p.next p.passed c.self.invariant run.outside count run.on_page p.sysid p.prev.0 c.word_number.result number run.own k lt))

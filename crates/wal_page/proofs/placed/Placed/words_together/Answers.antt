@@ -5,7 +5,6 @@ pub returns-clause-together : goal.returns-clause-together
 returns-clause-together c = λ some.
     rw (← c.self.view_is) (record {
       outside = sym c.is_in_header.ensures ∙ c.if-is_in_header.false;
-      behind_header = omega (arith, c.self.invariant.position);
       on_page = omega arith;
       own = omega (arith, rw (← c.self.view_is) at c.own_left.ensures);
     })
