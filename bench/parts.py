@@ -27,7 +27,7 @@ PARTS = (
     ("copies and clearing by the C library", r"memmove|memcpy|memset"),
     ("the script's text", r"\bwal_script::|\btext_parts::|\bdecimal_numbers::"),
     ("assembling", r"record_spelling::(body::Body::assemble|assembly|blocks|refusing)"),
-    ("the insert", r"wal_log::inserting|\breserve_lock::|\binsert_locks::|word_ring::copying"
+    ("the insert", r"wal_log::(inserting|copying)|\breserve_lock::|\binsert_locks::|word_ring::copying"
      r"|\bwal_page::|\brecord_spelling::"),
     ("pages mapped and written", r"wal_log::|page_writing::|word_ring::|flush_core::"),
     ("the listing's text", r"\bwaldump_text::|\bwal_types::|\bcommit_times::"),

@@ -6,7 +6,7 @@ use Rattle.found_log.specs.Found.{RefusesLog}
 use Rattle.found_log.specs.declared.fault.FindFault.TheVariants as finding
 use Rattle.wal_core.specs.Sound.{IsSetup}
 use Rattle.wal_core.specs.declared.setup.Setup.{Setup}
-use Rattle.wal_log.specs.Reopening.{HasFoundAndSettled, TellsReopenFault}
+use Rattle.wal_log.specs.Reopening.{TellsReopenFault}
 use Rattle.wal_log.specs.declared.opening.OpenFaultKind.{OpenFaultKind}
 use Rattle.wal_log.specs.declared.opening.OpenFaultKind.TheVariants as kinds
 use Rattle.wal_script.specs.Asked.{AskedLine}
@@ -48,19 +48,12 @@ module _ {D : Type 0} (tape : D → Option Tape) (moment faults : D → ℕ)
   prints_nothing : PrintsNothing unplayed
   prints_nothing = record { nothing_printed = refl; sink_faults_same = refl }
 
-  settled : HasFoundAndSettled (run_setup options.run passes) (tape disk) (tape now) (moment disk)
-      (moment now) → HasFoundAndSettled (run_setup options.run 0) (tape disk) (tape now)
-      (moment disk) (moment now)
-  settled h = record { log = h.log; found = h.found; settled = h.settled }
-
   pub unappended_holds : (kind : OpenFaultKind)
       → TellsReopenFault tape moment faults (run_setup options.run passes) disk now kind
       → AppendHolds unplayed options (outcome_unopened kind) []
   unappended_holds kinds.BadSetup tells = absurd (tells.0 can_be)
-  unappended_holds kinds.Memory (is_setup, same, inl uncalled) =
-      ((means.1).faults_same, same, inl (untouched uncalled))
-  unappended_holds kinds.Memory (is_setup, same, inr done) =
-      ((means.1).faults_same, same, inr ((script, means), prints_nothing, settled done))
+  unappended_holds kinds.Memory (is_setup, uncalled, same) =
+      ((means.1).faults_same, same, untouched uncalled)
   unappended_holds (kinds.Disk told) (is_setup, told_is, rose, inl uncalled) =
       ((script, means), rose, inl (untouched uncalled))
   unappended_holds (kinds.Disk told) (is_setup, told_is, rose, inr begun) =
@@ -80,7 +73,7 @@ pub unprepared_holds : (options : ScriptRunOptions) (outside : Outside) (outcome
     → IsUnprepared options.writer outside.source_before outside.source_after outcome
     → outside.disk_after ≡ outside.disk_before → IsUntouched outside
     → AppendHolds outside options outcome []
-unprepared_holds options outside OutOfMemory why same untouched = (why, same, inl untouched)
+unprepared_holds options outside OutOfMemory why same untouched = (why, same, untouched)
 unprepared_holds options outside SourceFault why same untouched = (why, same, untouched)
 unprepared_holds options outside (ScriptRefused refusal) why same untouched =
     (why, same, untouched)

@@ -32,7 +32,7 @@ use Rattle.generated_lines.specs.Generated.{generated_script}
 use Rattle.command_words.specs.declared.commands.RunOptions.{RunOptions}
 use Rattle.command_words.specs.declared.commands.ScriptRunOptions.{ScriptRunOptions}
 use Rattle.backend_cli.specs.Appending.{EndsUnappended, HoldsAppended, WasLeftSo}
-use Rattle.backend_cli.specs.Complete.{AppendsAreComplete, HasRoom, IsComplete, MadeRunsAreComplete, MeansThese, NoFault, NothingFailed, RunsAreComplete, rooms_found}
+use Rattle.backend_cli.specs.Complete.{AppendsAreComplete, LogHasRoom, IsComplete, MadeRunsAreComplete, MeansThese, NoFault, NothingFailed, RunsAreComplete, rooms_found}
 use Rattle.backend_cli.specs.Outside.{Outside, SourceView}
 use Rattle.backend_cli.specs.Reading.{ScriptMeans}
 use Rattle.backend_cli.specs.Run.{EndsUnopened, EndsUnplayed, HoldsBehind, HoldsOpened}
@@ -140,7 +140,7 @@ module _ (outside : Outside) (fine : NothingFailed outside) (t : Tape)
   unopened_complete writer script means other ends = absurd ends
 
   begun_complete : (options : RunOptions) (script : List (List AskedLine))
-      → HasRoom options [] script → (outcome : Outcome) (lists : List Told)
+      → LogHasRoom options [] script → (outcome : Outcome) (lists : List Told)
       (others : List (List Told)) → HoldsOpened outside options outcome script (lists ∷ others)
       → IsComplete (lists ∷ others) outcome
   begun_complete options script room outcome lists others holds =
@@ -159,7 +159,7 @@ runs_are_complete outside options outcome (lists ∷ others) holds fine script m
     let same : holds.0 ≡ script =
     same_lines holds.0 script (Ok holds.0) refl (means (Ok holds.0) holds.1) in
     begun_complete outside fine t told empty options.run holds.0
-    (subst (HasRoom options.run []) (sym same) room) outcome lists others holds.2
+    (subst (LogHasRoom options.run []) (sym same) room) outcome lists others holds.2
 
 pub made_runs_are_complete : MadeRunsAreComplete
 made_runs_are_complete outside options outcome [] holds fine room t told empty =
@@ -236,7 +236,7 @@ module _ (outside : Outside) (options : ScriptRunOptions) (fine : NothingFailed 
   unappended_complete other ends = absurd ends
 
   appended_complete : (asked : List (List AskedLine)) → asked ≡ script
-      → HasRoom options.run found script → (outcome : Outcome) (lists : List Told)
+      → LogHasRoom options.run found script → (outcome : Outcome) (lists : List Told)
       (others : List (List Told))
       → HoldsAppended outside options.run outcome asked (lists ∷ others)
       → IsComplete (lists ∷ others) outcome
@@ -248,7 +248,7 @@ module _ (outside : Outside) (options : ScriptRunOptions) (fine : NothingFailed 
       (fits_or_not (capacity_of size options.run.cap_segments) (rooms_found size found)
       (rooms_of size holds.headline.found) (all_rooms_asked size asked)
       (same_rooms holds.headline.found holds.headline.read)
-      (subst (HasRoom options.run found) (sym same) room)) outcome holds.behind
+      (subst (LogHasRoom options.run found) (sym same) room)) outcome holds.behind
 
 pub appends_are_complete : AppendsAreComplete
 appends_are_complete outside options outcome [] holds fine script means found room t told left =

@@ -18,7 +18,6 @@ use Rattle.written_log.specs.Written.{found_of}
 use Rattle.found_log.specs.Found.{HasBegunToSettle, RefusesLog}
 use Rattle.found_log.specs.declared.fault.FindFault.TheVariants as finding
 use Rattle.wal_rule.specs.Founded.{found_log_opening}
-use Rattle.wal_log.specs.Reopening.{HasFoundAndSettled}
 use Rattle.wal_script.specs.Asked.{AskedLine}
 use Rattle.told_lines.specs.declared.told.Told.{Told}
 use Rattle.told_lines.specs.Crash.{IsFrontWithTold}
@@ -101,16 +100,11 @@ pub record PrintsNothing (outside : Outside) : Type 0 where
   pub sink_faults_same : outside.sink_after ≡ outside.sink_before
 
 -- how a run ends that did not open the log with which it was to go on, and why; it ends in no other
--- way. No counted call of the disk is made, but where the disk fails while the log is settled, or
--- where memory runs out behind that
+-- way. No counted call of the disk is made, but where the disk fails while the log is settled
 abbrev pub EndsUnappended : ScriptRunOptions → Outside → Outcome → Type 0
 EndsUnappended options outside OutOfMemory =
     (outside.source_after.faults ≡ outside.source_before.faults)
-    × (outside.disk_after ≡ outside.disk_before)
-    × (IsUntouched outside
-    ⊎ (MeansSome options.writer outside × PrintsNothing outside
-    × HasFoundAndSettled (run_setup options.run 0)
-    outside.tape_before outside.tape_after outside.moment_before outside.moment_after))
+    × (outside.disk_after ≡ outside.disk_before) × IsUntouched outside
 EndsUnappended options outside SourceFault =
     RoseByOne outside.source_before.faults outside.source_after.faults
     × (outside.disk_after ≡ outside.disk_before) × IsUntouched outside

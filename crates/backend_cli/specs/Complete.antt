@@ -47,8 +47,8 @@ abbrev pub rooms_found : ℕ → List FoundRecord → ℕ
 rooms_found size found = sum_by (λ f. room_at size (position_of size f.start.0) f.value) found
 
 -- the log has room for what was found and for all that a script asks for
-abbrev pub HasRoom : RunOptions → List FoundRecord → List (List AskedLine) → Type 0
-HasRoom options found script =
+abbrev pub LogHasRoom : RunOptions → List FoundRecord → List (List AskedLine) → Type 0
+LogHasRoom options found script =
     rooms_found options.geometry found + all_rooms_asked options.geometry script
     ≤ capacity_of options.geometry options.cap_segments
 
@@ -66,7 +66,7 @@ RunsAreComplete =
     (outside : Outside) (options : ScriptRunOptions) (outcome : Outcome) (lists : List (List Told))
     → RunHolds outside options outcome lists → NothingFailed outside
     → (script : List (List AskedLine)) → MeansThese options.writer script outside
-    → HasRoom options.run [] script
+    → LogHasRoom options.run [] script
     → (t : Tape) → outside.tape_before ≡ Some t → first_page t 1 ≡ None → IsComplete lists outcome
 
 -- .. and one of lines that are made
@@ -74,7 +74,7 @@ abbrev pub MadeRunsAreComplete : Type 0
 MadeRunsAreComplete =
     (outside : Outside) (options : GenOptions) (outcome : Outcome) (lists : List (List Told))
     → GenHolds outside options outcome lists → NothingFailed outside
-    → HasRoom options.run [] (generated_script options.lines)
+    → LogHasRoom options.run [] (generated_script options.lines)
     → (t : Tape) → outside.tape_before ≡ Some t → first_page t 1 ≡ None → IsComplete lists outcome
 
 -- .. and one that goes on with a log, where the disk told what this program left there; unless the
@@ -84,7 +84,7 @@ AppendsAreComplete =
     (outside : Outside) (options : ScriptRunOptions) (outcome : Outcome) (lists : List (List Told))
     → AppendHolds outside options outcome lists → NothingFailed outside
     → (script : List (List AskedLine)) → MeansThese options.writer script outside
-    → (found : List FoundRecord) → HasRoom options.run found script
+    → (found : List FoundRecord) → LogHasRoom options.run found script
     → (t : Tape) → outside.tape_before ≡ Some t
     → WasLeft options.run.geometry system_id t found
     → IsComplete lists outcome

@@ -24,9 +24,9 @@ use Rattle.told_lines.specs.Crash.{IsFrontWithTold}
 use Rattle.told_lines.specs.Told.{IsPlaced, RiseInLineOrder, entries_from}
 
 -- what each kind of line may be told: an insert, a commit or a commit that is answered ahead, where
--- its own record starts and ends (that of a commit is durable too), and so a segment switch, or that
--- the log ended at a segment's start already; a flush or a flush behind, up to where all is durable,
--- or the latter that all was so already; each, that it is refused
+-- its own record starts and ends (that of a commit is durable too), and so a segment switch, or
+-- that the log ended at a segment's start already; a flush or a flush behind, up to where all is
+-- durable, or the latter that all was so already; each, that it is refused
 abbrev pub NamesOwnPlace : ℕ → Asked → Told → Type 0
 NamesOwnPlace size (Insert value) (Wrote start end) = IsPlaced size value start.0 end.0
 NamesOwnPlace size (Commit value) (Hard start end moment) = IsPlaced size value start.0 end.0

@@ -18,7 +18,7 @@ use Rattle.backend_cli.specs.Replaying.{ReplayHolds}
 
 -- want of memory before the command is known: no counted call of the disk is made, nothing is read
 -- or printed, and nothing told
-pub record IsCutShort (outside : Outside) (outcome : Outcome) (lists : List (List Told))
+pub record EndsUnread (outside : Outside) (outcome : Outcome) (lists : List (List Told))
     : Type 0 where
   pub memory : outcome ≡ OutOfMemory
   pub untouched : IsUntouched outside
@@ -71,7 +71,7 @@ Obeys seen (Command (Receive options)) outside outcome lists =
 abbrev pub ObeysInMemory : {D : Type 0} → DiskSeen D → Request → Outside → Outcome
     → List (List Told) → Type 0
 ObeysInMemory seen request outside outcome lists =
-    (IsCutShort outside outcome lists × (seen.after ≡ seen.before))
+    (EndsUnread outside outcome lists × (seen.after ≡ seen.before))
     ⊎ Obeys seen request outside outcome lists
 
 -- a run is asked for that begins a log, of a script or of lines that are made

@@ -62,8 +62,8 @@ outcome_put (Err fault) = SinkFault
 
 -- how it ends, by why no more frames were taken: it is told at the source's end and behind the last
 -- frame that is taken, and else nothing is printed
-abbrev pub EndsReceived : Option (List ℕ) → Option (List ℕ) → ℕ → ℕ → Received → ReceivingEnd → Outcome
-    → Type 0
+abbrev pub EndsReceived : Option (List ℕ) → Option (List ℕ) → ℕ → ℕ → Received → ReceivingEnd
+    → Outcome → Type 0
 EndsReceived old new before after received ends.Source outcome =
     (result : Result (Unit {0}) SinkFailed)
     × Puts old new before after (received_text received) result × (outcome ≡ outcome_put result)

@@ -77,8 +77,8 @@ EndsOpened outside told SinkFault =
     × Rose outside.sink_before outside.sink_after
 EndsOpened outside told others = ⊥
 
--- what a run told and made of its script's lines behind the opening of its log; `held` says what the
--- disk held before the call
+-- what a run told and made of its script's lines behind the opening of its log; `held` says what
+-- the disk held before the call
 pub record HoldsBehind (opening : Opening) (held : Type 0) (outside : Outside) (outcome : Outcome)
     (script : List (List AskedLine)) (lists : List (List Told)) : Type 0 where
   pub machine : IsMachineRun opening outside.tape_after outside.moment_after script lists

@@ -192,13 +192,12 @@ pub fn pgwal<R: Threads + Wait + Sync, S: Source, O: Sink, E: Sink, D: Disk + Se
         → AppendHeadline size (D.moment disk) lines result.told (D.tape disk)
         (D.tape result.disk) }
     // The status and its line on `err` are those of one outcome; for it the command's promises
-    // hold: of `run` told, the headline, no late receipt, whole, printed, and how it ends; so of one
-    // that goes on with a log, with how that was settled; of
-    // `replay` the machine behind its schedule, what the crash leaves, and the lines and the
-    // listing of it; of `dump` listed; of `redo` redone; of `send` sent; of
-    // `receive` the copy and what it took; of words that ask for help its text, and
-    // of others that are no command nothing. Or memory ran out before the command was known, with
-    // the disk as it came, and nothing read or printed.
+    // hold: of `run` told, the headline, no late receipt, whole, printed, and how it ends; so of
+    // one that goes on with a log, with how that was settled; of `replay` the machine behind its
+    // schedule, what the crash leaves, and the lines and the listing of it; of `dump` listed; of
+    // `redo` redone; of `send` sent; of `receive` the copy and what it took; of words that ask for
+    // help its text, and of others that are no command nothing. Or memory ran out before the
+    // command was known, with the disk as it came, and nothing read or printed.
     ensures obeys { (outcome : Outcome) × (result.status ≡ status_of outcome)
         × Took (E.taken err.old) (E.taken err.new) (E.faults err.old) (E.faults err.new)
         (joined (outcome_text outcome))

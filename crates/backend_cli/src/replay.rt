@@ -50,8 +50,9 @@ fn read_replay<S: Source>(alloc: Global, source: &mut S) -> Result<Replay, Outco
     Ok(parse_replay(alloc, &script)?)
 }
 
-// What a line asks of the machine. The last three kinds do not come: `parse_replay` refuses a script
-// with such a line, since a replay has no commits answered ahead, flushes behind or segment switches.
+// What a line asks of the machine. The last three kinds do not come: `parse_replay` refuses a
+// script with such a line, since a replay has no commits answered ahead, flushes behind or segment
+// switches.
 fn machine_line(line: Line) -> PlainLine
     ensures { result ≡ machine_line_of line.action }
 {

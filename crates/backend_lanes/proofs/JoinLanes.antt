@@ -30,7 +30,8 @@ use Rattle.backend_lanes.specs.Lanes.{IsIdle, MayBeTakenIn, PlayedLanes, view_of
 use Rattle.backend_lanes.specs.Sessions.{IsReserved}
 use Rattle.backend_lanes.specs.declared.backend.AnsweredLines.{AnsweredLines}
 use Rattle.backend_lanes.specs.declared.lane.Lane.{Lane}
-use Rattle.backend_lanes.proofs.Answering.{has_valid_size, reserved_max, reserved_since}
+use Rattle.backend_lanes.proofs.Answering.{has_valid_size}
+use Rattle.backend_lanes.proofs.EndsKept.{reserved_max, reserved_since}
 use Rattle.backend_lanes.proofs.PlayingLines.{ends_further}
 
 -- ---- an address further on reaches what one before it does

@@ -1,5 +1,10 @@
+pub mod ActionsAsked
 pub mod Answering
 pub mod BeginLanes
+pub mod EndsKept
+pub mod FlushLines
 pub mod JoinLanes
+pub mod LinePasses
 pub mod PlayingLines
 pub mod PlayingOut
+pub mod SwitchLines

@@ -33,7 +33,7 @@ use Rattle.wal_log.proofs.Lanes.{views_keep_each}
 use Rattle.backend_lanes.specs.Lanes.{BegunLanes, IsFreshLane, IsIdle, IsReadyLane, MayBeTakenIn, PlayedLanes, PlaysAsked, PlaysLane, view_of_lane}
 use Rattle.backend_lanes.specs.Sessions.{IsReserved}
 use Rattle.backend_lanes.specs.declared.lane.Lane.{Lane}
-use Rattle.backend_lanes.proofs.Answering.{never_unreserved}
+use Rattle.backend_lanes.proofs.FlushLines.{never_unreserved}
 use Rattle.backend_lanes.proofs.JoinLanes.{reaches_further}
 
 -- ---- lanes that may play

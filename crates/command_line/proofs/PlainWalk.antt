@@ -12,7 +12,7 @@ use Rattle.clap.specs.Walk.{Walk, at_row, bundle_met, has_row, idle, more_values
 use Rattle.clap.specs.declared.builder.value_parser.Reading.TheVariants as reading
 use Rattle.clap.specs.declared.parser.matches.ValueSource.TheVariants.{CommandLine}
 use Rattle.command_line.specs.Syntax.{declared_command}
-use Rattle.command_line.specs.Plain.{Letter, Switch, SwitchLetter, Valued, append_switch, begins_with_hyphen, block_letter, block_option, cap_option, crash_option, from_option, end_letter, end_option, fork_letter, fork_option, fullpage_letter, fullpage_switch, letter_of, lettered_option, lettered_switch, limit_letter, limit_option, list_switch, option_name, quiet_letter, quiet_switch, relation_letter, relation_option, ring_option, rmgr_letter, rmgr_option, seg_option, start_letter, start_option, stats_letter, stats_switch, switch_letter_of, switch_name, times_switch, writer_option, xid_letter, xid_option}
+use Rattle.command_line.specs.Plain.{Letter, Unvalued, SwitchLetter, Valued, append_switch, begins_with_hyphen, block_letter, block_option, cap_option, crash_option, from_option, end_letter, end_option, fork_letter, fork_option, fullpage_letter, fullpage_switch, letter_of, lettered_option, lettered_switch, limit_letter, limit_option, list_switch, option_name, quiet_letter, quiet_switch, relation_letter, relation_option, ring_option, rmgr_letter, rmgr_option, seg_option, start_letter, start_option, stats_letter, stats_switch, switch_letter_of, switch_name, times_switch, writer_option, xid_letter, xid_option}
 
 abbrev pub level : Shape
 level = (built declared_command).top
@@ -187,7 +187,7 @@ value_settles end_option value rows absent = record { rows_are = new_row (codes 
 value_settles limit_option value rows absent = record { rows_are = new_row (codes "limit") value rows absent; sound = rw absent refl }
 
 -- the word of an option without a value
-pub switch_passes : (position : ℕ) (o : Switch) (rows : List Row) (pending : Option (Text × List Text)) (into : List Row) → Settles rows pending into → has_row (switch_name o) into ≡ false → turn_fault level [] (between position rows pending) (45 ∷ 45 ∷ switch_name o) ≡ []
+pub switch_passes : (position : ℕ) (o : Unvalued) (rows : List Row) (pending : Option (Text × List Text)) (into : List Row) → Settles rows pending into → has_row (switch_name o) into ≡ false → turn_fault level [] (between position rows pending) (45 ∷ 45 ∷ switch_name o) ≡ []
 switch_passes position list_switch rows pending into h absent =
     let fresh : has_row (codes "list") (settled_rows rules pending rows) ≡ false = subst (λ (l : List Row). has_row (codes "list") l ≡ false) (sym h.rows_are) absent in
     rw (h.sound, fresh) refl
@@ -207,7 +207,7 @@ switch_passes position times_switch rows pending into h absent =
     let fresh : has_row (codes "times") (settled_rows rules pending rows) ≡ false = subst (λ (l : List Row). has_row (codes "times") l ≡ false) (sym h.rows_are) absent in
     rw (h.sound, fresh) refl
 
-pub switch_taken : (position : ℕ) (o : Switch) (rows : List Row) (pending : Option (Text × List Text)) (into : List Row) → Settles rows pending into → has_row (switch_name o) into ≡ false → walked rules [] (between position rows pending) (45 ∷ 45 ∷ switch_name o) ≡ between position (into ++ row_with (switch_name o) (codes "true") ∷ []) None
+pub switch_taken : (position : ℕ) (o : Unvalued) (rows : List Row) (pending : Option (Text × List Text)) (into : List Row) → Settles rows pending into → has_row (switch_name o) into ≡ false → walked rules [] (between position rows pending) (45 ∷ 45 ∷ switch_name o) ≡ between position (into ++ row_with (switch_name o) (codes "true") ∷ []) None
 unfolding walked
 switch_taken position list_switch rows pending into h absent =
     ap (λ (l : List Row). between position (with_values (codes "list") reading.AsWritten CommandLine (codes "true" ∷ []) (without (codes "list") l)) None) h.rows_are

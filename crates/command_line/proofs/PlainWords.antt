@@ -15,7 +15,7 @@ use Rattle.command_words.specs.declared.commands.Command.{Command as Task}
 use Rattle.command_line.specs.declared.asking.Request.TheVariants.{Command}
 use Rattle.command_line.specs.Asking.{asks, given_in, is_set, request_of}
 use Rattle.command_line.specs.Syntax.{declared_command}
-use Rattle.command_line.specs.Plain.{Switch, Use, Valued, append_switch, are_plain, are_plain_behind, begins_with_hyphen, block_letter, block_option, cap_option, crash_option, from_option, end_letter, end_option, fork_letter, fork_option, fullpage_letter, fullpage_switch, given_by, is_switched, letter_of, lettered, lettered_option, lettered_switch, limit_letter, limit_option, list_switch, name_words, option_name, pair_given, quiet_letter, quiet_switch, relation_letter, relation_option, ring_option, rmgr_letter, rmgr_option, seg_option, start_letter, start_option, stats_letter, stats_switch, switch_letter_of, switch_name, switched, switched_by_letter, times_switch, value_for, valued, words_of_uses, writer_option, xid_letter, xid_option}
+use Rattle.command_line.specs.Plain.{Unvalued, Use, Valued, append_switch, are_plain, are_plain_behind, begins_with_hyphen, block_letter, block_option, cap_option, crash_option, from_option, end_letter, end_option, fork_letter, fork_option, fullpage_letter, fullpage_switch, given_by, is_switched, letter_of, lettered, lettered_option, lettered_switch, limit_letter, limit_option, list_switch, name_words, option_name, pair_given, quiet_letter, quiet_switch, relation_letter, relation_option, ring_option, rmgr_letter, rmgr_option, seg_option, start_letter, start_option, stats_letter, stats_switch, switch_letter_of, switch_name, switched, switched_by_letter, times_switch, value_for, valued, words_of_uses, writer_option, xid_letter, xid_option}
 use Rattle.command_line.proofs.PlainWalk.{IsPlainWord, Settles, absent_row, between, is_plain_word, letter_opened, letter_opens, level, opened, opens, row_with, rules, switch_letter_passes, switch_letter_taken, switch_passes, switch_taken, value_passes, value_settles, value_taken}
 use Rattle.command_line.proofs.Requests.{asks-taken, none_entered}
 use Rattle.clap.specs.declared.parser.matches.ValueSource.TheVariants.{DefaultValue}
@@ -69,7 +69,7 @@ no_option_row start_option command topic pairs absent = no_row_behind (codes "st
 no_option_row end_option command topic pairs absent = no_row_behind (codes "end") command topic pairs refl refl absent
 no_option_row limit_option command topic pairs absent = no_row_behind (codes "limit") command topic pairs refl refl absent
 
-no_switch_row : (o : Switch) (command : Text) (topic : Option Text) (pairs : List (Text × Text)) → is_some (value_for (switch_name o) pairs) ≡ false → has_row (switch_name o) (rows_behind command topic pairs) ≡ false
+no_switch_row : (o : Unvalued) (command : Text) (topic : Option Text) (pairs : List (Text × Text)) → is_some (value_for (switch_name o) pairs) ≡ false → has_row (switch_name o) (rows_behind command topic pairs) ≡ false
 no_switch_row list_switch command topic pairs absent = no_row_behind (codes "list") command topic pairs refl refl absent
 no_switch_row append_switch command topic pairs absent = no_row_behind (codes "append") command topic pairs refl refl absent
 no_switch_row fullpage_switch command topic pairs absent = no_row_behind (codes "fullpage") command topic pairs refl refl absent

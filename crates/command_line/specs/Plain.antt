@@ -25,13 +25,13 @@ pub data Valued : Type 0 where
   limit_option : Valued
 
 -- those without one
-pub data Switch : Type 0 where
-  list_switch : Switch
-  append_switch : Switch
-  fullpage_switch : Switch
-  quiet_switch : Switch
-  stats_switch : Switch
-  times_switch : Switch
+pub data Unvalued : Type 0 where
+  list_switch : Unvalued
+  append_switch : Unvalued
+  fullpage_switch : Unvalued
+  quiet_switch : Unvalued
+  stats_switch : Unvalued
+  times_switch : Unvalued
 
 -- its name
 abbrev pub option_name : Valued → Text
@@ -51,7 +51,7 @@ option_name end_option = codes "end"
 option_name limit_option = codes "limit"
 
 -- its name
-abbrev pub switch_name : Switch → Text
+abbrev pub switch_name : Unvalued → Text
 switch_name list_switch = codes "list"
 switch_name append_switch = codes "append"
 switch_name fullpage_switch = codes "fullpage"
@@ -105,7 +105,7 @@ switch_letter_of quiet_letter = 113
 switch_letter_of stats_letter = 122
 
 -- and its option
-abbrev pub lettered_switch : SwitchLetter → Switch
+abbrev pub lettered_switch : SwitchLetter → Unvalued
 lettered_switch fullpage_letter = fullpage_switch
 lettered_switch quiet_letter = quiet_switch
 lettered_switch stats_letter = stats_switch
@@ -114,7 +114,7 @@ lettered_switch stats_letter = stats_switch
 pub data Use : Type 0 where
   valued : Valued → Text → Use
   lettered : Letter → Text → Use
-  switched : Switch → Use
+  switched : Unvalued → Use
   switched_by_letter : SwitchLetter → Use
 
 -- its words: 45 is the hyphen

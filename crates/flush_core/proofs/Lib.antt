@@ -9,9 +9,13 @@ pub mod GrowingTapes
 pub mod LawfulLaws
 pub mod SettleCalls
 pub mod SettleReads
+pub mod PlanLists
+pub mod PlanReads
 pub mod Clearing
 pub mod SettleGroups
 pub mod SettledPages
 pub mod SettledLeft
 pub mod SettledTapes
+pub mod SettleEnds
 pub mod SettledLogs
+pub mod PlanLaws

@@ -36,9 +36,6 @@ both_said (Some t) (Some u) f g h xs ys first second grown agree = ap (λ (l : L
 
 -- ---- made
 
-pub makes_none : (tape other : Option Tape) (moment other_moment : ℕ) (said : DiskState → List Call) → IsNotMade tape other moment other_moment → IfSome tape (λ t. [] ≡ said (state_now t)) → MakesCalls tape other moment other_moment said
-makes_none tape other moment other_moment said same are = record { calls = []; made = record { tape = same.same_tape; moment = omega (arith, same.same_moment) }; are = are }
-
 fixed_said : (old : Option Tape) (calls : List Call) → IfSome old (λ t. calls ≡ calls)
 fixed_said None calls = tt
 fixed_said (Some t) calls = refl
@@ -103,15 +100,6 @@ module _ (old new : Option Tape) (m0 m1 : ℕ) (f h : DiskState → List Call) w
     are = longer_said stops.front stops.others stops.are;
   }
 
-  -- all of these were made, and more would have come
-  pub stops_behind : MakesCalls old new m0 m1 f → StopsCalls old new m0 m1 (λ s. f s ++ h s)
-  stops_behind makes = stops_longer (record {
-    front = makes.calls;
-    others = [];
-    ends = inl makes.made;
-    are = subst (λ (l : List Call). IfSome old (λ t. l ≡ f (state_now t))) (sym (append-nil makes.calls)) makes.are;
-  })
-
 pub stops_one : (old new : Option Tape) (m0 m1 : ℕ) (call : Call) → Fails old new m0 m1 call → StopsCalls old new m0 m1 (λ _. call ∷ [])
 stops_one old new m0 m1 call fails =
     let moment : m0 ≡ m0 + 0 = omega arith in
@@ -162,16 +150,16 @@ range_around a n i within =
     let count : n ≡ i + suc (n - i - 1) = omega arith in
     ap (range_with_len a) count ∙ range_split a i (suc (n - i - 1))
 
-flat_around : (F : ℕ → List Call) (ys zs : List ℕ) (x : ℕ) → flat_map F (ys ++ x ∷ zs) ≡ (flat_map F ys ++ F x) ++ flat_map F zs
+flat_around : {A : Type 0} (F : A → List Call) (ys zs : List A) (x : A) → flat_map F (ys ++ x ∷ zs) ≡ (flat_map F ys ++ F x) ++ flat_map F zs
 flat_around F ys zs x = flat_map-append F ys (x ∷ zs) ∙ sym (append_assoc (flat_map F ys) (F x) (flat_map F zs))
 
-module _ (old mid new : Option Tape) (m0 m1 m2 : ℕ) (F : ℕ → DiskState → List Call) (ys : List ℕ) (x : ℕ) where
+module _ {A : Type 0} (old mid new : Option Tape) (m0 m1 m2 : ℕ) (F : A → DiskState → List Call) (ys : List A) (x : A) where
   pub makes_more : MakesCalls old mid m0 m1 (λ s. flat_map (λ j. F j s) ys) → MakesCalls mid new m1 m2 (F x) → Agree old mid (F x) (F x) → MakesCalls old new m0 m2 (λ s. flat_map (λ j. F j s) (ys ++ x ∷ []))
   makes_more first second agree =
       makes_as old new m0 m2 (λ s. flat_map (λ j. F j s) ys ++ F x s) (λ s. flat_map (λ j. F j s) (ys ++ x ∷ [])) (λ s. sym (flat_around (λ j. F j s) ys [] x ∙ append-nil (flat_map (λ j. F j s) ys ++ F x s)))
       (then_makes old mid new m0 m1 m2 (λ s. flat_map (λ j. F j s) ys) (F x) (F x) first second agree)
 
-  pub stops_among : (zs : List ℕ) → MakesCalls old mid m0 m1 (λ s. flat_map (λ j. F j s) ys) → StopsCalls mid new m1 m2 (F x) → Agree old mid (F x) (F x) → StopsCalls old new m0 m2 (λ s. flat_map (λ j. F j s) (ys ++ x ∷ zs))
+  pub stops_among : (zs : List A) → MakesCalls old mid m0 m1 (λ s. flat_map (λ j. F j s) ys) → StopsCalls mid new m1 m2 (F x) → Agree old mid (F x) (F x) → StopsCalls old new m0 m2 (λ s. flat_map (λ j. F j s) (ys ++ x ∷ zs))
   stops_among zs first second agree =
       stops_as old new m0 m2 (λ s. (flat_map (λ j. F j s) ys ++ F x s) ++ flat_map (λ j. F j s) zs) (λ s. flat_map (λ j. F j s) (ys ++ x ∷ zs)) (λ s. sym (flat_around (λ j. F j s) ys zs x))
       (stops_longer old new m0 m2 (λ s. flat_map (λ j. F j s) ys ++ F x s) (λ s. flat_map (λ j. F j s) zs)

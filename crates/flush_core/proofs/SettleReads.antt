@@ -59,7 +59,7 @@ syncs_spare size segment page [] = tt
 syncs_spare size segment page (x ∷ xs) = (tt, syncs_spare size segment page xs)
 
 module _ (size at segment page : ℕ) where
-  clear_spares : (number from : ℕ) (here : Option (List ℕ)) → ((segment ≡ at) → (number ≡ page) → ⊥) → AllSpare segment page (clear_calls size at number from here)
+  pub clear_spares : (number from : ℕ) (here : Option (List ℕ)) → ((segment ≡ at) → (number ≡ page) → ⊥) → AllSpare segment page (clear_calls size at number from here)
   clear_spares number from None other = tt
   clear_spares number from (Some bytes) other = elim (cases_Bool (list_any (λ b. not (b == 0)) (drop from bytes))) [
     | inl some ↦ rw some (other, tt)

@@ -5,4 +5,6 @@ pub mod Writer
 pub mod Puts
 pub mod Lawful
 pub mod Settled
+pub mod PlannedPages
+pub mod Planned
 pub mod SettledLog

@@ -1,11 +1,14 @@
 //! Laws of the definitions, each proved by a function that does nothing: what a caller of `Writer`
 //! may say of crashes without knowing its calls.
 
-ghost use Rattle.std.specs.Prelude.{ℕ, ◌<◌, ◌++◌, false, List, length};
+ghost use Rattle.std.specs.Prelude.{◌≡◌, ℕ, ◌+◌, ◌<◌, ◌++◌, false, List, length, Option, IfSome};
 ghost use Rattle.segment_disk.specs.declared.disk.Call.{Call};
 ghost use Rattle.segment_disk.specs.Tape.{DiskState, Tape};
 ghost use Rattle.segment_disk.specs.DiskImage.{DiskImage, LeftAt, MayLeave};
 ghost use Rattle.flush_core.specs.SettledLog.{SettledLogsAreWhole, SettlingKeepsLawful, SyncedLogsAreLawful};
+ghost use Rattle.flush_core.specs.declared.planning.SettlePlan.{SettlePlan};
+ghost use Rattle.flush_core.specs.Planned.{IsPlanOf, call_count, settled_tape};
+ghost use Rattle.flush_core.specs.Settled.{HasSettled};
 ghost use Rattle.flush_core.specs.Pages.{ArePutUpto, HoldsPages, HoldsPut, PutPages};
 
 /// A law: where nothing waits for a sync, every image that a crash leaves holds just the pages that
@@ -31,4 +34,16 @@ pub fn settled_logs_are_found_again()
     ensures whole { SettledLogsAreWhole }
     ensures lawful { SettlingKeepsLawful }
     ensures synced { SyncedLogsAreLawful }
+{}
+
+/// A law: what settling leaves on the tape is known before its first call, and so is how many calls
+/// it makes, by its plan.
+pub fn settled_tapes_are_planned()
+    ensures tape { (size end count : ℕ) (old new : Option Tape) (old_moment new_moment : ℕ)
+        → HasSettled size end count old new old_moment new_moment
+        → new ≡ settled_tape size end count old }
+    ensures counted { (size end count : ℕ) (old : Option Tape) (plan : SettlePlan) (moment : ℕ)
+        → IsPlanOf size end count old plan → IfSome old (λ t. moment ≡ length t.calls)
+        → IfSome (settled_tape size end count old)
+        (λ t. moment + call_count plan ≡ length t.calls) }
 {}

@@ -5,13 +5,15 @@
 #![tactic(auto)]
 
 mod laws;
+mod planning;
 mod settling;
 mod store;
 mod writer;
 
 pub use laws::{
-    later_calls_change_no_earlier_image, settled_logs_are_found_again,
+    later_calls_change_no_earlier_image, settled_logs_are_found_again, settled_tapes_are_planned,
     synced_images_hold_what_was_put,
 };
-pub use settling::{SettleFault, count_segments, settle, sync_first};
+pub use planning::{SettlePlan, count_segments};
+pub use settling::{SettleFault, settle, sync_first};
 pub use writer::{DiskFault, Writer};

@@ -3,13 +3,14 @@
 // system's memory, and not be on the disk yet: so each segment that is there is synced first, and
 // only behind that is anything cleared. Whatever stands at or above the end becomes zeros: else a
 // later crash could mix it with words of the log that goes on.
-ghost use Rattle.std.specs.Prelude.{◌≡◌, ℕ, ◌+◌, ◌-◌, ◌*◌, ◌/◌, ◌^◌, ◌<◌, ◌≤◌, ◌++◌, ◌==◌, All, List, [], not, length, take, drop, min, replicate, IfOk, IfErr, IfSome, OnErr, OnOk, MatchResult, vec_capacity};
-ghost use Rattle.std.specs.List.{list_any, flat_map, range_with_len};
-ghost use Rattle.byte_position.specs.Geometry.{IsSegmentSize, pages_of};
-ghost use Rattle.segment_disk.specs.Cause.{HasCause, Rose};
-ghost use Rattle.segment_disk.specs.Tape.{IsUncalled, page_of_segment, state_now};
-ghost use Rattle.flush_core.specs.Settled.{AreAllThere, HasNotSettled, HasSettled, MakesCalls, StopsCalls, TellsSettleFault, clear_calls, clear_from, cleared, first_to_clear, has_calls, kept_of, page_clears, segment_clears, segments_cleared, settle_calls, sync_calls};
+ghost use Rattle.std.specs.Prelude.{◌≡◌, ℕ, ◌+◌, ◌/◌, ◌^◌, ◌<◌, ◌≤◌, All, IfOk, IfErr, IfSome, OnErr, OnOk, length, true};
+ghost use Rattle.std.specs.List.{flat_map, range_with_len};
+ghost use Rattle.segment_disk.specs.Cause.{HasCause};
+ghost use Rattle.segment_disk.specs.Tape.{state_now};
+ghost use Rattle.flush_core.specs.PlannedPages.{ArePlanned, AreToClear, IsPageOf, is_to_clear, planned_clears};
+ghost use Rattle.flush_core.specs.Settled.{HasNotSettled, HasSettled, MakesCalls, StopsCalls, TellsSettleFault, cleared, settle_calls, sync_calls};
 
+use crate::planning::{PlannedPage, SettlePlan, count_segments};
 use byte_position::{Geometry, PAGE_SIZE};
 use segment_disk::{Disk, Failed};
 use std::alloc::Global;
@@ -18,13 +19,11 @@ use wal_types::Lsn;
 /// Why a log could not be settled.
 #[derive(Clone, Copy, Debug, PartialEq, Eq)]
 pub enum SettleFault {
-    /// There was no memory for the numbers of the segments.
+    /// There was no memory for what is planned.
     Memory,
     /// The disk failed: its count of faults then.
     Disk { faults: u64 },
 }
-
-const ADDRESS_LIMIT: u64 = 1 << 60;
 
 /// Settles a log that was found to end at an address: syncs each segment that is there, from 1 up
 /// to the first that is not; zeroes each word at or above the end in the pages of these; and syncs
@@ -58,10 +57,8 @@ pub fn settle<D: Disk>(
             });
         }
     };
-    let Ok(mut waiting) = Vec::with_capacity(alloc, count as usize) else {
-        return Err(SettleFault::Memory);
-    };
-    match settle_segments(disk, geometry, count, end, page, &mut waiting) {
+    let plan = SettlePlan::of(alloc, disk, geometry, end, count, page)?;
+    match plan.settle(disk, page) {
         Ok(()) => Ok(count),
         Err(_) => Err(SettleFault::Disk {
             faults: disk.faults(),
@@ -69,50 +66,32 @@ pub fn settle<D: Disk>(
     }
 }
 
-/// How many segments are there, from 1 up to the first that is not. `page` is room for a page.
-pub fn count_segments<D: Disk>(
-    disk: &mut D,
-    geometry: Geometry,
-    page: &mut [u8; 8192],
-) -> Result<u64, Failed>
-    ensures there { IfOk result (λ count. IfSome (D.tape disk.old)
-        (λ t. AreAllThere geometry (state_now t) count)) }
-    ensures bound { IfOk result (λ count. (count < 2 ^ 64 / geometry) × (count < 2 ^ 60)) }
-    ensures valid { IsSegmentSize geometry }
-    ensures uncalled { IsUncalled D.tape D.moment disk.old disk.new }
-    ensures cause { HasCause (D.faults disk.old) (D.faults disk.new) result }
-{
-    let limit = ADDRESS_LIMIT / geometry.segment_size();
-    for segment in 1..limit {
-        if !disk.read_page(geometry, segment, 0, page)? {
-            return Ok(segment - 1);
-        }
-    }
-    Ok(limit - 1)
-}
-
-// Syncs the segments that are there, clears them behind the end, and syncs those cleared, whose
-// numbers are put into `waiting`.
-fn settle_segments<D: Disk>(
+/// Makes the calls that were planned: syncs the segments that are there, clears pages behind the
+/// end, and syncs the segments of these.
+pub(crate) fn settle_planned<D: Disk>(
     disk: &mut D,
     geometry: Geometry,
     count: u64,
-    end: Lsn,
-    page: &mut [u8; 8192],
-    waiting: &mut Vec<u64>,
+    pages: &[PlannedPage],
+    segments: &[u64],
+    bytes: &mut [u8; 8192],
 ) -> Result<(), Failed>
     requires count { count < 2 ^ 64 / geometry }
-    requires none { waiting.old.items ≡ [] }
-    requires room { count ≤ vec_capacity waiting.old }
-    ensures ok { OnOk result (MakesCalls (D.tape disk.old) (D.tape disk.new)
-        (D.moment disk.old) (D.moment disk.new) (settle_calls geometry end.0 count)) }
-    ensures err { OnErr result (StopsCalls (D.tape disk.old) (D.tape disk.new)
-        (D.moment disk.old) (D.moment disk.new) (settle_calls geometry end.0 count)) }
+    requires pages { All (IsPageOf geometry) pages.now }
+    requires segments { All (λ segment. segment < 2 ^ 64 / geometry) segments.now }
+    ensures ok { (end : ℕ) → ArePlanned geometry end count (D.tape disk.old) pages.now segments.now
+        → OnOk result (MakesCalls (D.tape disk.old) (D.tape disk.new)
+        (D.moment disk.old) (D.moment disk.new) (settle_calls geometry end count)) }
+    ensures err { (end : ℕ) → ArePlanned geometry end count (D.tape disk.old) pages.now segments.now
+        → OnErr result (StopsCalls (D.tape disk.old) (D.tape disk.new)
+        (D.moment disk.old) (D.moment disk.new) (settle_calls geometry end count)) }
+    ensures counted { OnOk result (D.moment disk.new
+        ≡ D.moment disk.old + count + length pages.now + length segments.now) }
     ensures cause { HasCause (D.faults disk.old) (D.faults disk.new) result }
 {
     sync_first(disk, geometry, count)?;
-    clear_segments(disk, geometry, count, end, page, waiting)?;
-    sync_listed(disk, geometry, waiting)
+    clear_pages(disk, geometry, pages, bytes)?;
+    sync_listed(disk, geometry, segments)
 }
 
 /// Syncs the segments from 1 to `count`, one behind another.
@@ -124,6 +103,7 @@ pub fn sync_first<D: Disk>(disk: &mut D, geometry: Geometry, count: u64) -> Resu
     ensures err { OnErr result (StopsCalls (D.tape disk.old) (D.tape disk.new)
         (D.moment disk.old) (D.moment disk.new)
         (λ _. sync_calls geometry (range_with_len 1 count))) }
+    ensures counted { OnOk result (D.moment disk.new ≡ D.moment disk.old + count) }
     ensures cause { HasCause (D.faults disk.old) (D.faults disk.new) result }
 {
     for before in 0..count {
@@ -139,6 +119,7 @@ fn sync_listed<D: Disk>(disk: &mut D, geometry: Geometry, segments: &[u64]) -> R
         (D.moment disk.old) (D.moment disk.new) (λ _. sync_calls geometry segments.now)) }
     ensures err { OnErr result (StopsCalls (D.tape disk.old) (D.tape disk.new)
         (D.moment disk.old) (D.moment disk.new) (λ _. sync_calls geometry segments.now)) }
+    ensures counted { OnOk result (D.moment disk.new ≡ D.moment disk.old + length segments.now) }
     ensures cause { HasCause (D.faults disk.old) (D.faults disk.new) result }
 {
     for &segment in segments {
@@ -147,124 +128,59 @@ fn sync_listed<D: Disk>(disk: &mut D, geometry: Geometry, segments: &[u64]) -> R
     Ok(())
 }
 
-// Clears the segments from 1 to `count` behind the end, and puts the numbers of those that it wrote
-// to into `waiting`.
-fn clear_segments<D: Disk>(
+// Clears these pages, one behind another.
+fn clear_pages<D: Disk>(
     disk: &mut D,
     geometry: Geometry,
-    count: u64,
-    end: Lsn,
-    page: &mut [u8; 8192],
-    waiting: &mut Vec<u64>,
+    pages: &[PlannedPage],
+    bytes: &mut [u8; 8192],
 ) -> Result<(), Failed>
-    requires count { count < 2 ^ 64 / geometry }
-    requires none { waiting.old.items ≡ [] }
-    requires room { count ≤ vec_capacity waiting.old }
-    ensures ok { OnOk result (MakesCalls (D.tape disk.old) (D.tape disk.new)
+    requires { All (IsPageOf geometry) pages.now }
+    // Where each of them is to be cleared, and none stands twice in the list.
+    ensures ok { IfSome (D.tape disk.old) (λ t. AreToClear geometry (state_now t) pages.now)
+        → OnOk result (MakesCalls (D.tape disk.old) (D.tape disk.new)
         (D.moment disk.old) (D.moment disk.new)
-        (λ state. flat_map (segment_clears geometry end.0 state) (range_with_len 1 count))) }
-    ensures waiting { OnOk result (IfSome (D.tape disk.old) (λ t.
-        waiting.new.items ≡ segments_cleared geometry end.0 (state_now t) count)) }
-    ensures bound { All (λ segment. segment < 2 ^ 64 / geometry) waiting.new.items }
-    ensures err { OnErr result (StopsCalls (D.tape disk.old) (D.tape disk.new)
+        (λ state. flat_map (planned_clears geometry state) pages.now)) }
+    ensures err { IfSome (D.tape disk.old) (λ t. AreToClear geometry (state_now t) pages.now)
+        → OnErr result (StopsCalls (D.tape disk.old) (D.tape disk.new)
         (D.moment disk.old) (D.moment disk.new)
-        (λ state. flat_map (segment_clears geometry end.0 state) (range_with_len 1 count))) }
+        (λ state. flat_map (planned_clears geometry state) pages.now)) }
+    ensures counted { OnOk result (D.moment disk.new ≡ D.moment disk.old + length pages.now) }
     ensures cause { HasCause (D.faults disk.old) (D.faults disk.new) result }
 {
-    for before in 0..count {
-        let segment = before + 1;
-        if clear_segment(disk, geometry, segment, end, page)? {
-            waiting.push_reserved(segment);
-        }
+    for &page in pages {
+        clear_page(disk, geometry, page, bytes)?;
     }
     Ok(())
 }
 
-// How many bytes of a segment lie below an address.
-fn bytes_below(geometry: Geometry, segment: u64, end: Lsn) -> u64
-    requires { segment < 2 ^ 64 / geometry }
-    ensures { result ≡ kept_of geometry end.0 segment }
-{
-    end.0.saturating_sub(segment * geometry.segment_size())
-}
-
-// Clears a segment behind the end, and answers whether it wrote.
-fn clear_segment<D: Disk>(
-    disk: &mut D,
-    geometry: Geometry,
-    segment: u64,
-    end: Lsn,
-    page: &mut [u8; 8192],
-) -> Result<bool, Failed>
-    requires { segment < 2 ^ 64 / geometry }
-    ensures ok { OnOk result (MakesCalls (D.tape disk.old) (D.tape disk.new)
-        (D.moment disk.old) (D.moment disk.new)
-        (λ state. segment_clears geometry end.0 state segment)) }
-    ensures wrote { IfOk result (λ wrote. IfSome (D.tape disk.old) (λ t.
-        wrote ≡ has_calls (segment_clears geometry end.0 (state_now t) segment))) }
-    ensures err { OnErr result (StopsCalls (D.tape disk.old) (D.tape disk.new)
-        (D.moment disk.old) (D.moment disk.new)
-        (λ state. segment_clears geometry end.0 state segment)) }
-    ensures cause { HasCause (D.faults disk.old) (D.faults disk.new) result }
-{
-    let kept = bytes_below(geometry, segment, end);
-    let pages = u64::from(geometry.pages());
-    let first = (kept / PAGE_SIZE).min(pages);
-    let mut wrote = false;
-    for number in first..pages {
-        let from = (kept.saturating_sub(number * PAGE_SIZE) as usize).next_multiple_of(8);
-        wrote |= clear_page(disk, geometry, segment, number as u32, from, page)?;
-    }
-    Ok(wrote)
-}
-
-// Clears a page from a byte on, where one is not 0 there, and answers whether it wrote.
+// Clears a page: reads it, and writes it with zeros from its byte on, whether or not it is there.
 fn clear_page<D: Disk>(
     disk: &mut D,
     geometry: Geometry,
-    segment: u64,
-    page: u32,
-    from: usize,
+    page: PlannedPage,
     bytes: &mut [u8; 8192],
-) -> Result<bool, Failed>
-    requires segment { segment < 2 ^ 64 / geometry }
-    requires page { page < pages_of geometry }
-    requires from { from ≤ 8192 }
-    ensures ok { OnOk result (MakesCalls (D.tape disk.old) (D.tape disk.new)
-        (D.moment disk.old) (D.moment disk.new)
-        (λ state. clear_calls geometry segment page from (page_of_segment (state segment) page))) }
-    ensures wrote { IfOk result (λ wrote. IfSome (D.tape disk.old) (λ t.
-        wrote ≡ has_calls (clear_calls geometry segment page from
-        (page_of_segment (state_now t segment) page)))) }
-    ensures err { OnErr result (StopsCalls (D.tape disk.old) (D.tape disk.new)
-        (D.moment disk.old) (D.moment disk.new)
-        (λ state. clear_calls geometry segment page from (page_of_segment (state segment) page))) }
+) -> Result<(), Failed>
+    requires { IsPageOf geometry page }
+    // Where it is to be cleared.
+    ensures ok { IfSome (D.tape disk.old) (λ t. is_to_clear geometry (state_now t) page ≡ true)
+        → OnOk result (MakesCalls (D.tape disk.old) (D.tape disk.new)
+        (D.moment disk.old) (D.moment disk.new) (λ state. planned_clears geometry state page)) }
+    ensures err { IfSome (D.tape disk.old) (λ t. is_to_clear geometry (state_now t) page ≡ true)
+        → OnErr result (StopsCalls (D.tape disk.old) (D.tape disk.new)
+        (D.moment disk.old) (D.moment disk.new) (λ state. planned_clears geometry state page)) }
+    ensures counted { OnOk result (D.moment disk.new ≡ D.moment disk.old + 1) }
     ensures cause { HasCause (D.faults disk.old) (D.faults disk.new) result }
 {
-    if !disk.read_page(geometry, segment, page, bytes)? {
-        return Ok(false);
-    }
-    if !clear_bytes(bytes, from) {
-        return Ok(false);
-    }
-    disk.write_page(geometry, segment, page, bytes)?;
-    Ok(true)
+    disk.read_page(geometry, page.segment, page.page, bytes)?;
+    clear_bytes(bytes, page.from);
+    disk.write_page(geometry, page.segment, page.page, bytes)
 }
 
-// Zeroes a page's bytes from one on, and answers whether one was not 0.
-fn clear_bytes(bytes: &mut [u8; 8192], from: usize) -> bool
+// Zeroes a page's bytes from one on.
+fn clear_bytes(bytes: &mut [u8; 8192], from: usize)
     requires { from ≤ 8192 }
-    ensures found { result ≡ list_any (λ b. not (b == 0)) (drop from bytes.old) }
-    ensures cleared { bytes.new ≡ cleared from bytes.old }
+    ensures { bytes.new ≡ cleared from bytes.old }
 {
-    let behind = &mut bytes[from..];
-    let found = has_nonzero(behind);
-    behind.fill(0);
-    found
-}
-
-fn has_nonzero(bytes: &[u8]) -> bool
-    ensures { result ≡ list_any (λ b. not (b == 0)) bytes.now }
-{
-    bytes.iter().any(|&byte| byte != 0)
+    bytes[from..].fill(0);
 }

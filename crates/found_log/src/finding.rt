@@ -12,7 +12,7 @@ use crate::fault::FindFault;
 use crate::reading::spell_records;
 use crate::spelling::SpelledEnd;
 use byte_position::Geometry;
-use flush_core::{SettleFault, count_segments, settle};
+use flush_core::{SettleFault, SettlePlan, count_segments};
 use segment_disk::Disk;
 use std::alloc::Global;
 use wal_page::PageErr;
@@ -30,34 +30,39 @@ pub struct FoundLog {
 
 impl FoundLog {
     ghost use Rattle.segment_disk.specs.Tape.{state_now};
-    ghost use Rattle.flush_core.specs.Settled.{AreAllThere, HasNotSettled, TellsSettleFault};
+    ghost use Rattle.flush_core.specs.Settled.{AreAllThere, TellsSettleFault};
+    ghost use Rattle.flush_core.specs.Planned.{IsPlanOf};
 
-    /// Settles the log on the disk on which it was found: makes durable what was read, and zeroes
-    /// what a crash left behind the end. Want of memory comes before the first counted call of the
-    /// disk; the first that fails ends it.
-    pub fn settle<D: Disk>(
+    /// Plans what settles the log on the disk on which it was found: makes durable what was read,
+    /// and zeroes what a crash left behind the end. The disk is only read, and all memory that
+    /// settling needs is taken here.
+    pub fn plan<D: Disk>(
         &self,
         alloc: Global,
         disk: &mut D,
         geometry: Geometry,
-    ) -> Result<(), SettleFault>
+    ) -> Result<SettlePlan, SettleFault>
         // As many segments are there as were found.
         requires there { IfSome (D.tape disk.old)
             (λ t. AreAllThere geometry (state_now t) self.now.made) }
-        ensures settled { OnOk result (HasSettled geometry self.now.spelled.end.0 self.now.made
-            (D.tape disk.old) (D.tape disk.new) (D.moment disk.old) (D.moment disk.new)) }
+        requires few { self.now.made ≤ 4096 }
+        ensures planned { IfOk result
+            (IsPlanOf geometry self.now.spelled.end.0 self.now.made (D.tape disk.old)) }
+        ensures uncalled { IsUncalled D.tape D.moment disk.old disk.new }
         ensures fault { IfErr result (λ fault. TellsSettleFault (D.tape disk.old)
             (D.tape disk.new) (D.moment disk.old) (D.moment disk.new) (D.faults disk.old)
             (D.faults disk.new) fault) }
         ensures no_fault { OnOk result (D.faults disk.new ≡ D.faults disk.old) }
-        ensures stopped { OnErr result (HasNotSettled geometry self.now.spelled.end.0
-            (D.tape disk.old) (D.tape disk.new) (D.moment disk.old) (D.moment disk.new)) }
     {
         let mut page = [0; 8192];
-        match settle(alloc, disk, geometry, self.spelled.end, &mut page) {
-            Ok(_) => Ok(()),
-            Err(fault) => Err(fault),
-        }
+        SettlePlan::of(
+            alloc,
+            disk,
+            geometry,
+            self.spelled.end,
+            self.made,
+            &mut page,
+        )
     }
 }
 
@@ -117,10 +122,17 @@ pub fn find_and_settle<D: Disk>(
     ensures cause { HasFindCause (D.faults disk.old) (D.faults disk.new) result }
 {
     let log = find(alloc, disk, geometry, sysid, cap)?;
-    match log.settle(alloc, disk, geometry) {
+    let plan = match log.plan(alloc, disk, geometry) {
+        Ok(plan) => plan,
+        Err(SettleFault::Memory) => return Err(FindFault::Memory),
+        Err(SettleFault::Disk { faults }) => return Err(FindFault::Disk { faults }),
+    };
+    let mut page = [0; 8192];
+    match plan.settle(disk, &mut page) {
         Ok(()) => Ok(log),
-        Err(SettleFault::Memory) => Err(FindFault::Memory),
-        Err(SettleFault::Disk { faults }) => Err(FindFault::Disk { faults }),
+        Err(_) => Err(FindFault::Disk {
+            faults: disk.faults(),
+        }),
     }
 }
 

@@ -1,10 +1,10 @@
 // An insertion lock is taken (PostgreSQL's xlog.c, WALInsertLockAcquire), by an exchange of 0 for 1
 // in its word. The eight are tried in turn, from the lock of the pass's number on, so that passes
 // with other numbers begin at other locks. PostgreSQL waits at a lock that is held; here the caller
-// is told if all eight are, and then holds no more than before. A segment switch needs them all, and
-// tries each by itself, from lock 0 up.
-// A record is reserved only under a lock that its pass holds already. So a watch that saw the
-// record reserved, and visits the locks afterwards, finds this one held, or all of it copied.
+// is told if all eight are, and then holds no more than before. A segment switch needs them all,
+// and tries each by itself, from lock 0 up. A record is reserved only under a lock that its pass
+// holds already. So a watch that saw the record reserved, and visits the locks afterwards, finds
+// this one held, or all of it copied.
 ghost use Rattle.std.specs.Prelude.{◌≡◌, ◌≢◌, ◌<◌, IfErr, IfOk};
 ghost use Rattle.wal_core.specs.Steps.{take_lock};
 ghost use Rattle.wal_rule.specs.Stepping.{Meets};

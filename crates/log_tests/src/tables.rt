@@ -1,17 +1,21 @@
 //! Tables of logs that hold nothing, new ones and one that was found, on disks in memory.
 
-ghost use Rattle.std.specs.Prelude.{◌≡◌, [], IfOk};
+ghost use Rattle.std.specs.Prelude.{◌≡◌, ℕ, ◌≤◌, IfOk};
+ghost use Rattle.flush_core.specs.Planned.{IsPlanOf};
 ghost use Rattle.wal_core.specs.Opened.{first_view};
-ghost use Rattle.wal_rule.specs.Founded.{empty_log_opening, found_log_opening};
+ghost use Rattle.wal_rule.specs.Founded.{empty_log_opening};
 ghost use Rattle.wal_rule.specs.Passes.{view_of_pass};
 ghost use Rattle.wal_rule.specs.Tables.{IsPassOn};
 
+use byte_position::Geometry;
+use flush_core::{SettlePlan, count_segments};
 use machine_words::{LogShape, MachineWords};
-use segment_disk::MemDisk;
+use segment_disk::{Disk, MemDisk};
 use std::alloc::Global;
 use std::test::Fail;
 use wal_core::Setup;
 use wal_rule::{FoundEntries, Founding, LogTable, LogWriter, Pass};
+use wal_types::Lsn;
 
 pub type Table = LogTable<MemDisk>;
 
@@ -47,20 +51,43 @@ pub fn open(alloc: Global) -> Result<(Table, Pass), Fail>
     }
 }
 
-/// A table behind a log that was found to hold nothing, with its first pass; its first segment is
-/// taken to be there.
+/// A table behind a log that was found to hold nothing, with its first pass. It is settled by a
+/// plan, on a disk without a segment.
 pub fn resume(alloc: Global) -> Result<(Table, Pass), Fail>
     ensures pass { IfOk result (λ t. IsPassOn t.0 t.1) }
-    ensures view { IfOk result (λ t. view_of_pass t.1
-        ≡ first_view (found_log_opening SETUP [] 1 0 0)) }
 {
     let shape = shape()?;
-    let disk = MemDisk::new(alloc, 4, 100, Vec::new(alloc), Vec::new(alloc))?;
-    let founding = Founding::of_found(SETUP, &disk, FoundEntries::none(), 1);
+    let mut disk = MemDisk::new(alloc, 4, 100, Vec::new(alloc), Vec::new(alloc))?;
+    let plan = planned(alloc, &mut disk, shape.geometry(), Lsn(SETUP.segment_size))?;
+    let made = plan.count();
+    let founding = Founding::of_found(SETUP, &disk, FoundEntries::none(), made, &plan);
     let words = MachineWords::first(alloc, SETUP, founding.moment)?;
-    let writer = LogWriter::resume(disk, shape.geometry(), SETUP.segment_size, 1);
-    match LogTable::resume(alloc, words.as_slice(), writer, shape, &founding) {
+    let writer = LogWriter::resume(disk, shape.geometry(), SETUP.segment_size, made);
+    match LogTable::resume(alloc, words.as_slice(), writer, shape, &founding, &plan) {
         Ok((table, seat)) => Ok((table, Pass::of_seat(seat, 0, 1, SETUP.passes))),
         Err(_) => Err(Fail::from("memory for a table")),
     }
+}
+
+// What settles a log that ends at an address, on a disk with two segments at most.
+fn planned<D: Disk>(
+    alloc: Global,
+    disk: &mut D,
+    geometry: Geometry,
+    end: Lsn,
+) -> Result<SettlePlan, Fail>
+    ensures { IfOk result (λ plan. (count : ℕ) × (count ≤ 2)
+        × IsPlanOf geometry end.0 count (D.tape disk.new) plan) }
+{
+    let mut page = [0; 8192];
+    let Ok(count) = count_segments(disk, geometry, &mut page) else {
+        return Err(Fail::from("a disk that is read"));
+    };
+    if count > 2 {
+        return Err(Fail::from("two segments at most"));
+    }
+    let Ok(plan) = SettlePlan::of(alloc, disk, geometry, end, count, &mut page) else {
+        return Err(Fail::from("memory for a plan"));
+    };
+    Ok(plan)
 }

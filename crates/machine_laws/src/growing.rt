@@ -14,7 +14,7 @@ ghost use Rattle.machine_laws.specs.Growth.{LosesOnlySince, StaysWholeSince};
 
 /// Behind calls that only add to what is read a crash leaves of each word what is read, or zeros;
 /// a page is read whole that was so before. Where a log may begin that is so of each word.
-pub fn calls_that_add_lose_nothing()
+pub fn calls_that_add_keep_what_is_read()
     ensures loses { (size moment : ℕ) (t : Tape) → OnlyAddsSince size moment t
         → LosesOnly size (state_at t moment) → LosesOnlySince size moment t }
     ensures whole { (size moment : ℕ) (t : Tape) → OnlyAddsSince size moment t

@@ -38,7 +38,8 @@ abbrev pub is_bad : Result Accepted StandbyErr → Bool
 is_bad (Err Bad) = true
 is_bad _ = false
 
-pub record AreCounts (answers : List (Result Accepted StandbyErr)) (counts : FrameCounts) : Type 0 where
+pub record AreCounts (answers : List (Result Accepted StandbyErr)) (counts : FrameCounts)
+    : Type 0 where
   pub taken : counts.taken ≡ count_by is_taken answers
   pub old : counts.old ≡ count_by is_old answers
   pub gap : counts.gap ≡ count_by is_gap answers

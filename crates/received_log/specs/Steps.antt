@@ -57,7 +57,8 @@ pub record TakesNone {D : Type 0} (before after : SourceState) (old new : Standb
       ⊎ ((counted ≡ Err SourceFault) × FailsOnce before after)
 
 abbrev pub TakesNext : {D : Type 0} → (D → Option Tape) → (D → ℕ) → (D → ℕ)
-    → SourceState → SourceState → Standby D → Standby D → FrameCounts → Result FrameCounts ReceivingEnd → Type 0
+    → SourceState → SourceState → Standby D → Standby D → FrameCounts
+    → Result FrameCounts ReceivingEnd → Type 0
 TakesNext tape moment faults before after old new counts counted =
     TakesFrame tape moment faults before after old new counts counted
     ⊎ TakesNone before after old new counted

@@ -39,6 +39,7 @@ struct Headers<'a> {
 
 #[tactic(auto, unfolding(crate::specs::Reading::headers_of))]
 // `bytes` are those behind the record's header.
+#[inline(always)]
 fn read_headers<'a>(alloc: Global, bytes: &'a [u8]) -> Result<Headers<'a>, RecErr>
     requires { length bytes.now + 24 < 2 ^ 64 }
     ensures exact { GivesAs headers_said result (headers_of (start_of_headers bytes.now)) }
@@ -71,12 +72,20 @@ fn u32_at(bytes: &[u8], at: usize) -> u32
     u32::from_le_bytes([bytes[at], bytes[at + 1], bytes[at + 2], bytes[at + 3]])
 }
 
-fn record_of(alloc: Global, bytes: &[u8], headers: Headers) -> Result<Record, RecErr>
+#[inline(always)]
+fn record_of(
+    alloc: Global,
+    mut spare: Vec<u8>,
+    bytes: &[u8],
+    headers: Headers,
+) -> Result<Record, RecErr>
     requires header { 24 ≤ length bytes.now }
     requires promised { sum_by payload_len headers.blocks.items ≤ length headers.payload.now }
     ensures { GivesReading result (Ok (record_of bytes.now (headers_said headers.entry))) }
 {
     let (blocks, main) = blocks_of(alloc, &headers.blocks, headers.payload)?;
+    spare.clear();
+    spare.extend_from_slice(main)?;
     Ok(Record {
         xid: Xid(u32_at(bytes, XID_AT)),
         rmid: bytes[RMID_AT],
@@ -84,22 +93,24 @@ fn record_of(alloc: Global, bytes: &[u8], headers: Headers) -> Result<Record, Re
         origin: headers.origin,
         top_xid: headers.top_xid.map(Xid),
         blocks: BlockList::of(blocks),
-        main: Bytes::of(Vec::from_slice(alloc, main)?),
+        main: Bytes::of(spare),
     })
 }
 
 #[tactic(auto, unfolding(crate::specs::Reading::items_of))]
-fn read_items(alloc: Global, bytes: &[u8]) -> Result<Record, RecErr>
+#[inline(always)]
+fn read_items(alloc: Global, spare: Vec<u8>, bytes: &[u8]) -> Result<Record, RecErr>
     requires { 24 ≤ length bytes.now }
     ensures { GivesReading result (items_of bytes.now) }
 {
     let (_, behind_header) = bytes.split_at(HEADER_LEN);
     let headers = read_headers(alloc, behind_header)?;
-    record_of(alloc, bytes, headers)
+    record_of(alloc, spare, bytes, headers)
 }
 
 #[tactic(auto, unfolding(crate::specs::Reading::reading_of))]
-fn reading(alloc: Global, bytes: &[u8]) -> Result<Record, RecErr>
+#[inline(always)]
+fn reading(alloc: Global, spare: Vec<u8>, bytes: &[u8]) -> Result<Record, RecErr>
     ensures { GivesReading result (reading_of bytes.now) }
 {
     if bytes.len() < HEADER_LEN || u32_at(bytes, LEN_AT) as usize != bytes.len() {
@@ -108,7 +119,7 @@ fn reading(alloc: Global, bytes: &[u8]) -> Result<Record, RecErr>
     if is_free_manager(bytes[RMID_AT]) {
         return Err(malformed(RMID_AT as u64, RecKind::Rmgr));
     }
-    read_items(alloc, bytes)
+    read_items(alloc, spare, bytes)
 }
 
 /// Reads a record's bytes, all of them: the headers of its items from left to right, as long as
@@ -126,5 +137,19 @@ pub fn decode(alloc: Global, bytes: &[u8]) -> Result<Record, RecErr>
     // All of it as one reading from left to right.
     ensures as_reading { GivesReading result (reading_of bytes.now) }
 {
-    reading(alloc, bytes)
+    decode_into(alloc, Vec::new(alloc), bytes)
+}
+
+/// `decode`, with the main data put into a vector that the caller has, whatever it held: so one
+/// whose room is large enough spares taking memory.
+#[inline(always)]
+pub fn decode_into(alloc: Global, spare: Vec<u8>, bytes: &[u8]) -> Result<Record, RecErr>
+    // As of `decode`, whatever the vector held.
+    ensures spelled { IfOk result (λ r. Spells bytes.now r) }
+    ensures reads { (r : Record) → Spells bytes.now r → GivesReading result (Ok r) }
+    ensures fails { IfErr result (TellsFirstFault bytes.now) }
+    ensures refuses { (e : RecErr) → FailsAt bytes.now e → GivesReading result (Err e) }
+    ensures as_reading { GivesReading result (reading_of bytes.now) }
+{
+    reading(alloc, spare, bytes)
 }

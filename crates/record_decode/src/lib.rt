@@ -6,6 +6,6 @@ mod fault;
 mod head;
 pub mod laws;
 
-pub use decoding::decode;
+pub use decoding::{decode, decode_into};
 pub use fault::{RecErr, RecKind};
 pub use head::{BlockHead, ImageHead};

@@ -5,7 +5,7 @@
 // With the bit set the position is this pass's to store, and so is the last start (places.rt). The
 // address there is made before: nothing but steps is done while the position is locked.
 ghost use Rattle.std.specs.Prelude.{◌≡◌, ◌<◌, ◌^◌, IfErr, IfOk};
-ghost use Rattle.byte_position.specs.Position.{address_of};
+ghost use Rattle.byte_position.specs.Position.{address_of, end_address_of};
 ghost use Rattle.wal_core.specs.Views.{Free};
 ghost use Rattle.wal_rule.specs.SeatedPasses.{StaysSeated, setup_of, view_of};
 ghost use Rattle.reserve_lock.specs.Reserved.{IsPositionBusy, IsPositionLocked};
@@ -16,10 +16,11 @@ use segment_disk::Disk;
 use wal_rule::SeatedPass;
 use wal_types::Lsn;
 
-// A position that was locked, and the address of the byte there.
+// A position that was locked, where the byte before it ends, and the address of the byte there.
 #[derive(Clone, Copy)]
 pub(crate) struct LockedAt {
     pub(crate) at: u64,
+    pub(crate) behind: Lsn,
     pub(crate) start: Lsn,
 }
 
@@ -33,6 +34,7 @@ pub(crate) fn lock_seen<'p, D: Disk>(
     // It is locked at a multiple of 8 behind all that the pass had seen, and within the log.
     ensures locked { IfOk result (λ l. IsPositionLocked (setup_of seated.old) l.at
         (view_of seated.old) (view_of seated.new)) }
+    ensures behind { IfOk result (λ l. l.behind.0 ≡ end_address_of geometry l.at) }
     ensures start { IfOk result (λ l. l.start.0 ≡ address_of geometry l.at) }
     ensures low { IfOk result (λ l. l.at < 2 ^ 60) }
     // It is not locked by this pass, which has seen reserved what it loaded, and knows no more.
@@ -44,10 +46,15 @@ pub(crate) fn lock_seen<'p, D: Disk>(
     if loaded % 2 == 1 {
         return Err(loaded);
     }
-    let start = start_at(geometry, loaded);
+    let behind = geometry.to_end_lsn(loaded);
+    let start = start_at(geometry, loaded, behind);
     let met = seated.lock_position(loaded);
     if met == loaded {
-        Ok(LockedAt { at: loaded, start })
+        Ok(LockedAt {
+            at: loaded,
+            behind,
+            start,
+        })
     } else {
         Err(met)
     }

@@ -5,7 +5,7 @@
 // for good, whatever fails later: its words are the pass's to copy, and the next record names its
 // start as prev. Nobody else reserves those bytes.
 ghost use Rattle.std.specs.Prelude.{◌≡◌, ℕ, ◌-◌, ◌%◌, ◌<◌, ◌≤◌, [], ◌∷◌, false, true, length, Contains, IfErr, IfOk};
-ghost use Rattle.byte_position.specs.Position.{address_of};
+ghost use Rattle.byte_position.specs.Position.{address_of, end_address_of};
 ghost use Rattle.record_spelling.specs.Spelling.{RecordOf, is_assembled_switch};
 ghost use Rattle.wal_core.specs.Views.{Free, Landed, Locked};
 ghost use Rattle.wal_core.specs.Words.{log_limit};
@@ -93,6 +93,7 @@ pub(crate) fn reserve_locked<'a, 'p, D: Disk>(
     requires geometry { geometry ≡ (setup_of seated.old).segment_size }
     requires known { RecordOf body.now }
     requires place { (view_of seated.old).reserving.place ≡ Locked locked.at }
+    requires behind { locked.behind.0 ≡ end_address_of geometry locked.at }
     requires start { locked.start.0 ≡ address_of geometry locked.at }
     requires seen { (view_of seated.old).reserving.seen ≤ locked.at }
     requires within { locked.at ≤ log_limit (setup_of seated.old) }
@@ -123,6 +124,14 @@ pub(crate) fn reserve_locked<'a, 'p, D: Disk>(
     Ok(Reserved {
         start,
         end: end_behind(geometry, at, start, room),
-        placed: Placed::new(geometry, shape.sysid(), body, at, Lsn(prev)),
+        placed: Placed::reserved(
+            geometry,
+            shape.sysid(),
+            body,
+            at,
+            room,
+            Lsn(prev),
+            locked.behind,
+        ),
     })
 }

@@ -39,8 +39,8 @@ AreFramesBetween size from end tape frames =
     IfSome tape (λ t. frames ≡ frames_between size (page_read size (state_now t)) from end)
 
 -- a sink took them all, or a front
-pub record PutsAllFrames (size from end : ℕ) (tape : Option Tape) (old new : Option (List ℕ)) (count : ℕ)
-    : Type 0 where
+pub record PutsAllFrames (size from end : ℕ) (tape : Option Tape) (old new : Option (List ℕ))
+    (count : ℕ) : Type 0 where
   pub frames : List ℕ
   pub are : AreFramesBetween size from end tape frames
   pub long : length frames ≡ 8224 * count
@@ -60,4 +60,5 @@ PutsFrames size from end tape old new (Err (Read (reading.Disk count))) =
     PutsFrontOfFrames size from end tape old new
 PutsFrames size from end tape old new (Err (Read reading.Memory)) = ⊥
 PutsFrames size from end tape old new (Err (Read (reading.Stopped stop))) = ⊥
-PutsFrames size from end tape old new (Err (Sink fault)) = PutsFrontOfFrames size from end tape old new
+PutsFrames size from end tape old new (Err (Sink fault)) =
+    PutsFrontOfFrames size from end tape old new

@@ -1,5 +1,5 @@
--- The frames of a log's pages, as one list of bytes. `size` is that of a segment in bytes, `end` the
--- address at which the log ends, and pages are counted from the log's address 0.
+-- The frames of a log's pages, as one list of bytes. `size` is that of a segment in bytes, `end`
+-- the address at which the log ends, and pages are counted from the log's address 0.
 use Rattle.std.specs.Prelude.{ℕ, ◌+◌, ◌-◌, ◌*◌, ◌/◌, ◌%◌, min, List, nat_lt, if◌then◌else◌}
 use Rattle.std.specs.List.{flat_map, range_with_len}
 use Rattle.std.specs.Option.{unwrap_or}

@@ -21,9 +21,9 @@ use wal_types::Lsn;
 /// end. Then each segment that is there is synced, so that no crash takes back what was sent.
 ///
 /// PostgreSQL's XLogSendPhysical sends what its server has flushed, in messages of at most
-/// MAX_SEND_SIZE bytes that end with a page, or where the flushed log ends; it reads the log's bytes
-/// without decoding them, and waits for more. Here each frame is one page, pages behind a segment
-/// switch are sent too (as they are read: zeros, or nothing there), and the sending ends.
+/// MAX_SEND_SIZE bytes that end with a page, or where the flushed log ends; it reads the log's
+/// bytes without decoding them, and waits for more. Here each frame is one page, pages behind a
+/// segment switch are sent too (as they are read: zeros, or nothing there), and the sending ends.
 ///
 /// The memory is the reader's; a page and a frame lie on the stack.
 pub fn send<D: Disk, O: Sink>(

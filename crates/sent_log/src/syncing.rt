@@ -1,6 +1,6 @@
-// What is read may come from the system's memory, and not be on the disk yet; what is sent has to be
-// there. PostgreSQL's XLogSendPhysical sends up to GetFlushRecPtr, what its own process flushed; here
-// no process that writes is known, so each segment is synced.
+// What is read may come from the system's memory, and not be on the disk yet; what is sent has to
+// be there. PostgreSQL's XLogSendPhysical sends up to GetFlushRecPtr, what its own process flushed;
+// here no process that writes is known, so each segment is synced.
 ghost use Rattle.std.specs.Prelude.{OnErr, OnOk};
 ghost use Rattle.segment_disk.specs.Cause.{HasCause};
 ghost use Rattle.sent_log.specs.Synced.{HasNotSynced, HasSynced};

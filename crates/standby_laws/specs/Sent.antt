@@ -1,9 +1,9 @@
 -- What a primary sends: frames of its log, which no crash takes back from it.
 --
--- A primary's disk holds the log of an order, crashed or not (`WasLeft`), and `send` reads it to its
--- last record and syncs it before it puts a frame. So what it puts are frames of that order's log,
--- up to the end of what was read; and from the moment on at which it returns each crash leaves the
--- log up to there.
+-- A primary's disk holds the log of an order, crashed or not (`WasLeft`), and `send` reads it to
+-- its last record and syncs it before it puts a frame. So what it puts are frames of that order's
+-- log, up to the end of what was read; and from the moment on at which it returns each crash leaves
+-- the log up to there.
 --
 -- One commit: with segments of 1 MiB the log starts at address 1048576; behind a header of 40 bytes
 -- comes a record of 34, and it ends at 1048656, the next multiple of 8. One frame is put: page 128
@@ -26,8 +26,8 @@ use Rattle.reopened_log.specs.WasLeft.{WasLeft}
 use Rattle.standby_laws.specs.Later.{IsHardenedUpto}
 
 -- each whole piece of what a sink took, where it tells that, is a frame of an order's log up to an
--- address; some first entries end there, or the log starts there. Each crash of a disk from a moment
--- on leaves the log up to there
+-- address; some first entries end there, or the log starts there. Each crash of a disk from a
+-- moment on leaves the log up to there
 pub record SendsLog (size sysid : ℕ) (es : List Entry) (since upto : ℕ) (tape : Tape)
     (old new : Option (List ℕ)) : Type 0 where
   pub order : IsLogOrder size sysid es
@@ -60,8 +60,8 @@ SentFramesAreOfLog =
 
 -- ---- what comes of them over a link
 
--- each piece of 8,224 bytes that a source hands out in between is one of these: they may come in any
--- order, again, or not at all, and the last one may be cut short
+-- each piece of 8,224 bytes that a source hands out in between is one of these: they may come in
+-- any order, again, or not at all, and the last one may be cut short
 abbrev pub HandsOutPieces : List (List ℕ) → SourceState → SourceState → Type 0
 HandsOutPieces pieces before after =
     (bytes : List ℕ) → after.handed ≡ before.handed ++ bytes

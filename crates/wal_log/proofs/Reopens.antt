@@ -1,5 +1,5 @@
 -- A log that was found may be opened, and the words with which it goes on are those of another moment but for one.
-use Rattle.std.proofs.Common.{◌≡◌, ℕ, ◌+◌, ◌*◌, ◌/◌, ◌<◌, ◌≤◌, ◌%◌, ◌^◌, List, set, sym, ◌∙◌, subst, arith}
+use Rattle.std.proofs.Common.{◌≡◌, ℕ, ◌+◌, ◌*◌, ◌/◌, ◌<◌, ◌≤◌, ◌%◌, ◌^◌, List, Option, set, refl, sym, ap, ◌∙◌, subst, arith}
 use Rattle.std.specs.Prelude.{slice_index}
 use Rattle.std.proofs.lemmas.List.{get_or-set_other, get_or-set_same, length-set}
 use Rattle.std.proofs.lemmas.Nat.{mul-le}
@@ -8,7 +8,11 @@ use Rattle.byte_position.proofs.EndAddresses.{le-position_of}
 use Rattle.byte_position.proofs.SegmentSizes.{segment_size_in_pages}
 use Rattle.byte_position.proofs.Segments.{first_position-usable, position_of-segment}
 use Rattle.record_spelling.specs.Spelling.{word_at}
+use Rattle.segment_disk.specs.Tape.{Tape}
 use Rattle.wal_page.specs.Order.{Entry, IsChained, end_position}
+use Rattle.flush_core.specs.Planned.{IsPlanOf}
+use Rattle.flush_core.specs.Settled.{HasNotSettled, HasSettled}
+use Rattle.flush_core.specs.declared.planning.SettlePlan.{SettlePlan}
 use Rattle.found_log.specs.declared.finding.FoundLog.{FoundLog}
 use Rattle.wal_core.specs.declared.setup.Setup.{Setup}
 use Rattle.wal_core.specs.Opened.{AreFirstWords, IsOpenable}
@@ -123,3 +127,46 @@ module _ (setup : Setup) (log : FoundLog) (is : IsFoundWithin setup log) (moment
   pub last_page_there : (page : List ℕ) → ((n : ℕ) → n < 1024 → word_at page n ≡ slice_index log.spelled.words.value n) → IsLastPage opening page
   last_page_there page same = subst (λ (o : Opening). IsLastPage o page) opening_is
       (λ j low. same j (omega (arith, low)) ∙ is.ends.words_are j low)
+
+-- ---- what is fixed of a log that was found
+
+module _ (setup : Setup) (valid : IsSetup setup) (log : FoundLog) (is : IsFoundWithin setup log) (opening : Opening) (moment faults : ℕ) (opening_is : opening ≡ found_log_opening setup (entries_found log) log.made moment faults) where
+  pub fixed_openable : IsOpenable opening
+  fixed_openable = subst (λ (o : Opening). IsOpenable o) (sym opening_is) (found_openable setup valid log is moment faults)
+
+  -- it begins where the log was found to end
+  pub fixed_end : log.spelled.end.0 ≡ found_end opening
+  fixed_end = is.ends.end_is ∙ sym (ap (λ (o : Opening). found_end o) opening_is)
+
+  pub fixed_made : log.made ≡ opening.made
+  fixed_made = sym (ap (λ (o : Opening). o.made) opening_is)
+
+  pub fixed_size : setup.segment_size ≡ (opening.setup).segment_size
+  fixed_size = sym (ap (λ (o : Opening). (o.setup).segment_size) opening_is)
+
+  -- the words are those of its moment
+  pub fixed_words : (words : List ℕ) → ((o : Opening) → IsOpenedBehind setup log 0 o → AreFirstWords o words) → AreFirstWords opening (set words 15 opening.moment)
+  fixed_words words first = moment_stored opening words (first (record opening { moment = 0 }) (record {
+    setup_is = ap (λ (o : Opening). o.setup) opening_is;
+    moment_is = refl;
+    found_is = ap (λ (o : Opening). o.found) opening_is;
+  }))
+
+  -- what is planned is said of it as of the log that was found
+  pub fixed_plan : (tape : Option Tape) (plan : SettlePlan) → IsPlanOf setup.segment_size log.spelled.end.0 log.made tape plan → IsPlanOf (opening.setup).segment_size (found_end opening) opening.made tape plan
+  fixed_plan tape plan planned =
+      subst (λ (size : ℕ). IsPlanOf size (found_end opening) opening.made tape plan) fixed_size
+      (subst (λ (end : ℕ). IsPlanOf setup.segment_size end opening.made tape plan) fixed_end
+      (subst (λ (made : ℕ). IsPlanOf setup.segment_size log.spelled.end.0 made tape plan) fixed_made planned))
+
+  -- .. and so is what was settled
+  pub fixed_settled : (old new : Option Tape) (m0 m1 : ℕ) → HasSettled (opening.setup).segment_size (found_end opening) opening.made old new m0 m1 → HasSettled setup.segment_size log.spelled.end.0 log.made old new m0 m1
+  fixed_settled old new m0 m1 settled =
+      subst (λ (size : ℕ). HasSettled size log.spelled.end.0 log.made old new m0 m1) (sym fixed_size)
+      (subst (λ (end : ℕ). HasSettled (opening.setup).segment_size end log.made old new m0 m1) (sym fixed_end)
+      (subst (λ (made : ℕ). HasSettled (opening.setup).segment_size (found_end opening) made old new m0 m1) (sym fixed_made) settled))
+
+  pub fixed_stopped : (old new : Option Tape) (m0 m1 : ℕ) → HasNotSettled (opening.setup).segment_size (found_end opening) old new m0 m1 → HasNotSettled setup.segment_size log.spelled.end.0 old new m0 m1
+  fixed_stopped old new m0 m1 stopped =
+      subst (λ (size : ℕ). HasNotSettled size log.spelled.end.0 old new m0 m1) (sym fixed_size)
+      (subst (λ (end : ℕ). HasNotSettled (opening.setup).segment_size end old new m0 m1) (sym fixed_end) stopped)

@@ -20,8 +20,8 @@ use Rattle.wal_log.specs.Inserting.{FindsLogFull, HasReserved}
 use Rattle.wal_log.specs.PassLogs.{log_of_pass}
 use Rattle.wal_log.specs.Standing.{CopiesUnder, entry_in_flight}
 
--- an entry was reserved, and is copied under these locks, of which all words are left; it starts and
--- ends at these addresses
+-- an entry was reserved, and is copied under these locks, of which all words are left; it starts
+-- and ends at these addresses
 pub record IsBegunUnder (setup : Setup) (body : Assembled) (locks : List ℕ) (old new : View)
     (start end : ℕ) (placed : PlacedState) : Type 0 where
   pub entry : Entry

@@ -3,7 +3,7 @@ use Rattle.std.specs.Prelude.{◌≡◌, ℕ, ◌≤◌, ◌⊎◌, List, length
 use Rattle.byte_position.specs.Position.{end_address_of}
 use Rattle.segment_disk.specs.Cause.{Rose}
 use Rattle.segment_disk.specs.Tape.{IsUncalled, Tape}
-use Rattle.flush_core.specs.Settled.{HasSettled}
+use Rattle.flush_core.specs.Settled.{HasNotSettled, HasSettled}
 use Rattle.wal_page.specs.Order.{Entry, end_position}
 use Rattle.found_log.specs.Found.{FindsLog, HasBegunToSettle, IsFound, RefusesLog}
 use Rattle.found_log.specs.Spelled.{EndsSpelled, Reaches, spelled_entries}
@@ -43,14 +43,6 @@ pub record IsOpenedBehind (setup : Setup) (log : FoundLog) (moment : ℕ) (openi
   pub moment_is : opening.moment ≡ moment
   pub found_is : opening.found ≡ entries_found log
 
--- a log was found on a disk, and settled
-pub record HasFoundAndSettled (setup : Setup) (old new : Option Tape) (old_moment new_moment : ℕ)
-    : Type 0 where
-  pub log : FoundLog
-  pub found : FindsLog setup.segment_size setup.sysid setup.cap_segments old log
-  pub settled : HasSettled setup.segment_size log.spelled.end.0 log.made old new
-      old_moment new_moment
-
 -- why a log was not reopened that was not found
 abbrev pub unfound_kind : FindFault → OpenFaultKind
 unfound_kind finding.Memory = Memory
@@ -80,25 +72,38 @@ module _ {D : Type 0} (tape : D → Option Tape) (moment faults : D → ℕ) whe
     pub pass_is : IsPassOfLog wal pass
     pub view : view_of_pass pass ≡ first_view (opening_of_log wal)
 
-  -- the same of the log that was found there and the disk as it was settled
+  -- the same of the log that was found there
   pub record GoesOn (setup : Setup) (log : FoundLog) (disk : D) (wal : Wal D) (pass : Pass)
       (found : Found) : Type 0 where
     pub opening : opening_of_log wal
-        ≡ found_log_opening setup (entries_found log) log.made (moment disk) (faults disk)
+        ≡ found_log_opening setup (entries_found log) log.made (opening_of_log wal).moment
+        (faults disk)
     pub openable : IsOpenable (opening_of_log wal)
-    pub began : began_of_table tape (table_of wal) ≡ tape disk
+    pub settled : HasSettled setup.segment_size log.spelled.end.0 log.made (tape disk)
+        (began_of_table tape (table_of wal)) (moment disk) (opening_of_log wal).moment
     pub count_is : found.count ≡ log.spelled.count
     pub end_is : found.end ≡ log.spelled.end
     pub pass_is : IsPassOfLog wal pass
     pub view : view_of_pass pass ≡ first_view (opening_of_log wal)
 
+  -- why a log was not opened that was found, and what is left of the disk: it is the very one where
+  -- there was no memory, or it failed while it was settled
+  abbrev pub LeavesUnopened : Setup → FoundLog → D → D → OpenFaultKind → Type 0
+  LeavesUnopened setup log old new BadSetup = ⊥
+  LeavesUnopened setup log old new Memory = new ≡ old
+  LeavesUnopened setup log old new (Disk told) = HasNotSettled setup.segment_size
+      log.spelled.end.0 (tape old) (tape new) (moment old) (moment new)
+      × (told ≡ faults new) × Rose (faults old) (faults new)
+  LeavesUnopened setup log old new NotEmpty = ⊥
+  LeavesUnopened setup log old new (Beyond segment) = ⊥
+  LeavesUnopened setup log old new (Foreign stop) = ⊥
+
   -- why a log was not reopened, and what is left of the disk: no counted call was made, but where
-  -- the disk failed while the log was settled, or where there was no memory behind that
+  -- the disk failed while the log was settled
   abbrev pub TellsReopenFault : Setup → D → D → OpenFaultKind → Type 0
   TellsReopenFault setup old new BadSetup = (IsSetup setup → ⊥) × (new ≡ old)
-  TellsReopenFault setup old new Memory = IsSetup setup × (faults new ≡ faults old)
-      × (IsUncalled tape moment old new
-      ⊎ HasFoundAndSettled setup (tape old) (tape new) (moment old) (moment new))
+  TellsReopenFault setup old new Memory = IsSetup setup × IsUncalled tape moment old new
+      × (faults new ≡ faults old)
   TellsReopenFault setup old new (Disk told) = IsSetup setup × (told ≡ faults new)
       × Rose (faults old) (faults new)
       × (IsUncalled tape moment old new

@@ -121,7 +121,8 @@ pub record IsSwitchBegun (setup : Setup) (body : Assembled) (old new : View) (r 
   pub place : IsBegunUnder setup body every_lock old new r.start.0 r.end.0 r.placed
   pub switch : IsSwitchEntry setup place.entry
 
--- what its reservation comes to; where nothing is reserved the pass holds the locks and nothing else
+-- what its reservation comes to; where nothing is reserved the pass holds the locks and nothing
+-- else
 abbrev pub AnswersPlace : Setup → Assembled → View → Result SwitchTry SwitchErr → View → Type 0
 AnswersPlace setup body old (Ok (tries.Switched r)) new = IsSwitchBegun setup body old new r
 AnswersPlace setup body old (Ok (tries.Stayed end)) new =

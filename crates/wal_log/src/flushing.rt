@@ -25,10 +25,10 @@ ghost use Rattle.wal_log.specs.declared.fault.Fault.TheVariants.{Disk};
 ghost use Rattle.wal_log.specs.declared.flushing.TryFlushErr.TheVariants.{Fault};
 
 use crate::fault::Fault;
+use crate::patience::Patience;
 use crate::turns::{TurnErr, give_back, go_down, take_ready};
 use crate::wal::Wal;
 use crate::writing::{store_written, write_known};
-use crossbeam_utils::Backoff;
 use flush_core::DiskFault;
 use insert_locks::{Watched, see_end, watch};
 use page_writing::{sync_written, writer_now};
@@ -153,14 +153,14 @@ pub(crate) fn flush_on<'p, D: Disk, R: Wait>(
         → result ≡ flush_err_known_down faults }
     ensures rests { ComesToRest seated.old seated.new }
 {
-    let backoff = Backoff::new();
+    let mut patience = Patience::new();
     for _ in rt.forever() {
         match try_flush(seated, upto) {
             Ok(hard) => return Ok(hard),
             Err(TryFlushErr::Fault(fault)) => return Err(FlushErr::from(fault)),
             Err(TryFlushErr::Unreserved { end }) => return Err(FlushErr::Unreserved { end }),
-            Err(TryFlushErr::Behind { .. }) => backoff.snooze(),
-            Err(TryFlushErr::Turn { .. }) => backoff.snooze(),
+            Err(TryFlushErr::Behind { .. }) => patience.pause(rt),
+            Err(TryFlushErr::Turn { .. }) => patience.pause(rt),
         }
     }
     unreachable!()

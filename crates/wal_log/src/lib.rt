@@ -23,6 +23,7 @@ mod inserting;
 mod landing;
 pub mod numbers;
 mod opening;
+mod patience;
 mod promised;
 mod reopening;
 pub mod shared_numbers;

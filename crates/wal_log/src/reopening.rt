@@ -1,29 +1,32 @@
-// A log that was left on a disk is gone on with (PostgreSQL's xlog.c, StartupXLOG). It is found by
-// reads alone, and memory for the words is taken, before it is settled. Only then is the moment
-// known at which it is opened, and the table made, whose key has it: so want of memory for the
-// table is told behind the settling. No counted call is made from then on.
+// A log that was left on a disk is gone on with (PostgreSQL's xlog.c, StartupXLOG). It is found, and
+// what settles it is planned, by reads alone; all memory is taken before the first counted call.
+// The plan tells at which moment the disk stands once it is settled, so the words and the table are
+// made for that moment, and the table settles the disk when it has all its memory. No counted call
+// is made from then on.
 ghost use Rattle.std.specs.Prelude.{◌≡◌, ℕ, ◌<◌, IfErr, IfOk, OnOk, slice_index};
 ghost use Rattle.record_spelling.specs.Spelling.{word_at};
-ghost use Rattle.flush_core.specs.Settled.{HasSettled};
+ghost use Rattle.segment_disk.specs.Tape.{IsUncalled};
+ghost use Rattle.flush_core.specs.Planned.{IsPlanOf};
 ghost use Rattle.found_log.specs.Found.{FindsLog};
 ghost use Rattle.wal_core.specs.Opened.{AreFirstWords};
 ghost use Rattle.wal_core.specs.Sound.{IsSetup};
 ghost use Rattle.wal_core.specs.Words.{Opening};
 ghost use Rattle.wal_core.specs.declared.setup.Setup.{Setup};
-ghost use Rattle.wal_log.specs.declared.opening.OpenFaultKind.TheVariants.{Memory};
-ghost use Rattle.wal_log.specs.Reopening.{GoesOn, IsFoundWithin, IsOpenedBehind, IsReopened, RefusesReopening, TellsReopenFault, entries_found, unfound_kind};
+ghost use Rattle.found_log.specs.declared.finding.FoundLog.{FoundLog};
+ghost use Rattle.wal_rule.specs.Opening.{TellsResumeErr};
+ghost use Rattle.wal_log.specs.Reopening.{GoesOn, IsFoundWithin, IsOpenedBehind, IsReopened, LeavesUnopened, RefusesReopening, TellsReopenFault, entries_found, unfound_kind};
 
 use crate::opening::{OpenFault, OpenFaultKind};
 use crate::wal::Wal;
 use byte_position::{Geometry, PAGE_SIZE};
-use flush_core::SettleFault;
+use flush_core::{SettleFault, SettlePlan};
 use found_log::{FindFault, FoundLog, find};
 use machine_words::{LogEnd, LogShape, MachineWords, Word};
 use segment_disk::Disk;
 use std::alloc::{AllocError, Global};
 use std::marker::Brand;
 use wal_core::Setup;
-use wal_rule::{FoundEntries, Founding, LogTable, LogWriter, Pass, PicksEntries};
+use wal_rule::{FoundEntries, Founding, LogTable, LogWriter, Pass, PicksEntries, ResumeErr};
 use wal_types::Lsn;
 
 /// What a reopening found.
@@ -41,9 +44,8 @@ impl<D: Disk> Wal<D> {
     /// clears what a crash left behind the end; records go on there. On a disk without segment 1 it
     /// begins a log that holds nothing.
     ///
-    /// Each reason to refuse the log comes before the first counted call of the disk, and so does
-    /// want of memory, but for the table's. After a refusal the log may be reopened again, as often
-    /// as it takes.
+    /// All memory, and each reason to refuse the log, comes before the first counted call of the
+    /// disk. After a refusal the log may be reopened again, as often as it takes.
     pub fn reopen(
         alloc: Global,
         disk: D,
@@ -61,65 +63,84 @@ impl<D: Disk> Wal<D> {
             });
         };
         let mut disk = disk;
-        match find_settled(alloc, &mut disk, setup, shape.geometry()) {
-            Ok((log, words)) => Wal::go_on(alloc, disk, setup, shape, log, words),
+        match find_planned(alloc, &mut disk, setup, shape.geometry()) {
+            Ok((log, words, plan)) => Wal::go_on(alloc, disk, setup, shape, &log, words, &plan),
             Err(kind) => Err(OpenFault { disk, kind }),
         }
     }
 
-    // Opens a log that was found on this disk and settled, with these words.
+    // Opens a log that was found on this disk, with these words, and settles it by the plan.
     fn go_on(
         alloc: Global,
         disk: D,
         setup: Setup,
         shape: LogShape,
-        log: FoundLog,
-        words: MachineWords,
+        log: &FoundLog,
+        mut words: MachineWords,
+        plan: &SettlePlan,
     ) -> Result<(Wal<D>, Pass, Found), OpenFault<D>>
         requires setup { IsSetup setup }
         requires shape { shape ≡ setup }
-        requires log { IsFoundWithin setup log }
-        requires words { (opening : Opening) → IsOpenedBehind setup log (D.moment disk) opening
+        requires log { IsFoundWithin setup log.now }
+        requires words { (opening : Opening) → IsOpenedBehind setup log.now 0 opening
             → AreFirstWords opening words.words }
+        requires plan { IsPlanOf setup.segment_size log.now.spelled.end.0 log.now.made
+            (D.tape disk) plan.now }
         ensures goes_on { IfOk result
-            (λ r. GoesOn D.tape D.moment D.faults setup log disk r.0 r.1 r.2) }
+            (λ r. GoesOn D.tape D.moment D.faults setup log.now disk r.0 r.1 r.2) }
         ensures refused { IfErr result
-            (λ e. (e.disk ≡ disk) × (e.kind ≡ Memory)) }
+            (λ e. LeavesUnopened D.tape D.moment D.faults setup log.now disk e.disk e.kind) }
     {
-        let founding = Founding::of_found(setup, &disk, found_entries(&log), log.made);
+        let founding = Founding::of_found(setup, &disk, found_entries(log), log.made, plan);
+        words.set(Word::Moment, founding.moment);
         let end = log.spelled.end;
         let count = log.spelled.count;
         let writer = LogWriter::resume(disk, shape.geometry(), end.0, log.made);
-        match LogTable::resume(alloc, words.as_slice(), writer, shape, &founding) {
+        match LogTable::resume(alloc, words.as_slice(), writer, shape, &founding, plan) {
             Ok((table, seat)) => {
                 let pass = Pass::of_seat(seat, 0, 1, setup.passes);
                 Ok((Wal { table }, pass, Found { count, end }))
             }
-            Err(disk) => Err(OpenFault {
-                disk,
-                kind: OpenFaultKind::Memory,
-            }),
+            Err(error) => Err(resume_fault(error)),
         }
     }
 }
 
-// Finds the log on a disk and settles it. The words with which it goes on are those of the moment
-// behind that, but their memory is taken before.
-fn find_settled<D: Disk>(
+// Why a log was not opened that was found.
+fn resume_fault<D: Disk>(error: ResumeErr<D>) -> OpenFault<D>
+    ensures { (setup : Setup) (log : FoundLog) (old : D)
+        → TellsResumeErr D.tape D.moment D.faults setup.segment_size log.spelled.end.0 old error
+        → LeavesUnopened D.tape D.moment D.faults setup log old result.disk result.kind }
+{
+    match error {
+        ResumeErr::Memory(disk) => OpenFault {
+            disk,
+            kind: OpenFaultKind::Memory,
+        },
+        ResumeErr::Disk { disk, faults } => OpenFault {
+            disk,
+            kind: OpenFaultKind::Disk { faults },
+        },
+    }
+}
+
+// Finds the log on a disk, and plans what settles it. Memory for the words with which it goes on is
+// taken too; their moment is stored later.
+fn find_planned<D: Disk>(
     alloc: Global,
     disk: &mut D,
     setup: Setup,
     geometry: Geometry,
-) -> Result<(FoundLog, MachineWords), OpenFaultKind>
+) -> Result<(FoundLog, MachineWords, SettlePlan), OpenFaultKind>
     requires setup { IsSetup setup }
     requires size { setup.segment_size ≡ geometry }
     ensures found { IfOk result (λ r. FindsLog setup.segment_size setup.sysid setup.cap_segments
         (D.tape disk.old) r.0) }
-    ensures settled { IfOk result (λ r. HasSettled setup.segment_size r.0.spelled.end.0 r.0.made
-        (D.tape disk.old) (D.tape disk.new) (D.moment disk.old) (D.moment disk.new)) }
-    ensures words { IfOk result (λ r. (opening : Opening)
-        → IsOpenedBehind setup r.0 (D.moment disk.new) opening
+    ensures words { IfOk result (λ r. (opening : Opening) → IsOpenedBehind setup r.0 0 opening
         → AreFirstWords opening r.1.words) }
+    ensures planned { IfOk result (λ r. IsPlanOf setup.segment_size r.0.spelled.end.0 r.0.made
+        (D.tape disk.old) r.2) }
+    ensures uncalled { IsUncalled D.tape D.moment disk.old disk.new }
     ensures no_fault { OnOk result (D.faults disk.new ≡ D.faults disk.old) }
     ensures refused { IfErr result
         (TellsReopenFault D.tape D.moment D.faults setup disk.old disk.new) }
@@ -128,14 +149,11 @@ fn find_settled<D: Disk>(
         Ok(log) => log,
         Err(fault) => return Err(unfound_kind(fault)),
     };
-    let Ok(mut words) = words_behind(alloc, setup, &log) else {
+    let Ok(words) = words_behind(alloc, setup, &log) else {
         return Err(OpenFaultKind::Memory);
     };
-    match log.settle(alloc, disk, geometry) {
-        Ok(()) => {
-            words.set(Word::Moment, disk.moment());
-            Ok((log, words))
-        }
+    match log.plan(alloc, disk, geometry) {
+        Ok(plan) => Ok((log, words, plan)),
         Err(SettleFault::Memory) => Err(OpenFaultKind::Memory),
         Err(SettleFault::Disk { faults }) => Err(OpenFaultKind::Disk { faults }),
     }

@@ -70,9 +70,9 @@ impl SwitchErr {
 
 impl<D: Disk> Wal<D> {
     /// Ends the segment: puts a switch behind all that is reserved, which takes up the rest of its
-    /// segment, and copies it, zeros and all. It is not durable before a flush. Where the log stands
-    /// at a segment's start it has nothing to do. It waits for each of the eight insertion locks
-    /// and, as an insert, for buffers.
+    /// segment, and copies it, zeros and all. It is not durable before a flush. Where the log
+    /// stands at a segment's start it has nothing to do. It waits for each of the eight insertion
+    /// locks and, as an insert, for buffers.
     pub fn switch<R: Wait>(&self, rt: &R, pass: &mut Pass, body: &Body) -> Result<Switch, SwitchErr>
         requires pass { IsPassOfLog self.now pass.old }
         // The body is a segment switch's (`Body::switch`).

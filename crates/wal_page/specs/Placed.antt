@@ -79,8 +79,8 @@ pub record LieTogether (p : PlacedState) (count : ℕ) : Type 0 where
   pub on_page : p.next % 8192 + 8 * count ≤ 8192
   pub own : position_of p.size p.next + 8 * count ≤ p.start + assembled_room p.body
 
--- the record takes up `room` bytes, the next word is at `next`, and `passed` of the bytes lie before
--- it
+-- the record takes up `room` bytes, the next word is at `next`, and `passed` of the bytes lie
+-- before it
 pub record StandsAt (size : ℕ) (a : Assembled) (start room next passed : ℕ) : Type 0 where
   pub valid : IsSegmentSize size
   pub takes_up : room ≡ assembled_room_at size start a

@@ -75,14 +75,44 @@ impl<'a> Placed<'a> {
           next = end_address_of geometry start;
         } }
     {
+        let room = room_at(geometry, start, body);
+        let next = geometry.to_end_lsn(start);
+        Placed::reserved(geometry, sysid, body, start, room, prev, next)
+    }
+
+    /// The same, where its room and the address of its first word are known: who reserved its place
+    /// has computed both.
+    #[inline(always)]
+    pub fn reserved(
+        geometry: Geometry,
+        sysid: u64,
+        body: &'a Body,
+        start: u64,
+        room: u64,
+        prev: Lsn,
+        next: Lsn,
+    ) -> Placed<'a>
+        requires whole { start % 8 ≡ 0 }
+        requires room { room ≡ assembled_room_at geometry start body.now }
+        requires within { start + room < 2 ^ 60 }
+        requires next { next.0 ≡ end_address_of geometry start }
+        ensures { result ≡ record {
+          size = geometry;
+          sysid = sysid;
+          body = body.now;
+          start = start;
+          prev = prev.0;
+          next = end_address_of geometry start;
+        } }
+    {
         Placed {
             geometry,
             sysid,
             body,
             start,
-            room: room_at(geometry, start, body),
+            room,
             prev,
-            next: geometry.to_end_lsn(start).0,
+            next: next.0,
             passed: 0,
         }
     }

@@ -26,8 +26,11 @@ use wal_types::Lsn;
 
 /// The next record at or behind `start`, and where the one behind it stands: from a place, or
 /// where reading has not begun from where it begins. `end` is where reading ends, if it is given.
+/// The record's main data is put into `spare`.
+#[inline(always)]
 pub(crate) fn next_given<D: Disk>(
     alloc: Global,
+    spare: Vec<u8>,
     buffers: &mut Buffers,
     disk: &mut D,
     start: Lsn,
@@ -55,12 +58,14 @@ pub(crate) fn next_given<D: Disk>(
         Some(at) => at,
         None => find_beginning(&mut buffers.cache, disk, start)?,
     };
-    read_given(alloc, buffers, disk, start, end, at)
+    read_given(alloc, spare, buffers, disk, start, end, at)
 }
 
 // Records before `start` are read and checked as any other, and passed over.
+#[inline(always)]
 fn read_given<D: Disk>(
     alloc: Global,
+    spare: Vec<u8>,
     buffers: &mut Buffers,
     disk: &mut D,
     start: Lsn,
@@ -83,11 +88,13 @@ fn read_given<D: Disk>(
     ensures cause { HasFailureCause (D.faults disk.old) (D.faults disk.new) result }
 {
     let mut at = from;
+    let mut spare = spare;
     'records: loop {
-        let (found, behind) = read_record(alloc, buffers, disk, end, at)?;
+        let (found, behind) = read_record(alloc, spare, buffers, disk, end, at)?;
         if found.start.0 >= start.0 {
             return Ok((found, behind));
         }
         at = behind;
+        spare = found.value.main.into_vec();
     }
 }

@@ -88,6 +88,34 @@ impl Reader {
         ensures uncalled { IsUncalled D.tape D.moment disk.old disk.new }
         ensures cause { HasReadCause (D.faults disk.old) (D.faults disk.new) result }
     {
+        self.next_into(alloc, disk, Vec::new(alloc))
+    }
+
+    /// `next`, with the record's main data put into a vector that the caller has, whatever it held.
+    /// Who gives the vector of a record that it is done with takes no memory for the next one.
+    #[inline(always)]
+    pub fn next_into<D: Disk>(
+        &mut self,
+        alloc: Global,
+        disk: &mut D,
+        spare: Vec<u8>,
+    ) -> Result<Step, ReadErr>
+        // As of `next`, whatever the vector held.
+        ensures gives { (pages : Pages) → IsLogOf (D.tape disk.old)
+            (reader_state self.old).size pages → Knows self.old pages
+            → IsStepIn pages self.old self.new result }
+        ensures leaves { LeavesReader (reader_state self.old) (reader_state self.new) result }
+        ensures behind { StandsAfter (reader_state self.old).size
+            (reader_state self.new).standing result }
+        ensures forgets { OnEnd result (HoldsNoPage self.new) }
+        ensures unread { NeedsNoPage (reader_state self.old) (reader_page self.old)
+            self.old.standing → disk.new ≡ disk.old }
+        ensures spelled { IfOk result GivesSpelled }
+        ensures stopped { IsToldAgain (reader_state self.old).standing result disk.old disk.new }
+
+        ensures uncalled { IsUncalled D.tape D.moment disk.old disk.new }
+        ensures cause { HasReadCause (D.faults disk.old) (D.faults disk.new) result }
+    {
         let from = match self.standing {
             Standing::NotBegun => None,
             Standing::At(at) => Some(at),
@@ -97,7 +125,7 @@ impl Reader {
         let Some(buffers) = &mut self.buffers else {
             unreachable!()
         };
-        match next_given(alloc, buffers, disk, self.start, self.end, from) {
+        match next_given(alloc, spare, buffers, disk, self.start, self.end, from) {
             Ok((found, behind)) => {
                 self.standing = Standing::At(behind);
                 Ok(Step::Record {

@@ -41,6 +41,7 @@ impl PageCache {
     /// Holds a page from now on, where the log has it. A page that is held already is not read
     /// again, and one that ends above address 2^60 counts as not there. Once a read has failed
     /// nothing is held.
+    #[inline(always)]
     pub(crate) fn load<D: Disk>(&mut self, disk: &mut D, page: u64) -> Result<bool, Failed>
         // At true the page asked for is held, as the disk has it.
         ensures held { IfOk result (λ there. IsTrue there → self.new.number ≡ Some page) }
@@ -65,6 +66,23 @@ impl PageCache {
         if self.number == Some(page) {
             return Ok(true);
         }
+        self.read(disk, page)
+    }
+
+    // Holds a page that was not held. A call of its own, so that a page that is held pays nothing
+    // for it.
+    #[inline(never)]
+    fn read<D: Disk>(&mut self, disk: &mut D, page: u64) -> Result<bool, Failed>
+        requires { page < 2 ^ 47 }
+        // As of `load`.
+        ensures held { IfOk result (λ there. IsTrue there → self.new.number ≡ Some page) }
+        ensures nothing_held { OnErr result (self.new.number ≡ None) }
+        ensures loaded { (pages : Pages) → Sees (D.tape disk.old) self.old pages
+            → IfOk result (λ there. IsLoaded (pages page) page there self.new) }
+
+        ensures reads_on { ReadsOn D.tape D.moment disk.old disk.new self.old self.new }
+        ensures cause { HasCause (D.faults disk.old) (D.faults disk.new) result }
+    {
         self.number = None;
         let pages = u64::from(self.geometry.pages());
         let there = disk.read_page(

@@ -36,6 +36,7 @@ pub(crate) fn header_len(geometry: Geometry, page: u64) -> u32
 }
 
 /// The checks of the page that is held, each told at the page's address.
+#[inline(always)]
 pub(crate) fn check_held(cache: &PageCache, page: u64, timeline: u32) -> Result<PageInfo, Answer>
     requires { page < 2 ^ 47 }
     ensures checks { Passes

@@ -23,7 +23,7 @@ use crate::numbers::{u32_at, u64_at};
 use crate::record_extent::RecordExtent;
 use crate::record_place::RecordPlace;
 use byte_position::Geometry;
-use record_decode::{RecErr, decode};
+use record_decode::{RecErr, decode_into};
 use record_spelling::is_free_manager;
 use record_spelling::layout::{HEADER_LEN, RMID_AT};
 use std::alloc::{AllocError, Global};
@@ -51,6 +51,7 @@ pub(crate) fn check_header(start: Lsn, before: Option<Lsn>, header: &[u8]) -> Re
 }
 
 /// Whether a record's CRC is that of its bytes (PostgreSQL's ValidXLogRecord of xlogreader.c).
+#[inline(always)]
 pub(crate) fn check_crc(start: Lsn, bytes: &[u8]) -> Result<(), Answer>
     requires { 24 ≤ length bytes.now }
     ensures { Passes (first_fault (crc_rows start.0 bytes.now)) result }
@@ -62,11 +63,12 @@ pub(crate) fn check_crc(start: Lsn, bytes: &[u8]) -> Result<(), Answer>
 }
 
 /// What the bytes of a record say, and the place behind it: `timeline` is that of the page in which
-/// it ends.
+/// it ends. The record's main data is put into `spare`.
 #[tactic(auto, unfolding(crate::specs::Spelled::IsSpelled))]
 #[inline(always)]
 pub(crate) fn found(
     alloc: Global,
+    spare: Vec<u8>,
     geometry: Geometry,
     start: Lsn,
     extent: RecordExtent,
@@ -91,7 +93,7 @@ pub(crate) fn found(
     ensures behind { IfOk result (λ said. IfOk said (λ read. read.1
         ≡ behind_read geometry extent.at read.0 extent.total timeline)) }
 {
-    match decode(alloc, bytes) {
+    match decode_into(alloc, spare, bytes) {
         Ok(value) => {
             let next = extent.next_position(geometry, &value);
             let found = FoundRecord {

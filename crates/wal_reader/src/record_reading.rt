@@ -40,9 +40,12 @@ use wal_types::Lsn;
 
 /// Reads the record at a place, and answers it with the place behind it, or what stands
 /// in its place. Where an end was given, nothing at or above it is read. Whatever size a record
-/// claims, the room takes no more of it than what pages have that passed their checks.
+/// claims, the room takes no more of it than what pages have that passed their checks. The record's
+/// main data is put into `spare`.
+#[inline(always)]
 pub(crate) fn read_record<D: Disk>(
     alloc: Global,
+    spare: Vec<u8>,
     buffers: &mut Buffers,
     disk: &mut D,
     end: Option<Lsn>,
@@ -75,9 +78,9 @@ pub(crate) fn read_record<D: Disk>(
     let extent = claimed(&buffers.cache, cursor, at, end)?;
     let opened = Gathering { extent, cursor };
     if extent.total <= PAGE_LEN - cursor.offset {
-        read_in_page(alloc, &buffers.cache, opened)
+        read_in_page(alloc, spare, &buffers.cache, opened)
     } else {
-        read_over_pages(alloc, buffers, disk, opened)
+        read_over_pages(alloc, spare, buffers, disk, opened)
     }
 }
 
@@ -85,6 +88,7 @@ pub(crate) fn read_record<D: Disk>(
 #[inline(always)]
 fn read_in_page(
     alloc: Global,
+    spare: Vec<u8>,
     cache: &PageCache,
     opened: Gathering,
 ) -> Result<(FoundRecord, RecordPlace), ReadFailure>
@@ -104,7 +108,15 @@ fn read_in_page(
     let bytes = part_of_page(&cache.bytes, cursor.offset, extent.total);
     check_header(start, extent.at.prev, bytes)?;
     check_crc(start, bytes)?;
-    let read = found(alloc, cache.geometry, start, extent, cursor.timeline, bytes)??;
+    let read = found(
+        alloc,
+        spare,
+        cache.geometry,
+        start,
+        extent,
+        cursor.timeline,
+        bytes,
+    )??;
     Ok(read)
 }
 
@@ -121,6 +133,7 @@ fn part_of_page(page: &[u8; 8192], offset: u32, count: u32) -> &[u8]
 #[inline(never)]
 fn read_over_pages<D: Disk>(
     alloc: Global,
+    spare: Vec<u8>,
     buffers: &mut Buffers,
     disk: &mut D,
     opened: Gathering,
@@ -154,6 +167,14 @@ fn read_over_pages<D: Disk>(
     let cursor = gather(buffers, disk, Gathering { extent, cursor }, extent.total)?;
     check_crc(start, &buffers.room)?;
     let timeline = cursor.timeline;
-    let read = found(alloc, geometry, start, extent, timeline, &buffers.room)??;
+    let read = found(
+        alloc,
+        spare,
+        geometry,
+        start,
+        extent,
+        timeline,
+        &buffers.room,
+    )??;
     Ok(read)
 }

@@ -30,6 +30,7 @@ use wal_types::Lsn;
 
 /// The page in which a record is to start: it is there and passes its checks, and no other record
 /// continues where this one would start.
+#[inline(always)]
 pub(crate) fn open_page<D: Disk>(
     cache: &mut PageCache,
     disk: &mut D,

@@ -1,19 +1,20 @@
 -- The steps of a table that is not begun, and how it ends.
-use Rattle.std.proofs.Common.{get_or, ◌≡◌, ℕ, inl, inr, List, [], ◌∷◌, map, set, slice_index, zero, suc, refl, sym, ap, ◌∙◌, subst}
+use Rattle.std.proofs.Common.{get_or, ◌≡◌, ℕ, inl, inr, List, [], ◌∷◌, map, set, slice_index, zero, suc, refl, sym, ap, ◌∙◌, subst, arith}
 use mathlib.Core.Option.{Option, none, some, some-injective, some-ne-none}
 use lib.ListN.{get_elem?}
 use Rattle.atomic_table.specs.Table.{State, Me, Allows, Final, Seen, gives, rest, takes}
-use Rattle.segment_disk.specs.Tape.{Tape}
+use Rattle.segment_disk.specs.Tape.{IsUncalled, Tape}
 use Rattle.wal_core.specs.Words.{Opening}
-use Rattle.wal_core.specs.Views.{Idle, Turned, Out, Hold, View}
+use Rattle.wal_core.specs.Views.{Idle, Turned, Out, Hold, Plain, View}
 use Rattle.wal_core.specs.Opened.{AreFirstWords, IsFirstWriter, IsOpenable, first_view}
 use Rattle.wal_core.proofs.WordLists.{word_again}
 use Rattle.wal_rule.specs.declared.writer.LogWriter.{LogWriter}
-use Rattle.wal_rule.specs.Beginning.{HoldsRule, IsBeginning, IsUncalledWriter, reading_view, view_before, view_by_home, waiting_view}
+use Rattle.wal_rule.specs.Beginning.{HoldsRule, IsBeginning, IsUnbegunWriter, IsUncalledWriter, reading_view, view_before, view_by_home, waiting_view}
 use Rattle.wal_rule.specs.Ruled.{IsRuled, home_of}
 use Rattle.wal_rule.specs.Slotted.{first_on, slot_disk, slot_plain, slot_segment_size}
 use Rattle.wal_rule.specs.Stepping.{Stands}
 use Rattle.wal_rule.proofs.Opens.{is_of_log, opens}
+use Rattle.wal_rule.proofs.SlotTapes.{same_tape}
 
 module _ {A : Type 0} where
   only_one : (x y : A) (i : ℕ) → get_elem? (x ∷ []) i ≡ some y → (i ≡ 0) × (x ≡ y)
@@ -27,6 +28,25 @@ module _ {A : Type 0} where
       let only = only_one x y i (sym (ap (λ (l : List A). get_elem? l i) is) ∙ at) in
       ap (λ (l : List A). set l i z) is ∙ ap (λ (n : ℕ). set (x ∷ []) n z) only.0
 
+-- of the writer that a view tells: its plain data, and the number that tells where it is
+abbrev told_writer : Plain → Hold → Plain
+told_writer other Idle = other
+told_writer other Turned = other
+told_writer other (Out l) = l.writer
+
+abbrev known_of : Hold → ℕ
+known_of Idle = 0
+known_of Turned = 0
+known_of (Out l) = l.known
+
+-- what a view that waits tells
+same_told : (opening : Opening) (x y : Plain) (n m : ℕ)
+    → waiting_view opening x n ≡ waiting_view opening y m → (x ≡ y) × (n ≡ m)
+same_told opening x y n m is = (
+  ap (λ (v : View). told_writer y v.writing.hold) is,
+  ap (λ (v : View). v.writing.down_set) is,
+)
+
 module _ {D : Type 0} (tape : D → Rattle.std.specs.Prelude.Option Tape) (moment faults : D → ℕ)
     (opening : Opening) (began : Rattle.std.specs.Prelude.Option Tape) where
   abbrev Whole : State (LogWriter D) View → Type 0
@@ -35,26 +55,33 @@ module _ {D : Type 0} (tape : D → Rattle.std.specs.Prelude.Option Tape) (momen
   abbrev Begun : State (LogWriter D) View → Type 0
   Begun s = IsBeginning tape moment faults opening began s.words s.homes s.views
 
-  -- the machine's invariant has no view that is not live and has the turn to write
-  unbegun : (hold : Hold) → (hold ≡ Idle → ⊥) → (count : ℕ)
-      → (s : State (LogWriter D) View) → Whole s → (id : ℕ)
-      → get_elem? s.views id ≡ some (view_before opening hold count) → Begun s
-  unbegun hold busy count s (inl b) id at = b
-  unbegun hold busy count s (inr k) id at = absurd (busy (
-      (((k.sound).grounded id _ at).at_rest refl).1))
+  -- the machine's invariant has no view that is not live and has the writer out
+  unbegun : (writer : Plain) (known count : ℕ) (s : State (LogWriter D) View) → Whole s → (id : ℕ)
+      → get_elem? s.views id ≡ some (view_before opening writer known count) → Begun s
+  unbegun writer known count s (inl b) id at = b
+  unbegun writer known count s (inr k) id at =
+      absurd (not_idle _ (((k.sound).grounded id _ at).at_rest refl).1)
+    where
+      not_idle : (l : _) → Out l ≡ Idle → ⊥
+      not_idle l e = absurd cc
 
-  has_turn : Turned ≡ Idle → ⊥
-  has_turn e = absurd cc
+  -- this is the writer that a view tells
+  abbrev IsTold : View → LogWriter D → Type 0
+  IsTold v w = v ≡ waiting_view v.opening (slot_plain tape moment w) (faults (slot_disk w))
+
+  abbrev told_view : LogWriter D → View
+  told_view w = waiting_view opening (slot_plain tape moment w) (faults (slot_disk w))
 
   -- who waits has the writer at home
-  at_home : (home : Option (LogWriter D)) (count : ℕ)
-      → view_by_home tape moment faults opening began home ≡ waiting_view opening count
-      → (w : LogWriter D) × (home ≡ some w) × (faults (slot_disk w) ≡ count)
-  at_home none count is = absurd (not_turn _ (ap (λ (v : View). v.writing.hold) is))
+  at_home : (home : Option (LogWriter D)) (writer : Plain) (count : ℕ)
+      → view_by_home tape moment faults opening began home ≡ waiting_view opening writer count
+      → (w : LogWriter D) × (home ≡ some w) × IsTold (waiting_view opening writer count) w
+  at_home none writer count is =
+      absurd (not_one (ap (λ (v : View). known_of v.writing.hold) is))
     where
-      not_turn : (l : _) → Out l ≡ Turned → ⊥
-      not_turn l e = absurd cc
-  at_home (some w) count is = (w, refl, ap (λ (v : View). v.writing.down_set) is)
+      not_one : ◌≡◌ {A = ℕ} 0 1 → ⊥
+      not_one e = omega (arith, e)
+  at_home (some w) writer count is = (w, refl, sym is)
 
   -- what a load leaves of the words
   loaded_words : (s : State (LogWriter D) View) → Begun s
@@ -62,19 +89,20 @@ module _ {D : Type 0} (tape : D → Rattle.std.specs.Prelude.Option Tape) (momen
   loaded_words s b = subst (AreFirstWords opening) (sym (word_again s.words 11)) b.words_are
 
   module _ (slots id : ℕ) where
-    -- what a step tells that takes the writer out, to read its disk
-    abbrev Reads : Rattle.std.specs.Prelude.Option Tape → Me (LogWriter D) View
+    -- what a step tells that takes the writer out
+    abbrev TakesOut : Rattle.std.specs.Prelude.Option Tape → Me (LogWriter D) View
         → Me (LogWriter D) View → Type 0
-    Reads told old new = (w : LogWriter D) × IsUncalledWriter tape moment (old.0).opening told w
-        × (faults (slot_disk w) ≡ (old.0).writing.down_set)
-        × (new ≡ (reading_view (old.0).opening, (0, w) ∷ []))
+    TakesOut told old new = (w : LogWriter D) × IsUnbegunWriter tape (old.0).opening told w
+        × IsTold old.0 w × (new ≡ (reading_view (old.0).opening, (0, w) ∷ []))
 
-    goes_out : (count : ℕ) → Allows Whole slots id (waiting_view opening count, []) 11 (λ n. n)
-        (λ r n. Reads began (waiting_view opening count, []) n)
-    goes_out count s h _ here _ =
-        let b = unbegun Turned has_turn count s h id here in
-        let found = at_home b.home count
-        ((only_one _ (waiting_view opening count) id
+    goes_out : (writer : Plain) (count : ℕ)
+        → Allows Whole slots id (waiting_view opening writer count, []) 11 (λ n. n)
+        (λ r n. TakesOut began (waiting_view opening writer count, []) n)
+    goes_out writer count s h _ here _ =
+        let waits : View = waiting_view opening writer count in
+        let b = unbegun writer 1 count s h id here in
+        let found = at_home b.home writer count
+        ((only_one _ waits id
         (sym (ap (λ (vs : List View). get_elem? vs id) b.views_are) ∙ here)).1) in (
           reading_view opening,
           takes 0 found.0,
@@ -84,37 +112,44 @@ module _ {D : Type 0} (tape : D → Rattle.std.specs.Prelude.Option Tape) (momen
             words_are = loaded_words s b;
             home = none;
             homes_are = ap (λ (hs : List (Option (LogWriter D))). set hs 0 none) b.homes_are;
-            uncalled = λ x is. absurd (some-ne-none x (sym is));
-            views_are = set_only s.views _ (waiting_view opening count) (reading_view opening) id
-                b.views_are here;
+            unbegun = λ x is. absurd (some-ne-none x (sym is));
+            views_are = set_only s.views _ waits (reading_view opening) id b.views_are here;
           }),
-          (found.0, b.uncalled found.0 found.1, found.2, refl),
+          (found.0, b.unbegun found.0 found.1, found.2, refl),
         )
 
-    module _ (me : Me (LogWriter D) View) (count : ℕ)
-        (is : me ≡ (waiting_view opening count, []))
+    module _ (me : Me (LogWriter D) View) (writer : Plain) (count : ℕ)
+        (is : me ≡ (waiting_view opening writer count, []))
         (told : Rattle.std.specs.Prelude.Option Tape) (told_is : told ≡ began) where
-      pub goes_to_read : Allows Whole slots id me 11 (λ n. n) (λ r n. Reads told me n)
-      goes_to_read = subst
+      pub takes_out : Allows Whole slots id me 11 (λ n. n) (λ r n. TakesOut told me n)
+      takes_out = subst
           (λ (t : Rattle.std.specs.Prelude.Option Tape). Allows Whole slots id me 11 (λ n. n)
-          (λ r n. Reads t me n)) (sym told_is)
+          (λ r n. TakesOut t me n)) (sym told_is)
           (subst (λ (m : Me (LogWriter D) View). Allows Whole slots id m 11 (λ n. n)
-          (λ r n. Reads began m n)) (sym is) (goes_out count))
+          (λ r n. TakesOut began m n)) (sym is) (goes_out writer count))
 
-      pub went_to_read : (new : Me (LogWriter D) View) → Reads told me new
-          → Reads began (waiting_view opening count, []) new
-      went_to_read new reads = subst (λ (m : Me (LogWriter D) View). Reads began m new) is
-          (subst (λ (t : Rattle.std.specs.Prelude.Option Tape). Reads t me new) told_is reads)
+      -- the writer that it took out
+      pub taken_out : (new : Me (LogWriter D) View) → TakesOut told me new
+          → (w : LogWriter D) × IsUnbegunWriter tape opening began w
+          × (slot_plain tape moment w ≡ writer) × (faults (slot_disk w) ≡ count)
+          × (new ≡ (reading_view opening, (0, w) ∷ []))
+      taken_out new took =
+          let out : TakesOut began (waiting_view opening writer count, []) new =
+          subst (λ (m : Me (LogWriter D) View). TakesOut began m new) is
+          (subst (λ (t : Rattle.std.specs.Prelude.Option Tape). TakesOut t me new) told_is took) in
+          let same = same_told opening writer (slot_plain tape moment out.0) count
+          (faults (slot_disk out.0)) out.2 in
+          (out.0, out.1, sym same.0, sym same.1, out.3)
 
     -- the seat has the writer in hand
-    module _ (w : LogWriter D) (uncalled : IsUncalledWriter tape moment opening began w) where
+    module _ (w : LogWriter D) where
       abbrev in_hand : Me (LogWriter D) View
       in_hand = (reading_view opening, (0, w) ∷ [])
 
       -- the table that the seat finds is not begun
       reads : (s : State (LogWriter D) View) → Whole s
           → get_elem? s.views id ≡ some in_hand.0 → Begun s
-      reads s h here = unbegun _ (λ e. absurd cc) 0 s h id here
+      reads s h here = unbegun _ 0 0 s h id here
 
       -- what comes home
       home_again : (s : State (LogWriter D) View) → Begun s → set s.homes 0 (some w) ≡ some w ∷ []
@@ -133,23 +168,25 @@ module _ {D : Type 0} (tape : D → Rattle.std.specs.Prelude.Option Tape) (momen
         here = refl;
       }
 
-      begun : IsOpenable opening → faults (slot_disk w) ≡ opening.faults → (words : List ℕ)
+      begun : IsUncalledWriter tape moment opening began w → IsOpenable opening
+          → faults (slot_disk w) ≡ opening.faults → (words : List ℕ)
           → AreFirstWords opening words
           → IsRuled tape moment faults opening began words (some w ∷ []) (first_view opening ∷ [])
-      begun new up words first = subst (λ (t : Rattle.std.specs.Prelude.Option Tape).
+      begun uncalled new up words first = subst (λ (t : Rattle.std.specs.Prelude.Option Tape).
           IsRuled tape moment faults opening t words (some w ∷ []) (first_view opening ∷ []))
           uncalled.tape_is (opens tape moment faults opening (slot_disk w) words w (w ∷ []) refl
           (is_of_log tape moment faults opening (slot_disk w) words w refl uncalled.size_is (sym up)
           uncalled.first) new first uncalled.first)
 
-      begins_with : IsOpenable opening → faults (slot_disk w) ≡ opening.faults
+      begins_with : IsUncalledWriter tape moment opening began w → IsOpenable opening
+          → faults (slot_disk w) ≡ opening.faults
           → Allows Whole slots id in_hand 11 (λ n. n)
           (λ r n. (n ≡ (first_view opening, [])) × Stands n.0)
-      begins_with new up s h _ here _ =
+      begins_with uncalled new up s h _ here _ =
           let b = reads s h here in
           let words : List ℕ = set s.words 11 (slice_index s.words 11) in
           let first : View = first_view opening in
-          let k = begun new up words (loaded_words s b) in (
+          let k = begun uncalled new up words (loaded_words s b) in (
             first,
             gives,
             tt,
@@ -162,23 +199,26 @@ module _ {D : Type 0} (tape : D → Rattle.std.specs.Prelude.Option Tape) (momen
           )
 
       pub begins : (me : Me (LogWriter D) View) → me ≡ in_hand
-          → IsOpenable opening → faults (slot_disk w) ≡ opening.faults
+          → IsUncalledWriter tape moment opening began w → IsOpenable opening
+          → faults (slot_disk w) ≡ opening.faults
           → Allows Whole slots id me 11 (λ n. n)
           (λ r n. (n ≡ (first_view (me.0).opening, [])) × Stands n.0)
-      begins me is new up = subst (λ (m : Me (LogWriter D) View).
+      begins me is uncalled new up = subst (λ (m : Me (LogWriter D) View).
           Allows Whole slots id m 11 (λ n. n)
           (λ r n. (n ≡ (first_view (m.0).opening, [])) × Stands n.0)) (sym is)
-          (begins_with new up)
+          (begins_with uncalled new up)
 
       -- what a step tells that gives the writer back
       abbrev Waits : Me (LogWriter D) View → Me (LogWriter D) View → Type 0
-      Waits old new = (x : LogWriter D) → old.1 ≡ (0, x) ∷ []
-          → new ≡ (waiting_view (old.0).opening (faults (slot_disk x)), [])
+      Waits old new = (x : LogWriter D) → old.1 ≡ (0, x) ∷ [] → new
+          ≡ (waiting_view (old.0).opening (slot_plain tape moment x) (faults (slot_disk x)), [])
 
-      comes_back : Allows Whole slots id in_hand 11 (λ n. n) (λ r n. Waits in_hand n)
-      comes_back s h _ here _ =
+      comes_back : IsUnbegunWriter tape opening began w
+          → Allows Whole slots id in_hand 11 (λ n. n) (λ r n. Waits in_hand n)
+      comes_back ours s h _ here _ =
           let b = reads s h here in
-          let waiting : View = waiting_view opening (faults (slot_disk w)) in (
+          let waiting : View =
+          waiting_view opening (slot_plain tape moment w) (faults (slot_disk w)) in (
             waiting,
             gives,
             tt,
@@ -186,79 +226,99 @@ module _ {D : Type 0} (tape : D → Rattle.std.specs.Prelude.Option Tape) (momen
               words_are = loaded_words s b;
               home = some w;
               homes_are = home_again s b;
-              uncalled = λ x is. subst (IsUncalledWriter tape moment opening began)
-                  (some-injective w x is) uncalled;
+              unbegun = λ x is. subst (IsUnbegunWriter tape opening began)
+                  (some-injective w x is) ours;
               views_are = set_only s.views _ in_hand.0 waiting id b.views_are here;
             }),
             (λ x is. ap (λ (c : List (ℕ × LogWriter D)).
-                (waiting_view opening (faults (slot_disk (get_or c 0 (0, w)).1)), [])) is),
+                (told_view (get_or c 0 (0, w)).1, [])) is),
           )
 
       pub waits_again : (me : Me (LogWriter D) View) → me ≡ in_hand
+          → IsUnbegunWriter tape opening began w
           → Allows Whole slots id me 11 (λ n. n) (λ r n. Waits me n)
-      waits_again me is = subst (λ (m : Me (LogWriter D) View).
-          Allows Whole slots id m 11 (λ n. n) (λ r n. Waits m n)) (sym is) comes_back
+      waits_again me is ours = subst (λ (m : Me (LogWriter D) View).
+          Allows Whole slots id m 11 (λ n. n) (λ r n. Waits m n)) (sym is) (comes_back ours)
 
-  pub lends_to_read : (me : Me (LogWriter D) View) (w : LogWriter D)
+  -- a seat has the writer in hand
+  pub has_out : (me : Me (LogWriter D) View) (w : LogWriter D)
       → me ≡ (reading_view opening, (0, w) ∷ []) → me.1 ≡ (0, w) ∷ rest me.1
-  lends_to_read me w is = ap (λ (m : Me (LogWriter D) View). m.1) is
+  has_out me w is = ap (λ (m : Me (LogWriter D) View). m.1) is
       ∙ ap (λ (m : Me (LogWriter D) View). (0, w) ∷ rest m.1) (sym is)
 
-  -- a read of the disk of the writer in hand
-  module _ (me : Me (LogWriter D) View) (w held now : LogWriter D)
-      (uncalled : IsUncalledWriter tape moment opening began w)
+  -- the writer in hand is called
+  module _ (me : Me (LogWriter D) View) (w held : LogWriter D)
       (is : me ≡ (reading_view opening, (0, w) ∷ [])) (lent_is : me.1 ≡ (0, held) ∷ rest me.1)
     where
       pub lent_writer : w ≡ held
       lent_writer = ap (λ (c : List (ℕ × LogWriter D)). (get_or c 0 (0, w)).1)
           (sym (ap (λ (m : Me (LogWriter D) View). m.1) is) ∙ lent_is)
 
-      pub read_still : slot_plain tape moment now ≡ slot_plain tape moment held
-          → tape (slot_disk now) ≡ tape (slot_disk held)
-          → slot_segment_size now ≡ slot_segment_size held
-          → IsUncalledWriter tape moment opening began now
-      read_still same same_tape size =
-          let was = subst (IsUncalledWriter tape moment opening began) lent_writer uncalled in
-          record {
-            first = subst (IsFirstWriter opening) (sym same) was.first;
-            size_is = size ∙ was.size_is;
-            tape_is = same_tape ∙ was.tape_is;
-          }
-
-      pub in_hand_still : ◌≡◌ {A = Me (LogWriter D) View} (me.0, (0, now) ∷ rest me.1)
+      pub in_hand_still : (now : LogWriter D)
+          → ◌≡◌ {A = Me (LogWriter D) View} (me.0, (0, now) ∷ rest me.1)
           (reading_view opening, (0, now) ∷ [])
-      in_hand_still = ap (λ (m : Me (LogWriter D) View). (m.0, (0, now) ∷ rest m.1)) is
+      in_hand_still now = ap (λ (m : Me (LogWriter D) View). (m.0, (0, now) ∷ rest m.1)) is
 
-  -- a table that ends while its seat waits
-  pub ends_waiting : (id count : ℕ) (v : View) → v ≡ waiting_view opening count
-      → (words : List ℕ) (slots : List (LogWriter D)) (w : LogWriter D)
-      → Final (Seen Whole id v) words slots → get_elem? slots 0 ≡ some w
-      → IsUncalledWriter tape moment opening began w × (faults (slot_disk w) ≡ count)
-  ends_waiting id count v is words slots w end taken =
+  -- it was read
+  pub read_still : (held now : LogWriter D) → IsUncalledWriter tape moment opening began held
+      → slot_plain tape moment now ≡ slot_plain tape moment held
+      → tape (slot_disk now) ≡ tape (slot_disk held)
+      → slot_segment_size now ≡ slot_segment_size held
+      → IsUncalledWriter tape moment opening began now
+  read_still held now was same same_tapes size = record {
+    first = subst (IsFirstWriter opening) (sym same) was.first;
+    size_is = size ∙ was.size_is;
+    tape_is = same_tapes ∙ was.tape_is;
+  }
+
+  -- two writers of one table that is not begun, which are the same as the machine sees them
+  same_calls : (w x : LogWriter D) → IsUnbegunWriter tape opening began w
+      → IsUnbegunWriter tape opening began x → slot_plain tape moment x ≡ slot_plain tape moment w
+      → IsUncalled tape moment (slot_disk w) (slot_disk x)
+  same_calls w x ours too same = record {
+    same_tape = same_tape (tape (slot_disk x)) (tape (slot_disk w))
+        (too.on_first ∙ sym ours.on_first) (ap (λ (p : Plain). p.calls) same);
+    same_moment = ap (λ (p : Plain). p.moment) same;
+  }
+
+  -- a table that ends while its seat waits: the disk is that of the writer that the view tells
+  pub ends_waiting : (w : LogWriter D) → IsUnbegunWriter tape opening began w → (id : ℕ) (v : View)
+      → v ≡ waiting_view opening (slot_plain tape moment w) (faults (slot_disk w))
+      → (words : List ℕ) (slots : List (LogWriter D)) (x : LogWriter D)
+      → Final (Seen Whole id v) words slots → get_elem? slots 0 ≡ some x
+      → IsUncalled tape moment (slot_disk w) (slot_disk x)
+      × (faults (slot_disk x) ≡ faults (slot_disk w))
+  ends_waiting w ours id v is words slots x end taken =
+      let plain = slot_plain tape moment w in
+      let count = faults (slot_disk w) in
       let s = end.0 in
-      let here : get_elem? s.views id ≡ some (waiting_view opening count) =
+      let here : get_elem? s.views id ≡ some (waiting_view opening plain count) =
       (end.1).1 ∙ ap (λ (x : View). some x) is in
-      let b = unbegun Turned has_turn count s (end.1).0 id here in
-      let found = at_home b.home count
-      ((only_one _ (waiting_view opening count) id
+      let b = unbegun plain 1 count s (end.1).0 id here in
+      let found = at_home b.home plain count
+      ((only_one _ (waiting_view opening plain count) id
       (sym (ap (λ (vs : List View). get_elem? vs id) b.views_are) ∙ here)).1) in
-      let same : found.0 ≡ w = some-injective found.0 w (sym (end.4 0 found.0
+      let told = same_told opening plain (slot_plain tape moment found.0) count
+      (faults (slot_disk found.0)) found.2 in
+      let same : found.0 ≡ x = some-injective found.0 x (sym (end.4 0 found.0
       (ap (λ (hs : List (Option (LogWriter D))). get_elem? hs 0) b.homes_are
       ∙ ap (λ (x : Option (LogWriter D)). some x) found.1)) ∙ taken) in
-      subst (λ (x : LogWriter D). IsUncalledWriter tape moment opening began x
-      × (faults (slot_disk x) ≡ count)) same (b.uncalled found.0 found.1, found.2)
+      subst (λ (y : LogWriter D). IsUncalled tape moment (slot_disk w) (slot_disk y)
+      × (faults (slot_disk y) ≡ faults (slot_disk w))) same
+      (same_calls w found.0 ours (b.unbegun found.0 found.1) (sym told.0), sym told.1)
 
-  -- a table whose writer is at home and has called nothing is not begun
+  -- a table whose writer is at home is not begun
   pub waits : (words : List ℕ) (items : List (LogWriter D)) (w : LogWriter D) → items ≡ w ∷ []
-      → AreFirstWords opening words → IsUncalledWriter tape moment opening began w
+      → AreFirstWords opening words → IsUnbegunWriter tape opening began w
+      → (writer : Plain) → writer ≡ slot_plain tape moment w
       → (count : ℕ) → count ≡ faults (slot_disk w)
       → HoldsRule tape moment faults opening began words (map some items)
-      (waiting_view opening count ∷ [])
-  waits words items w are first uncalled count count_is = inl (record {
+      (waiting_view opening writer count ∷ [])
+  waits words items w are first ours writer writer_is count count_is = inl (record {
     words_are = first;
     home = some w;
     homes_are = ap (λ (xs : List (LogWriter D)). map some xs) are;
-    uncalled = λ x is. subst (IsUncalledWriter tape moment opening began)
-        (some-injective w x is) uncalled;
-    views_are = ap (λ (n : ℕ). waiting_view opening n ∷ []) count_is;
+    unbegun = λ x is. subst (IsUnbegunWriter tape opening began) (some-injective w x is) ours;
+    views_are = ap (λ (p : Plain). waiting_view opening p count ∷ []) writer_is
+        ∙ ap (λ (n : ℕ). waiting_view opening (slot_plain tape moment w) n ∷ []) count_is;
   })

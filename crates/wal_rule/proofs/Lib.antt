@@ -4,6 +4,7 @@ pub mod Steady
 pub mod SeatedSteps
 pub mod Allowed
 pub mod Opens
+pub mod Founds
 pub mod Begins
 pub mod Live
 pub mod CallsEnd

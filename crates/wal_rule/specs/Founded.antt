@@ -1,9 +1,15 @@
--- What is fixed when a table is made, of a log that holds nothing or of one that was found.
-use Rattle.std.specs.Prelude.{ℕ, List, []}
+-- What is fixed when a table is made, of a log that holds nothing or of one that was found. Where
+-- something was found, the disk is settled behind that: so what is fixed names the disk as it was
+-- handed in, and the moment at which the log is opened, behind the settling.
+use Rattle.std.specs.Prelude.{ℕ, List, [], Option}
+use Rattle.segment_disk.specs.Tape.{Tape}
+use Rattle.flush_core.specs.Planned.{settled_tape}
 use Rattle.wal_page.specs.Order.{Entry}
 use Rattle.wal_core.specs.declared.setup.Setup.{Setup}
-use Rattle.wal_core.specs.Words.{Opening}
+use Rattle.wal_core.specs.Views.{Plain}
+use Rattle.wal_core.specs.Words.{Opening, found_end}
 use Rattle.wal_rule.specs.declared.seats.Founding.{Founding}
+use Rattle.wal_rule.specs.Slotted.{resting_plain}
 
 -- what is fixed of a log in which these entries were found, in segments from 1 up to the last made
 abbrev pub found_log_opening : Setup → List Entry → (made moment faults : ℕ) → Opening
@@ -18,6 +24,16 @@ abbrev pub founded_opening : {D : Type 0} → Founding D → Opening
 founded_opening founding = found_log_opening founding.setup (founding.found).entries
     founding.made founding.moment founding.faults
 
--- the disk as it was then
+-- the disk as it was handed in
 abbrev pub disk_of_founding : {D : Type 0} → Founding D → D
 disk_of_founding founding = (founding.disk).value
+
+-- its tape at the opening: as it was handed in, with the calls behind it that settle what was found
+unfoldable pub began_of_founding : {D : Type 0} → (D → Option Tape) → Founding D → Option Tape
+began_of_founding tape founding = settled_tape (founding.setup).segment_size
+    (found_end (founded_opening founding)) founding.made (tape (disk_of_founding founding))
+
+-- the writer that goes on behind what was found, on the disk as it was handed in
+abbrev pub founded_plain : {D : Type 0} → (D → Option Tape) → (D → ℕ) → Founding D → Plain
+founded_plain tape moment founding = resting_plain (tape (disk_of_founding founding))
+    (moment (disk_of_founding founding)) (found_end (founded_opening founding)) founding.made

@@ -41,6 +41,18 @@ slot_plain tape moment w = record {
   fault = as_machine_has w.fault;
 }
 
+-- a writer that has met no fault, and of which nothing waits for a sync: on a disk with this tape,
+-- at this moment, with the log written up to an address in the segments up to the last one made
+abbrev pub resting_plain : Rattle.std.specs.Prelude.Option Tape → (moment written made : ℕ) → Plain
+resting_plain t moment written made = record {
+  calls = calls_of t;
+  moment = moment;
+  written = written;
+  made = made;
+  waiting = none;
+  fault = none;
+}
+
 -- what a tape says that the disk held at first; no segment where none is told
 abbrev pub first_on : Rattle.std.specs.Prelude.Option Tape → DiskState
 first_on None = empty_state

@@ -1,4 +1,4 @@
--- What a table is of: the log that was opened so, on a disk with this tape.
+-- What a table is of: the log that was opened so, on a disk that had this tape then.
 use Rattle.std.specs.Prelude.{Option}
 use Rattle.atomic_table.specs.Seated.{TableId}
 use Rattle.atomic_table.specs.declared.shared.Seat.{Seat}
@@ -8,7 +8,7 @@ use Rattle.wal_core.specs.declared.setup.Setup.{Setup}
 use Rattle.wal_rule.specs.declared.table.LogTable.{LogTable}
 use Rattle.wal_rule.specs.declared.pass.Pass.{Pass}
 use Rattle.wal_rule.specs.declared.writer.LogWriter.{LogWriter}
-use Rattle.wal_rule.specs.Founded.{disk_of_founding, founded_opening}
+use Rattle.wal_rule.specs.Founded.{began_of_founding, founded_opening}
 use Rattle.wal_core.specs.Views.{View}
 use Rattle.wal_rule.specs.Passes.{IsPassOf}
 use Rattle.wal_rule.specs.Stepping.{IsSeatOf}
@@ -21,7 +21,7 @@ abbrev pub opening_of_table : {D : Type 0} → LogTable D → Opening
 opening_of_table t = founded_opening ((t.table).shared).key
 
 abbrev pub began_of_table : {D : Type 0} → (D → Option Tape) → LogTable D → Option Tape
-began_of_table tape t = tape (disk_of_founding ((t.table).shared).key)
+began_of_table tape t = began_of_founding tape ((t.table).shared).key
 
 -- how it was set up
 abbrev pub setup_of_table : {D : Type 0} → LogTable D → Setup

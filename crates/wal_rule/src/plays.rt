@@ -7,14 +7,14 @@ ghost use mathlib.Core.Option.{none};
 ghost use Rattle.segment_disk.specs.Tape.{Tape};
 ghost use Rattle.flush_core.specs.declared.writer.DiskFault.{DiskFault};
 ghost use Rattle.wal_core.specs.Steps.{StepKind, load_position, slot_in, view_behind};
-ghost use Rattle.wal_rule.specs.Beginning.{IsUncalledWriter, reading_view, waiting_view};
+ghost use Rattle.wal_rule.specs.Beginning.{IsUnbegunWriter, reading_view, waiting_view};
 ghost use Rattle.wal_rule.specs.Called.{DeviceCall, DeviceCallEnds, syncs};
 ghost use Rattle.wal_rule.specs.Ruled.{IsOutOf};
 ghost use Rattle.wal_core.specs.Views.{View};
 ghost use Rattle.wal_core.specs.Opened.{first_view};
 ghost use Rattle.wal_rule.specs.Passes.{no_view};
 ghost use Rattle.wal_core.specs.Moves.{after_join, after_split, orphan_of, split_off, without_work};
-ghost use Rattle.wal_rule.specs.Slotted.{slot_disk};
+ghost use Rattle.wal_rule.specs.Slotted.{slot_disk, slot_plain};
 ghost use Rattle.wal_rule.specs.Stepping.{Meets, Stands};
 
 use crate::seats::PassView;
@@ -116,17 +116,17 @@ impl<D> Play<LogWriter<D>, PassView> for SlotIn {
     ghost then = { λ st m r n. (n ≡ (view_behind m.0 slot_in r none, [])) × Stands n.0 };
 }
 
-/// The writer of a table that is not begun goes out, and its disk may be read.
-pub struct GoesToRead<D, B: BeganOn> {
+/// The writer of a table that is not begun goes out, and its disk may be read or settled: it is the
+/// one that the view told.
+pub struct GoesOut<D, B: BeganOn> {
     disk: PhantomData<D>,
     began: PhantomData<B>,
 }
 
-impl<D: Disk, B: BeganOn> Play<LogWriter<D>, PassView> for GoesToRead<D, B> {
-    ghost then = { λ st m r n. (w : _)
-        × IsUncalledWriter D.tape D.moment (m.0).opening B.began w
-        × (D.faults (slot_disk w) ≡ (m.0).writing.down_set)
-        × (n ≡ (reading_view (m.0).opening, (0, w) ∷ [])) };
+impl<D: Disk, B: BeganOn> Play<LogWriter<D>, PassView> for GoesOut<D, B> {
+    ghost then = { λ st m r n. (w : _) × IsUnbegunWriter D.tape (m.0).opening B.began w
+        × (m.0 ≡ waiting_view (m.0).opening (slot_plain D.tape D.moment w)
+        (D.faults (slot_disk w))) × (n ≡ (reading_view (m.0).opening, (0, w) ∷ [])) };
 }
 
 /// The writer comes back, and the table is begun.
@@ -143,7 +143,10 @@ pub struct WaitsAgain<D> {
 
 impl<D: Disk> Play<LogWriter<D>, PassView> for WaitsAgain<D> {
     ghost then = { λ st m r n. (w : _) → m.1 ≡ (0, w) ∷ []
-        → n ≡ (waiting_view (m.0).opening (D.faults (slot_disk w)), []) };
+        → n ≡ (
+          waiting_view (m.0).opening (slot_plain D.tape D.moment w) (D.faults (slot_disk w)),
+          [],
+        ) };
 }
 
 /// A load that changes nothing of what the pass knows.

@@ -2,12 +2,15 @@
 // changes by the seat's own steps, and by no other seat's: it has what the seat holds (locks,
 // turns, the writer), how far it is with what it is about, and what it has met. What the words hold
 // now follows from it by the table's rule alone. What is told once (`Founding`) is the table's key:
-// it never changes, so each seat's steps speak of the same log and of the same opening.
-ghost use Rattle.std.specs.Prelude.{◌≡◌};
+// it never changes, so each seat's steps speak of the same log and of the same opening. A log that
+// was found is settled behind that, with the table made: so its moment is told ahead, by the plan.
+ghost use Rattle.std.specs.Prelude.{◌≡◌, ◌+◌, ◌<◌, ◌^◌};
+ghost use Rattle.flush_core.specs.Planned.{call_count};
 ghost use Rattle.wal_rule.specs.Founded.{disk_of_founding, empty_log_opening, found_log_opening, founded_opening};
 ghost use Rattle.wal_core.specs.Views.{View};
 
 use crate::found::FoundEntries;
+use flush_core::SettlePlan;
 use segment_disk::Disk;
 use std::marker::{Model, PhantomData};
 use std::snapshot::Snapshot;
@@ -32,8 +35,8 @@ impl Model for PassView {
 }
 
 /// What is fixed of a table: how its log was set up, the entries that were found in it and the last
-/// segment that was made of it, and its disk's moment, count of faults and content when it was
-/// opened.
+/// segment that was made of it; its disk as it was handed in, with its count of faults; and the
+/// disk's moment when the log is opened, which for one that was found is behind the settling.
 #[derive(Drop)]
 pub struct Founding<D> {
     pub setup: Setup,
@@ -52,21 +55,39 @@ impl<D: Disk> Founding<D> {
             ≡ empty_log_opening setup (D.moment disk.now) (D.faults disk.now) }
         ensures disk { disk_of_founding result ≡ disk.now }
     {
-        Founding::of_found(setup, disk, FoundEntries::none(), 0)
+        Founding::at(setup, disk, FoundEntries::none(), 0, disk.moment())
     }
 
     /// What is to be fixed of a table for a log that was found on this disk, in segments from 1 up
-    /// to `made`. It makes no device call.
-    pub fn of_found(setup: Setup, disk: &D, found: FoundEntries, made: u64) -> Founding<D>
+    /// to `made`, and is opened once it was settled by the plan. It makes no device call.
+    pub fn of_found(
+        setup: Setup,
+        disk: &D,
+        found: FoundEntries,
+        made: u64,
+        plan: &SettlePlan,
+    ) -> Founding<D>
         ensures opening { founded_opening result ≡ found_log_opening setup found.entries made
-            (D.moment disk.now) (D.faults disk.now) }
+            result.moment (D.faults disk.now) }
+        // The moment behind the planned calls, where there is one.
+        ensures moment { D.moment disk.now + call_count plan.now < 2 ^ 64
+            → result.moment ≡ D.moment disk.now + call_count plan.now }
+        ensures disk { disk_of_founding result ≡ disk.now }
+    {
+        let moment = plan.moment_behind(disk.moment());
+        Founding::at(setup, disk, found, made, moment)
+    }
+
+    fn at(setup: Setup, disk: &D, found: FoundEntries, made: u64, moment: u64) -> Founding<D>
+        ensures opening { founded_opening result
+            ≡ found_log_opening setup found.entries made moment (D.faults disk.now) }
         ensures disk { disk_of_founding result ≡ disk.now }
     {
         Founding {
             setup,
             found,
             made,
-            moment: disk.moment(),
+            moment,
             faults: disk.faults(),
             disk: Snapshot::of(disk),
         }

@@ -7,8 +7,8 @@
 // nobody has to hold a lock to load a word, and what a load tells is told by the rule.
 ghost use Rattle.std.specs.Prelude.{◌≡◌};
 ghost use Rattle.wal_core.specs.Words.{word_count};
-ghost use Rattle.wal_rule.specs.Beginning.{HoldsRule, waiting_view};
-ghost use Rattle.wal_rule.specs.Founded.{disk_of_founding, founded_opening};
+ghost use Rattle.wal_rule.specs.Beginning.{HoldsRule, founded_view};
+ghost use Rattle.wal_rule.specs.Founded.{began_of_founding, founded_opening};
 
 use crate::seats::{Founding, PassView};
 use crate::writer::LogWriter;
@@ -25,9 +25,9 @@ pub struct LogRule<D> {
 
 impl<D: Disk> TableRule<LogWriter<D>, PassView, Founding<D>> for LogRule<D> {
     ghost holds = { λ key s. HoldsRule D.tape D.moment D.faults (founded_opening key)
-        (D.tape (disk_of_founding key)) s.words s.homes s.views };
+        (began_of_founding D.tape key) s.words s.homes s.views };
 
-    ghost first = { λ key. waiting_view (founded_opening key) key.faults };
+    ghost first = { λ key. founded_view D.tape D.moment key };
 }
 
 /// A seat of the table: what one backend steps with.

@@ -4,20 +4,22 @@
 // raises `written`; one that failed does not, but where it was counted its segment waits for a
 // sync, since the disk may have any word of it. A sync that failed leaves the segment waiting.
 // Behind a fault nothing more may be called: this is not checked here but asked by the table's
-// calls (`may`).
-ghost use Rattle.std.specs.Prelude.{◌≡◌, ◌↔◌, ◌*◌, ◌/◌, ◌<◌, ◌≤◌, ◌^◌, length, IfOk, IfSome, IsSome, IsTrue, Some};
+// calls (`may`). Before the table is begun the writer may be called otherwise: page 0 of segment 1
+// is read, or the log is settled.
+ghost use Rattle.std.specs.Prelude.{◌≡◌, ◌↔◌, ℕ, ◌+◌, ◌*◌, ◌/◌, ◌<◌, ◌≤◌, ◌^◌, length, IfOk, IfSome, IsSome, IsTrue, OnErr, OnOk, Some};
 ghost use Rattle.byte_position.specs.Geometry.{pages_of};
+ghost use Rattle.flush_core.specs.Planned.{IsPlanOf, call_count};
+ghost use Rattle.flush_core.specs.Settled.{HasNotSettled, HasSettled};
 ghost use Rattle.segment_disk.specs.Cause.{HasCause};
 ghost use Rattle.segment_disk.specs.Tape.{IsUncalled, create_call, page_of_segment, state_now, sync_call, write_call};
 ghost use Rattle.wal_core.specs.declared.setup.Setup.{Setup};
 ghost use Rattle.wal_core.specs.Moves.{after_create, after_sync, after_write};
 ghost use Rattle.wal_core.specs.Opened.{IsFirstWriter};
-ghost use Rattle.wal_core.specs.Words.{Opening, found_end};
 ghost use Rattle.wal_rule.specs.Founded.{empty_log_opening};
-ghost use Rattle.wal_rule.specs.Slotted.{calls_of, CallEnds, as_machine_has, slot_disk, slot_plain, slot_segment_size};
+ghost use Rattle.wal_rule.specs.Slotted.{calls_of, CallEnds, as_machine_has, resting_plain, slot_disk, slot_plain, slot_segment_size};
 
 use byte_position::{Geometry, PAGE_SIZE};
-use flush_core::DiskFault;
+use flush_core::{DiskFault, SettlePlan};
 use segment_disk::{Disk, Failed};
 
 /// What is written of a log, on its disk, by one device call at a time (PostgreSQL's xlog.c,
@@ -46,6 +48,7 @@ impl<D: Disk> LogWriter<D> {
             → IsFirstWriter (empty_log_opening setup (D.moment disk) (D.faults disk))
             (slot_plain D.tape D.moment result) }
     {
+        moments_count_calls(&disk);
         let start = geometry.segment_size();
         LogWriter::resume(disk, geometry, start, 0)
     }
@@ -55,12 +58,10 @@ impl<D: Disk> LogWriter<D> {
     pub fn resume(disk: D, geometry: Geometry, written: u64, made: u64) -> LogWriter<D>
         ensures disk { slot_disk result ≡ disk }
         ensures size { slot_segment_size result ≡ geometry }
-        // For each log that is opened so, at the disk's moment, it is the writer to begin with.
-        ensures first { (opening : Opening) → opening.moment ≡ D.moment disk
-            → found_end opening ≡ written → opening.made ≡ made
-            → IsFirstWriter opening (slot_plain D.tape D.moment result) }
+        // Nothing waits for a sync, and no fault was met.
+        ensures plain { slot_plain D.tape D.moment result
+            ≡ resting_plain (D.tape disk) (D.moment disk) written made }
     {
-        moments_count_calls(&disk);
         LogWriter {
             disk,
             geometry,
@@ -195,6 +196,38 @@ impl<D: Disk> LogWriter<D> {
         read_first_page(&mut self.disk, self.geometry)
     }
 
+    /// Settles the log on its disk: makes the planned calls, and no other.
+    pub(crate) fn settle(&mut self, plan: &SettlePlan) -> Result<(), Failed>
+        // Of a plan for the disk as it is now.
+        ensures settled { (size end count : ℕ)
+            → IsPlanOf size end count (D.tape (slot_disk self.old)) plan.now
+            → OnOk result (HasSettled size end count (D.tape (slot_disk self.old))
+            (D.tape (slot_disk self.new)) (D.moment (slot_disk self.old))
+            (D.moment (slot_disk self.new))) }
+        ensures stopped { (size end count : ℕ)
+            → IsPlanOf size end count (D.tape (slot_disk self.old)) plan.now
+            → OnErr result (HasNotSettled size end (D.tape (slot_disk self.old))
+            (D.tape (slot_disk self.new)) (D.moment (slot_disk self.old))
+            (D.moment (slot_disk self.new))) }
+        ensures counted { OnOk result (D.moment (slot_disk self.new)
+            ≡ D.moment (slot_disk self.old) + call_count plan.now) }
+        ensures low { D.moment (slot_disk self.new) < 2 ^ 64 }
+        // Only the disk has changed.
+        ensures plain { slot_plain D.tape D.moment self.new
+            ≡ record (slot_plain D.tape D.moment self.old) {
+              calls = calls_of (D.tape (slot_disk self.new));
+              moment = D.moment (slot_disk self.new);
+            } }
+        ensures size { slot_segment_size self.new ≡ slot_segment_size self.old }
+        ensures cause { HasCause (D.faults (slot_disk self.old)) (D.faults (slot_disk self.new))
+            result }
+    {
+        let mut page = [0; PAGE_SIZE as usize];
+        let result = plan.settle(&mut self.disk, &mut page);
+        moment_of(&self.disk);
+        result
+    }
+
     // Keeps the disk's count of faults.
     fn fail(&mut self, _failed: Failed) -> DiskFault
         ensures told { result.faults ≡ D.faults self.old.disk }
@@ -225,7 +258,15 @@ fn has_address(geometry: Geometry, address: u64, segment: u64)
     prove!(segment <= address / geometry.segment_size());
 }
 
+// A disk's moment is a number of 64 bits: what tells it answers one.
+fn moment_of<D: Disk>(disk: &D) -> u64
+    ensures value { result ≡ D.moment disk.now }
+    ensures low { D.moment disk.now < 2 ^ 64 }
+{
+    disk.moment()
+}
+
 // A disk's moment is the number of its counted calls: a law of its trait.
 fn moments_count_calls<D: Disk>(disk: &D)
-    ensures { IfSome (calls_of (D.tape disk.now)) (λ calls. D.moment disk.now ≡ length calls) }
+    ensures { IfSome (D.tape disk.now) (λ t. D.moment disk.now ≡ length t.calls) }
 {}

@@ -17,8 +17,8 @@ use Rattle.wal_stream.specs.declared.standby.Standby.{Standby}
 
 -- ---- what it holds
 
--- up to where it has the log, its disk, the disk's count of faults when it failed, and its own page,
--- in which the log ends
+-- up to where it has the log, its disk, the disk's count of faults when it failed, and its own
+-- page, in which the log ends
 abbrev pub standby_end : {D : Type 0} → Standby D → ℕ
 standby_end s = written_of s.writer
 
@@ -128,7 +128,8 @@ pub record FailsToTake {D : Type 0} (tape : D → Option Tape) (moment faults : 
   pub up : standby_fault old ≡ None
   pub sent : SentPage
   pub extends : Extends old bytes sent
-  pub failed : HasNotPut tape moment faults old.writer new.writer told sent.page sent.upto sent.bytes
+  pub failed : HasNotPut tape moment faults old.writer new.writer told sent.page sent.upto
+      sent.bytes
   pub keeps : KeepsBehindPut tape old.writer new.writer sent.page sent.bytes
   pub own : own_page new ≡ own_page old
   pub kind : IsSameKind old new
@@ -146,7 +147,8 @@ AnswersFrame tape moment faults old new bytes (Ok (Taken upto)) =
     AnswersTaken tape moment faults old new bytes upto.0
 AnswersFrame tape moment faults old new bytes (Err Bad) = AnswersBad old new bytes
 AnswersFrame tape moment faults old new bytes (Err (Gap at)) = AnswersGap old new bytes at.0
-AnswersFrame tape moment faults old new bytes (Err (Diverged at)) = AnswersDiverged old new bytes at.0
+AnswersFrame tape moment faults old new bytes (Err (Diverged at)) =
+    AnswersDiverged old new bytes at.0
 AnswersFrame tape moment faults old new bytes (Err (Disk told)) =
     FailsToTake tape moment faults old new bytes told ⊎ RepeatsFault old new told
 

@@ -1,6 +1,6 @@
-// Frames. A link may lose, repeat, reorder and cut them, so each names its place and its length, and
-// has a checksum of its own (PostgreSQL's walsender.c sends stretches of the log over a connection
-// that keeps them whole and in order).
+// Frames. A link may lose, repeat, reorder and cut them, so each names its place and its length,
+// and has a checksum of its own (PostgreSQL's walsender.c sends stretches of the log over a
+// connection that keeps them whole and in order).
 ghost use Rattle.std.specs.Prelude.{◌≡◌, ◌+◌, ◌*◌, ◌%◌, ◌^◌, ◌<◌, ◌≤◌, ◌↔◌, All, IfNone, IfSome, IsTrue, length};
 ghost use Rattle.std.specs.Int.{w64};
 ghost use Rattle.flush_core.specs.Settled.{cleared};

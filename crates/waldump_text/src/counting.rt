@@ -28,14 +28,16 @@ pub(crate) fn tally_log<D: Disk>(
     let _size = geometry.segment_size();
     let mut reader = Reader::new(geometry, filter.start, filter.end);
     let mut tally = Tally::new();
+    let mut spare = Vec::new(alloc);
     'records: while !filter.is_full(tally.all.records) {
-        let step = reader.next(alloc, disk)?;
+        let step = reader.next_into(alloc, disk, spare)?;
         let Some(listed) = listed_in(step) else {
             return Ok(tally);
         };
         if filter.keeps(&listed) {
             tally.add(&listed);
         }
+        spare = listed.value.main.into_vec();
     }
     Ok(tally)
 }

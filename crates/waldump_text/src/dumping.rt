@@ -95,9 +95,10 @@ fn dump_lines<D: Disk, O: Sink>(
     let _size = geometry.segment_size();
     let mut reader = Reader::new(geometry, filter.start, filter.end);
     let mut buffer = LineBuffer::new();
+    let mut spare = Vec::new(alloc);
     let mut count = 0;
     'records: while !filter.is_full(count) {
-        let step = reader.next(alloc, disk)?;
+        let step = reader.next_into(alloc, disk, spare)?;
         let Some(listed) = listed_in(step) else {
             return Ok(count);
         };
@@ -105,6 +106,7 @@ fn dump_lines<D: Disk, O: Sink>(
             print(&mut buffer, filter, &listed, out)?;
             count += 1;
         }
+        spare = listed.value.main.into_vec();
     }
     Ok(count)
 }

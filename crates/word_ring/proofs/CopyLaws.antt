@@ -1,6 +1,6 @@
 -- The next word of a copy: whether one is left, where its place in the ring is, and what it is; and
 -- runs of such words on one page.
-use Rattle.std.proofs.Common.{◌≡◌, ℕ, ◌+◌, ◌-◌, ◌*◌, ◌/◌, ◌%◌, ◌<◌, ◌≤◌, map, refl, sym, ap, ◌∙◌, subst, arith}
+use Rattle.std.proofs.Common.{◌≡◌, ℕ, ◌+◌, ◌-◌, ◌*◌, ◌/◌, ◌%◌, ◌<◌, ◌≤◌, List, length, slice_index, map, refl, sym, ap, ◌∙◌, subst, arith}
 use Rattle.std.proofs.Math.Logic.{∥∥₁_elim}
 use Rattle.std.specs.Coded.{Coded-set, coded_ℕ, le_prop, ×_prop}
 use Rattle.atomic_table.proofs.Lists.{at_map}
@@ -9,14 +9,14 @@ use Rattle.wal_page.specs.Placed.{PlacedState, placed_end, placed_word}
 use Rattle.wal_core.specs.declared.setup.Setup.{Setup}
 use Rattle.wal_core.specs.Words.{Opening}
 use Rattle.wal_core.specs.Ringed.{IsOfOrder}
-use Rattle.wal_core.specs.Views.{Copy, Copying, Flight, HasAt, flight_of, View}
-use Rattle.wal_core.specs.Steps.{ring_number, ring_place, next_value, number_of_next, store_ring_word, MayStep, value_behind, word_of_step}
+use Rattle.wal_core.specs.Views.{Copy, Copying, Flight, HasAt, Landed, flight_of, View}
+use Rattle.wal_core.specs.Steps.{ring_number, ring_place, next_value, number_of_next}
 use Rattle.machine_laws.proofs.RingLaws.{copy-whole, first_word-whole, last_word-ends}
 use Rattle.wal_rule.specs.declared.seated.SeatedPass.{SeatedPass}
 use Rattle.wal_rule.specs.SeatedPasses.{HasView, hand_of, setup_of, view_of}
 use Rattle.wal_rule.specs.Stepping.{Stands}
-use Rattle.word_ring.specs.CopyRuns.{HasCopied, MayCopy}
-use Rattle.word_ring.proofs.Steps.{same_setup, view_is}
+use Rattle.word_ring.specs.CopyRuns.{HasCopied, MayCopy, MayStoreRun, StoresNext}
+use Rattle.word_ring.proofs.Steps.{has_same_view, same_setup, then_view, view_is}
 use Rattle.word_ring.specs.Copied.{IsPlaceOf, IsRestOf, copied_view, further, page_end_at, rest_of}
 
 module _ (v : View) (stands : Stands v) (c : Copy) (is : (v.working).flight ≡ Copying c) where
@@ -96,12 +96,6 @@ pub same_page_end : (next n : ℕ) → next + 8 * n < page_end_at next
 same_page_end next n within =
     let page : (next + 8 * n) / 8192 ≡ next / 8192 = omega arith in
     ap (λ (k : ℕ). (k + 1) * 8192) page
-
--- a view may store this word at this place, as the next one of its copy
-pub record StoresNext (v : View) (place word : ℕ) : Type 0 where
-  pub place_is : place ≡ word_of_step v store_ring_word
-  pub may : MayStep v store_ring_word
-  pub word_is : word ≡ value_behind v store_ring_word 0
 
 -- ---- the words that are left of a pass's copy
 
@@ -228,3 +222,54 @@ run_stores count place p q a n word may x below given =
     let met = on.met in
     stores_next q b on.rest (place + n) word (omega (arith, left))
     (omega (arith, on_page, met)) on.place_is given
+
+-- ---- runs of stores
+
+further_on : (done n : ℕ) (f : Flight) → further n (further done f) ≡ further (done + n) f
+further_on done n Landed = refl
+further_on done n (Copying c) =
+    let e : c.copied + done + n ≡ c.copied + (done + n) = omega arith in
+    ap (λ (k : ℕ). Copying (record c { copied = k })) e
+
+copied_on : (done n : ℕ) (v : View) → copied_view n (copied_view done v) ≡ copied_view (done + n) v
+copied_on done n v =
+    ap (λ (f : Flight). record v { working = record v.working { flight = f } })
+    (further_on done n (v.working).flight)
+
+-- so many words further on, and then more
+pub behind_run : {D : Type 0} (done n : ℕ) (p q r : SeatedPass D)
+    → HasView (copied_view done (view_of p)) p q → HasView (copied_view n (view_of q)) q r
+    → HasView (copied_view (done + n) (view_of p)) p r
+behind_run done n p q r x y =
+    has_same_view (copied_view n (copied_view done (view_of p)))
+    (copied_view (done + n) (view_of p)) p r (copied_on done n (view_of p))
+    (then_view (copied_view n) (copied_view done (view_of p)) p q r x y)
+
+stores_there : (v : View) (place at word given : ℕ) → place ≡ at → word ≡ given
+    → StoresNext v place word → StoresNext v at given
+stores_there v place at word given there is x =
+    subst (λ (k : ℕ). StoresNext v k given) there
+    (subst (λ (w : ℕ). StoresNext v place w) is x)
+
+-- what is left of a run may be stored behind its first words
+pub run_on : {D : Type 0} (place done count all : ℕ) (words : List ℕ) (p q : SeatedPass D)
+    → MayStoreRun place words 0 all p → HasView (copied_view done (view_of p)) p q
+    → done + count ≤ all → MayStoreRun (place + done) words done count q
+run_on place done count all words p q run x within n r below y =
+    let same : 0 + (done + n) ≡ done + n = omega arith in
+    let there : place + (done + n) ≡ place + done + n = omega arith in
+    stores_there (view_of r) (place + (done + n)) (place + done + n)
+    (slice_index words (0 + (done + n))) (slice_index words (done + n)) there
+    (ap (slice_index words) same)
+    (run (done + n) r (omega (arith, within, below)) (behind_run done n p q r x y))
+
+-- the words of a record's run may be stored
+pub run_may : {D : Type 0} (place : ℕ) (words : List ℕ) (p : SeatedPass D) (a : PlacedState)
+    → MayCopy (length words) place p a
+    → ((n : ℕ) → n < length words → slice_index words n ≡ placed_word a (a.next + 8 * n))
+    → MayStoreRun place words 0 (length words) p
+run_may place words p a may given n q below x =
+    let same : n ≡ 0 + n = omega arith in
+    stores_there (view_of q) (place + n) (place + n) (slice_index words n)
+    (slice_index words (0 + n)) refl (ap (slice_index words) same)
+    (run_stores (length words) place p q a n (slice_index words n) may x below (given n below))

@@ -1,6 +1,8 @@
 -- A run of words that a pass may copy to a page, and what is so behind it.
-use Rattle.std.specs.Prelude.{◌≡◌, ℕ, ◌+◌, ◌*◌, ◌≤◌}
+use Rattle.std.specs.Prelude.{◌≡◌, ℕ, ◌+◌, ◌*◌, ◌<◌, ◌≤◌, List, slice_index}
 use Rattle.wal_page.specs.Placed.{PlacedState, placed_end}
+use Rattle.wal_core.specs.Steps.{store_ring_word, MayStep, value_behind, word_of_step}
+use Rattle.wal_core.specs.Views.{View}
 use Rattle.wal_rule.specs.declared.seated.SeatedPass.{SeatedPass}
 use Rattle.wal_rule.specs.SeatedPasses.{HasView, setup_of, view_of}
 use Rattle.word_ring.specs.Copied.{IsPlaceOf, IsRestOf, copied_view, page_end_at}
@@ -21,3 +23,16 @@ pub record HasCopied {D : Type 0} (count : ℕ) (old new : SeatedPass D)
   pub view : HasView (copied_view count (view_of old)) old new
   pub placed_is : placed_new ≡ record placed_old { next = placed_old.next + 8 * count }
   pub rest : IsRestOf (setup_of old) (view_of new) placed_new
+
+-- a view may store this word at this place, as the next one of its copy
+pub record StoresNext (v : View) (place word : ℕ) : Type 0 where
+  pub place_is : place ≡ word_of_step v store_ring_word
+  pub may : MayStep v store_ring_word
+  pub word_is : word ≡ value_behind v store_ring_word 0
+
+-- so many words may be stored one behind another, those behind the first `done`, from this place on
+abbrev pub MayStoreRun : {D : Type 0} → (place : ℕ) → List ℕ → (done count : ℕ) → SeatedPass D
+    → Type 0
+MayStoreRun {D} place words done count p = (n : ℕ) (q : SeatedPass D) → n < count
+    → HasView (copied_view n (view_of p)) p q
+    → StoresNext (view_of q) (place + n) (slice_index words (done + n))

@@ -7,9 +7,9 @@
 // come back to it, and no other record owns it.
 ghost use Rattle.std.specs.Prelude.{◌≡◌, ◌+◌, ◌<◌, ◌≤◌, ◌^◌, length};
 ghost use Rattle.wal_page.specs.Placed.{placed_end};
-ghost use Rattle.wal_rule.specs.SeatedPasses.{StaysSeated, setup_of, view_of};
-ghost use Rattle.word_ring.specs.Copied.{CopiesPage, IsPlaceOf, IsRestOf, page_end_at};
-ghost use Rattle.word_ring.specs.CopyRuns.{HasCopied, MayCopy};
+ghost use Rattle.wal_rule.specs.SeatedPasses.{HasView, StaysSeated, setup_of, view_of};
+ghost use Rattle.word_ring.specs.Copied.{CopiesPage, IsPlaceOf, IsRestOf, copied_view, page_end_at};
+ghost use Rattle.word_ring.specs.CopyRuns.{HasCopied, MayCopy, MayStoreRun};
 
 use byte_position::{PAGE_SIZE, PAGE_WORDS, WORD};
 use machine_words::LogShape;
@@ -23,6 +23,9 @@ const RUN: usize = 64;
 
 // So many at most are a short record's: less room has to be cleared for them.
 const SHORT: usize = 20;
+
+// So many words are stored in a row, without a test between.
+const FEW: usize = 4;
 
 /// Copies the words of a record that are left, at most so many, up to the end of the page of the
 /// next one, which lies at the address `next`. The pass has met that page. The record's last word
@@ -101,7 +104,8 @@ fn copy_long<'p, 'a, D: Disk>(
 }
 
 // Copies the next words, as many as there is room for in `words`: they are made there, and then
-// stored one by one from this place on.
+// stored from this place on.
+#[inline(always)]
 fn copy_run<'p, 'a, D: Disk>(
     seated: &mut SeatedPass<'p, D>,
     placed: &mut Placed<'a>,
@@ -113,8 +117,41 @@ fn copy_run<'p, 'a, D: Disk>(
     ensures copied { HasCopied (length words.old) seated.old seated.new placed.old placed.new }
 {
     placed.put_words(words);
-    for (n, word) in words.iter().enumerate() {
-        seated.store_ring_word(place + n, *word);
+    store_run(seated, place, words);
+}
+
+// Stores a run's words from this place on, some in a row.
+#[inline(always)]
+fn store_run<'p, D: Disk>(seated: &mut SeatedPass<'p, D>, place: usize, words: &[u64])
+    requires run { MayStoreRun place words.now 0 (length words.now) seated.old }
+    requires low { place + length words.now < 2 ^ 20 }
+    ensures { HasView (copied_view (length words.now) (view_of seated.old)) seated.old seated.new }
+{
+    let count = words.len();
+    let mut done = 0;
+    while FEW <= count - done {
+        store_some(seated, place + done, words, done, FEW);
+        done += FEW;
+    }
+    store_some(seated, place + done, words, done, count - done);
+}
+
+// Stores so many of a run's words, those behind the first `done`, from this place on.
+#[inline(always)]
+fn store_some<'p, D: Disk>(
+    seated: &mut SeatedPass<'p, D>,
+    place: usize,
+    words: &[u64],
+    done: usize,
+    count: usize,
+)
+    requires within { done + count ≤ length words.now }
+    requires run { MayStoreRun place words.now done count seated.old }
+    requires low { place + count < 2 ^ 20 }
+    ensures { HasView (copied_view count (view_of seated.old)) seated.old seated.new }
+{
+    for n in 0..count {
+        seated.store_ring_word(place + n, words[done + n]);
     }
 }
 

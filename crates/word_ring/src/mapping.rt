@@ -1,11 +1,12 @@
 // The next page is mapped, by one try (PostgreSQL's xlog.c, AdvanceXLInsertBuffer), with the turn
 // to map (word 10, WALBufMappingLock), which is given back at each exit; or several pages under one
-// turn (`map_ahead`). The page begins at the initialised end (12). The page in its buffer must end at or below the written address (13). Both
-// are loaded. Then the buffer's end word is cleared, its words are zeroed, the page's end is
-// stored, and the initialised end behind it: so pages are mapped one at a time, in rising order.
-// From the clearing on, until the page's end is stored, nobody else stores into the buffer.
-// PostgreSQL also makes the page's header here, and writes the old page. In this log a header's
-// words are those of the record that reaches the page first, and to write is the caller's matter.
+// turn (`map_ahead`). The page begins at the initialised end (12). The page in its buffer must end
+// at or below the written address (13). Both are loaded. Then the buffer's end word is cleared, its
+// words are zeroed, the page's end is stored, and the initialised end behind it: so pages are
+// mapped one at a time, in rising order. From the clearing on, until the page's end is stored,
+// nobody else stores into the buffer. PostgreSQL also makes the page's header here, and writes the
+// old page. In this log a header's words are those of the record that reaches the page first, and
+// to write is the caller's matter.
 ghost use Rattle.std.specs.Prelude.{◌≡◌, ◌≢◌, ℕ, ◌+◌, ◌*◌, ◌<◌, ◌≤◌, ◌^◌};
 ghost use Rattle.wal_core.specs.Paged.{IsOpen};
 ghost use Rattle.wal_core.specs.Steps.{buffer_of, take_mapping_turn};

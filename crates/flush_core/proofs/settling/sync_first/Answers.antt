@@ -19,5 +19,6 @@ loop-before-preserved g c =
     let n = c.loop-before.before in
     let more : range_with_len 1 (n + 1) ≡ range_with_len 1 n ++ (n + 1) ∷ [] = range_more 1 n ∙ ap (λ (x : ℕ). range_with_len 1 n ++ x ∷ []) (omega arith) in record {
       made = syncs_more c.args.geometry _ _ _ _ _ _ (range_with_len 1 n) (n + 1) c.loop-before.invariant.made (range_with_len 1 (n + 1)) more c.in_ok-sync.ensures.answers;
+      counted = omega (arith, c.loop-before.invariant.counted, c.in_ok-sync.ensures.answers.moment);
       faults = c.in_ok-sync.ensures.cause ∙ c.loop-before.invariant.faults;
     }

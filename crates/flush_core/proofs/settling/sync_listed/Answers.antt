@@ -19,5 +19,6 @@ loop-segment-preserved g c =
     let xs = c.args.segments.now in
     record {
       made = syncs_more c.args.geometry _ _ _ _ _ _ (take i xs) (get_or xs i 0) c.loop-segment.invariant.made (take (i + 1) xs) (take_more xs i 0 (omega arith)) c.in_ok-sync.ensures.answers;
+      counted = omega (arith, c.loop-segment.invariant.counted, c.in_ok-sync.ensures.answers.moment);
       faults = c.in_ok-sync.ensures.cause ∙ c.loop-segment.invariant.faults;
     }

@@ -29,6 +29,9 @@ open-requires-clause-openable c =
     (ap (λ (o : Opening). o.found) c.of-founding.ensures.opening)
     (omega (arith, ap (λ (o : Opening). o.made) c.of-founding.ensures.opening))
 
+pub open-requires-clause-made : goal.open-requires-clause-made
+open-requires-clause-made c = ap (λ (o : Opening). o.made) c.of-founding.ensures.opening
+
 pub open-requires-clause-words : goal.open-requires-clause-words
 open-requires-clause-words c =
     let opening = founded_opening c.of-founding.result in

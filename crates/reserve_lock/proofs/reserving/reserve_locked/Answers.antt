@@ -1,4 +1,5 @@
-use Rattle.std.proofs.Common.{refl, ap, ◌∙◌, arith}
+use Rattle.std.proofs.Common.{ℕ, refl, sym, ap, ◌∙◌, arith}
+use Rattle.wal_page.specs.Order.{assembled_room_at}
 use Rattle.wal_page.proofs.PaddingLaws.{le-assembled_room_at}
 use Rattle.wal_core.specs.Words.{log_limit}
 use Rattle.wal_rule.specs.SeatedPasses.{setup_of, view_of}
@@ -23,6 +24,12 @@ end_behind-requires-clause-some g c =
     let bound = (le-assembled_room_at (setup_of c.args.seated.now).segment_size c.args.locked.at
     c.args.body.now).0 in
     omega (arith, bound, c.requires.room)
+
+pub reserved-requires-clause-room : goal.reserved-requires-clause-room
+reserved-requires-clause-room g c =
+    c.requires.room
+    ∙ ap (λ (n : ℕ). assembled_room_at n c.args.locked.at c.args.body.now)
+    (sym c.requires.geometry)
 
 pub returns-clause-reserved : goal.returns-clause-reserved
 returns-clause-reserved g c =

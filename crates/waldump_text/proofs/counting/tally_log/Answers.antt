@@ -20,13 +20,13 @@ use Rattle.waldump_text.proofs.counting.tally_log.Goals.{In-Some, then-keeps, el
 gives : (g : _) (c : In-Some g) → GivesListed c.in_ok-step.step c.in-Some.listed
 gives g c = gives_listed c.in_ok-step.step c.in-Some.listed (sym c.listed_in.ensures ∙ c.in-Some.is)
 
-steps_on : (g : _) (c : In-Some g) → Steps (g.D.Disk.tape c.args.disk.now) c.records.reader c.next.new.self (Ok (given_as (gives g c).found))
+steps_on : (g : _) (c : In-Some g) → Steps (g.D.Disk.tape c.args.disk.now) c.records.reader c.next_into.new.self (Ok (given_as (gives g c).found))
 steps_on g c =
-    let on_disk = subst (λ (step : Step). Steps (g.D.Disk.tape c.records.disk) c.records.reader c.next.new.self (Ok step)) (gives g c).step_is c.in_ok-step.ensures.gives in
-    subst (λ (tape : Option Tape). Steps tape c.records.reader c.next.new.self (Ok (given_as (gives g c).found))) c.records.invariant.tape on_disk
+    let on_disk = subst (λ (step : Step). Steps (g.D.Disk.tape c.records.disk) c.records.reader c.next_into.new.self (Ok step)) (gives g c).step_is c.in_ok-step.ensures.gives in
+    subst (λ (tape : Option Tape). Steps tape c.records.reader c.next_into.new.self (Ok (given_as (gives g c).found))) c.records.invariant.tape on_disk
 
-leaves_on : (g : _) (c : In-Some g) → LeavesReader (reader_state c.records.reader) (reader_state c.next.new.self) (Ok (given_as (gives g c).found))
-leaves_on g c = subst (λ (step : Step). LeavesReader (reader_state c.records.reader) (reader_state c.next.new.self) (Ok step)) (gives g c).step_is c.in_ok-step.ensures.leaves
+leaves_on : (g : _) (c : In-Some g) → LeavesReader (reader_state c.records.reader) (reader_state c.next_into.new.self) (Ok (given_as (gives g c).found))
+leaves_on g c = subst (λ (step : Step). LeavesReader (reader_state c.records.reader) (reader_state c.next_into.new.self) (Ok step)) (gives g c).step_is c.in_ok-step.ensures.leaves
 
 listable : (g : _) (c : In-Some g) → IsListable c.in-Some.listed
 listable g c =
@@ -53,7 +53,7 @@ records-preserved g c =
     ] in
     record {
       sized = ap (λ (s : ReaderState). s.size) leaves.0 ∙ before.sized;
-      tallied = TalliesLog-more c.args.geometry by valid c.records.reader before.sized c.records.tally _ c.next.new.self f c.if-keeps.tally adds before.tallied (steps_on g step);
+      tallied = TalliesLog-more c.args.geometry by valid c.records.reader before.sized c.records.tally _ c.next_into.new.self f c.if-keeps.tally adds before.tallied (steps_on g step);
       sound = adds.sound;
       within = adds.within;
       bounded = omega (arith, adds.one, before.bounded, leaves.1);
@@ -67,9 +67,9 @@ returns-in_default-clause-tallied g c =
     let valid = rw c.segment_size-size.ensures.value at c.segment_size-size.ensures.valid in
     let before = c.records.invariant in
     let ends = gives_end c.in_ok-step.step (λ r is. c.in_default.not-Some r (c.listed_in.ensures ∙ is)) in
-    let on_disk = subst (λ (step : Step). Steps (g.D.Disk.tape c.records.disk) c.records.reader c.next.new.self (Ok step)) ends.1 c.in_ok-step.ensures.gives in
-    let steps = subst (λ (tape : Option Tape). Steps tape c.records.reader c.next.new.self (Ok (End ends.0))) before.tape on_disk in
-    tally_ended c.args.geometry c.args.filter.now valid c.records.reader before.sized c.records.tally before.within _ c.next.new.self ends.0 before.tallied steps
+    let on_disk = subst (λ (step : Step). Steps (g.D.Disk.tape c.records.disk) c.records.reader c.next_into.new.self (Ok step)) ends.1 c.in_ok-step.ensures.gives in
+    let steps = subst (λ (tape : Option Tape). Steps tape c.records.reader c.next_into.new.self (Ok (End ends.0))) before.tape on_disk in
+    tally_ended c.args.geometry c.args.filter.now valid c.records.reader before.sized c.records.tally before.within _ c.next_into.new.self ends.0 before.tallied steps
 
 pub returns-clause-tallied : goal.returns-clause-tallied
 returns-clause-tallied g c =

@@ -40,28 +40,28 @@ returns-in_err-step-clause-listed g c =
     let valid = rw c.segment_size-size.ensures.value at c.segment_size-size.ensures.valid in
     let p = err_from_is_err_and c.from_residual.result c.from_residual.ensures.1 in
     let before = c.records.invariant in
-    let steps = subst (λ (tape : Option Tape). Steps tape c.records.reader c.next.new.self (Err c.in_err-step.field-0.0)) before.tape c.in_err-step.ensures.gives in
+    let steps = subst (λ (tape : Option Tape). Steps tape c.records.reader c.next_into.new.self (Err c.in_err-step.field-0.0)) before.tape c.in_err-step.ensures.gives in
     let unreached : is_reached c.args.filter.now.limit c.records.count ≡ false = cc in
-    rw (p.1, p.2) (dump_failed c.args.geometry c.args.filter.now valid plain _ c.records.reader before.sized _ c.records.count before.within _ c.next.new.self _ before.lists steps unreached)
+    rw (p.1, p.2) (dump_failed c.args.geometry c.args.filter.now valid plain _ c.records.reader before.sized _ c.records.count before.within _ c.next_into.new.self _ before.lists steps unreached)
 
 -- the step to the record that is listed
 gives : (g : _) (c : In-Some g) → GivesListed c.in_ok-step.step c.in-Some.listed
 gives g c = gives_listed c.in_ok-step.step c.in-Some.listed (sym c.listed_in.ensures ∙ c.in-Some.is)
 
-steps_on : (g : _) (c : In-Some g) → Steps (g.D.Disk.tape c.args.disk.now) c.records.reader c.next.new.self (Ok (given_as (gives g c).found))
+steps_on : (g : _) (c : In-Some g) → Steps (g.D.Disk.tape c.args.disk.now) c.records.reader c.next_into.new.self (Ok (given_as (gives g c).found))
 steps_on g c =
-    let on_disk = subst (λ (step : Step). Steps (g.D.Disk.tape c.records.disk) c.records.reader c.next.new.self (Ok step)) (gives g c).step_is c.in_ok-step.ensures.gives in
-    subst (λ (tape : Option Tape). Steps tape c.records.reader c.next.new.self (Ok (given_as (gives g c).found))) c.records.invariant.tape on_disk
+    let on_disk = subst (λ (step : Step). Steps (g.D.Disk.tape c.records.disk) c.records.reader c.next_into.new.self (Ok step)) (gives g c).step_is c.in_ok-step.ensures.gives in
+    subst (λ (tape : Option Tape). Steps tape c.records.reader c.next_into.new.self (Ok (given_as (gives g c).found))) c.records.invariant.tape on_disk
 
-leaves_on : (g : _) (c : In-Some g) → LeavesReader (reader_state c.records.reader) (reader_state c.next.new.self) (Ok (given_as (gives g c).found))
-leaves_on g c = subst (λ (step : Step). LeavesReader (reader_state c.records.reader) (reader_state c.next.new.self) (Ok step)) (gives g c).step_is c.in_ok-step.ensures.leaves
+leaves_on : (g : _) (c : In-Some g) → LeavesReader (reader_state c.records.reader) (reader_state c.next_into.new.self) (Ok (given_as (gives g c).found))
+leaves_on g c = subst (λ (step : Step). LeavesReader (reader_state c.records.reader) (reader_state c.next_into.new.self) (Ok step)) (gives g c).step_is c.in_ok-step.ensures.leaves
 
 listable : (g : _) (c : In-Some g) → IsListable c.in-Some.listed
 listable g c =
     let spelled = subst GivesSpelled (gives g c).step_is c.in_ok-step.ensures.spelled in
     rw (gives g c).listed_is (IsListable-from_spelled (gives g c).found spelled)
 
-sized_on : (g : _) (c : In-Some g) → (reader_state c.next.new.self).size ≡ c.args.geometry
+sized_on : (g : _) (c : In-Some g) → (reader_state c.next_into.new.self).size ≡ c.args.geometry
 sized_on g c = ap (λ (s : ReaderState). s.size) (leaves_on g c).0 ∙ c.records.invariant.sized
 
 pub print-requires-clause-listable : goal.print-requires-clause-listable
@@ -79,7 +79,7 @@ returns-in_err-print-clause-listed g c =
     let keeps_it : keeps by (listed_of (gives g step).found) ≡ true = cc in
     let taken = subst (λ (text : List ℕ). (n : ℕ) × (g.O.Sink.taken c.print.new.out ≡ with_behind (g.O.Sink.taken c.records.out) (take n text))) (ap (λ (r : Listed). if by.quiet then [] else line_text by.times r) listed_is ∙ printed-one by (gives g step).found) c.in_err-print.ensures.put.0 in
     let before = c.records.invariant in
-    rw (p.1, p.2) (dump_cut c.args.geometry by valid plain _ c.records.reader c.next.new.self before.sized (sized_on g step) _ _ c.records.count _ (gives g step).found ((gives g step).found ∷ []) (kept by (gives g step).found keeps_it) c.in_err-print.field-0.0 before.lists (steps_on g step) (IsWithin-more by.limit c.records.count unreached) taken)
+    rw (p.1, p.2) (dump_cut c.args.geometry by valid plain _ c.records.reader c.next_into.new.self before.sized (sized_on g step) _ _ c.records.count _ (gives g step).found ((gives g step).found ∷ []) (kept by (gives g step).found keeps_it) c.in_err-print.field-0.0 before.lists (steps_on g step) (IsWithin-more by.limit c.records.count unreached) taken)
 
 pub records-preserved : goal.records-preserved
 records-preserved g c =
@@ -107,7 +107,7 @@ records-preserved g c =
     ] in
     record {
       sized = sized_on g step;
-      lists = rw prints.count_is (ListsLog-more c.args.geometry by valid plain _ c.records.reader before.sized _ c.records.count _ c.next.new.self f prints.kept prints.kept_is _ before.lists (steps_on g step) prints.taken);
+      lists = rw prints.count_is (ListsLog-more c.args.geometry by valid plain _ c.records.reader before.sized _ c.records.count _ c.next_into.new.self f prints.kept prints.kept_is _ before.lists (steps_on g step) prints.taken);
       within = prints.within;
       bounded = omega (arith, prints.one, before.bounded, less);
       empty = empty;
@@ -123,9 +123,9 @@ returns-in_default-clause-listed g c =
     let valid = rw c.segment_size-size.ensures.value at c.segment_size-size.ensures.valid in
     let before = c.records.invariant in
     let ends = gives_end c.in_ok-step.step (λ r is. c.in_default.not-Some r (c.listed_in.ensures ∙ is)) in
-    let on_disk = subst (λ (step : Step). Steps (g.D.Disk.tape c.records.disk) c.records.reader c.next.new.self (Ok step)) ends.1 c.in_ok-step.ensures.gives in
-    let steps = subst (λ (tape : Option Tape). Steps tape c.records.reader c.next.new.self (Ok (End ends.0))) before.tape on_disk in
-    dump_ended c.args.geometry c.args.filter.now valid plain _ c.records.reader before.sized _ c.records.count before.within _ c.next.new.self ends.0 before.lists steps
+    let on_disk = subst (λ (step : Step). Steps (g.D.Disk.tape c.records.disk) c.records.reader c.next_into.new.self (Ok step)) ends.1 c.in_ok-step.ensures.gives in
+    let steps = subst (λ (tape : Option Tape). Steps tape c.records.reader c.next_into.new.self (Ok (End ends.0))) before.tape on_disk in
+    dump_ended c.args.geometry c.args.filter.now valid plain _ c.records.reader before.sized _ c.records.count before.within _ c.next_into.new.self ends.0 before.lists steps
 
 pub returns-clause-listed : goal.returns-clause-listed
 returns-clause-listed g c =

@@ -6,7 +6,7 @@ use Rattle.wal_script.specs.declared.line.Action.{Action}
 use Rattle.wal_script.specs.Asked.{Asked}
 use Rattle.wal_script.specs.Bodies.{IsActionOf, IsBodyOf}
 use Rattle.backend_lanes.specs.Sessions.{PlaysAnswer}
-use Rattle.backend_lanes.proofs.Answering.{holds_of_ahead, holds_of_commit, holds_of_insert, holds_of_switch}
+use Rattle.backend_lanes.proofs.ActionsAsked.{holds_of_ahead, holds_of_commit, holds_of_insert, holds_of_switch}
 use Rattle.backend_lanes.proofs.session.Session.answer.Goals as goal
 
 pub insert-requires-clause-record : goal.insert-requires-clause-record

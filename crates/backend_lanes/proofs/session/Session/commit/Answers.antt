@@ -1,6 +1,8 @@
 use Rattle.std.proofs.Common.{refl, sym, ap, ◌∙◌}
 use Rattle.told_lines.specs.Answered.{told_of_commit}
-use Rattle.backend_lanes.proofs.Answering.{no_switch, commit_leaves_session, commit_plays_answer, end_behind}
+use Rattle.backend_lanes.proofs.Answering.{commit_leaves_session, commit_plays_answer}
+use Rattle.backend_lanes.proofs.EndsKept.{end_behind}
+use Rattle.backend_lanes.proofs.LinePasses.{no_switch}
 use Rattle.backend_lanes.proofs.session.Session.commit.Goals as goal
 
 pub commit-requires-clause-inserted : goal.commit-requires-clause-inserted

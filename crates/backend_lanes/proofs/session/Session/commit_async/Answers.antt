@@ -2,7 +2,9 @@ use Rattle.std.specs.Prelude.{Err}
 use Rattle.std.proofs.Common.{refl, sym, ap, ◌∙◌}
 use Rattle.wal_types.specs.declared.answers.Refused.{Refused}
 use Rattle.told_lines.specs.Answered.{told_of_commit_async}
-use Rattle.backend_lanes.proofs.Answering.{no_switch, end_behind, ahead_leaves_session, ahead_plays_answer, told_of_ahead}
+use Rattle.backend_lanes.proofs.Answering.{ahead_leaves_session, ahead_plays_answer}
+use Rattle.backend_lanes.proofs.EndsKept.{end_behind, told_of_ahead}
+use Rattle.backend_lanes.proofs.LinePasses.{no_switch}
 use Rattle.backend_lanes.proofs.session.Session.commit_async.Goals as goal
 
 pub commit_async-requires-clause-inserted : goal.commit_async-requires-clause-inserted

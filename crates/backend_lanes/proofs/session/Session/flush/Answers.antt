@@ -1,7 +1,8 @@
 use Rattle.std.specs.Prelude.{Err}
 use Rattle.std.proofs.Common.{refl, sym, ap, ◌∙◌}
 use Rattle.wal_rule.specs.Passes.{view_of_pass}
-use Rattle.backend_lanes.proofs.Answering.{flush_leaves_session, flush_plays_answer, session_never_unreserved, told_of_flushed}
+use Rattle.backend_lanes.proofs.Answering.{flush_leaves_session, flush_plays_answer, session_never_unreserved}
+use Rattle.backend_lanes.proofs.EndsKept.{told_of_flushed}
 use Rattle.backend_lanes.proofs.session.Session.flush.Goals as goal
 
 pub refused_flush-requires : goal.refused_flush-requires

@@ -2,7 +2,9 @@ use Rattle.std.specs.Prelude.{Err}
 use Rattle.std.proofs.Common.{refl, sym, ap, ◌∙◌}
 use Rattle.wal_types.specs.declared.answers.Refused.{Refused}
 use Rattle.told_lines.specs.Answered.{told_of_insert}
-use Rattle.backend_lanes.proofs.Answering.{no_switch, end_behind, insert_leaves_session, insert_plays_answer, told_of_inserted}
+use Rattle.backend_lanes.proofs.Answering.{insert_leaves_session, insert_plays_answer}
+use Rattle.backend_lanes.proofs.EndsKept.{end_behind, told_of_inserted}
+use Rattle.backend_lanes.proofs.LinePasses.{no_switch}
 use Rattle.backend_lanes.proofs.session.Session.insert.Goals as goal
 
 pub insert-requires-clause-inserted : goal.insert-requires-clause-inserted

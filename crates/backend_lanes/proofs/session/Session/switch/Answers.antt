@@ -1,7 +1,8 @@
 use Rattle.std.specs.Prelude.{Ok}
 use Rattle.std.proofs.Common.{refl, sym, ap, ap₂, ◌∙◌}
 use Rattle.told_lines.specs.declared.told.Told.TheVariants.{Switched, Stayed}
-use Rattle.backend_lanes.proofs.Answering.{end_behind, refusal_keeps_end, switch_leaves_session, switch_plays_answer, told_of_switched}
+use Rattle.backend_lanes.proofs.Answering.{switch_leaves_session, switch_plays_answer}
+use Rattle.backend_lanes.proofs.EndsKept.{end_behind, refusal_keeps_end, told_of_switched}
 use Rattle.backend_lanes.proofs.session.Session.switch.Goals as goal
 
 pub returns-in-Ok-Done-clause-plays : goal.returns-in-Ok-Done-clause-plays

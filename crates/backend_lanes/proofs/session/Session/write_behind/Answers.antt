@@ -4,7 +4,8 @@ use Rattle.wal_types.specs.declared.answers.Hard as hard
 use Rattle.wal_rule.specs.Passes.{view_of_pass}
 use Rattle.told_lines.specs.declared.told.Told.TheVariants.{Flushed, Idle}
 use Rattle.backend_lanes.specs.Sessions.{view_of_session}
-use Rattle.backend_lanes.proofs.Answering.{behind_leaves_session, behind_never_unreserved, behind_plays_answer, told_of_caught}
+use Rattle.backend_lanes.proofs.Answering.{behind_leaves_session, behind_never_unreserved, behind_plays_answer}
+use Rattle.backend_lanes.proofs.EndsKept.{told_of_caught}
 use Rattle.backend_lanes.proofs.session.Session.write_behind.Goals as goal
 
 pub refused_flush-requires : goal.refused_flush-requires

@@ -8,7 +8,7 @@ use Rattle.wal_core.specs.Words.{Opening}
 use Rattle.wal_core.specs.declared.setup.Setup.{Setup}
 use Rattle.wal_rule.specs.declared.seats.Founding.{Founding}
 use Rattle.wal_rule.specs.declared.writer.LogWriter.{LogWriter}
-use Rattle.wal_rule.specs.Founded.{disk_of_founding, founded_opening}
+use Rattle.wal_rule.specs.Founded.{founded_opening}
 use Rattle.wal_rule.specs.Opening.{TellsOpenErr}
 use Rattle.wal_rule.specs.Passes.{view_of_pass}
 use Rattle.wal_core.specs.Steps.{IsResting}
@@ -23,6 +23,9 @@ open-requires-clause-openable g c =
     (subst (λ (o : Opening). IsSetup o.setup) (sym c.of-founding.ensures.opening) c.requires.setup)
     (ap (λ (o : Opening). o.found) c.of-founding.ensures.opening)
     (omega (arith, ap (λ (o : Opening). o.made) c.of-founding.ensures.opening))
+
+pub open-requires-clause-made : goal.open-requires-clause-made
+open-requires-clause-made g c = ap (λ (o : Opening). o.made) c.of-founding.ensures.opening
 
 pub open-requires-clause-writer : goal.open-requires-clause-writer
 open-requires-clause-writer g c =
@@ -50,8 +53,7 @@ returns-in-Ok-clause-opened g c =
     ∙ ap (λ (m : View × List (ℕ × LogWriter D)). m.0) seat.0 in
     record {
       opening = ap (λ (f : Founding D). founded_opening f) key ∙ c.of-founding.ensures.opening;
-      began = ap (λ (f : Founding D). g.D.Disk.tape (disk_of_founding f)) key
-          ∙ ap g.D.Disk.tape c.of-founding.ensures.disk;
+      began = c.in-Ok.ensures.began ∙ ap g.D.Disk.tape c.new-writer.ensures.disk;
       pass_is = record {
         of_log = c.of_seat-pass.ensures.pass _ _ seat.1;
         rests = subst IsResting (sym view) (first_rests (founded_opening c.of-founding.result));

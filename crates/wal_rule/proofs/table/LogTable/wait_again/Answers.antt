@@ -8,6 +8,6 @@ load-requires g c = (
   c.requires.table,
   omega (arith, c.args.self.now.wide),
   waits_again g.D.Disk.tape g.D.Disk.moment g.D.Disk.faults (opening_of_table c.args.self.now)
-      (began_of_table g.D.Disk.tape c.args.self.now) _ _ c.requires.reads.0
-      c.requires.reads.1 _ c.requires.reads.2,
+      (began_of_table g.D.Disk.tape c.args.self.now) _ _ c.requires.out.0 _ c.requires.out.2
+      c.requires.out.1,
 )

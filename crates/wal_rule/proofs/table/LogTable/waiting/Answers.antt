@@ -1,20 +1,20 @@
-use Rattle.std.proofs.Common.{rules, ◌≡◌, [], ◌∷◌, ap, sym}
-use Rattle.wal_rule.specs.Founded.{disk_of_founding, founded_opening}
+use Rattle.std.proofs.Common.{rules, ◌≡◌, [], ◌∷◌, sym}
+use Rattle.wal_rule.specs.Founded.{began_of_founding, founded_opening, founded_plain}
 use Rattle.wal_rule.proofs.Begins.{waits}
+use Rattle.wal_rule.proofs.Founds.{unsettled_unbegun}
 use Rattle.wal_rule.proofs.table.LogTable.waiting.Goals as goal
 
 pub new-requires : goal.new-requires
 new-requires g c =
+    let founding = c.args.founding.now in
     let are : c.push.new.self.items ≡ c.args.writer ∷ [] = search rules in
-    waits g.D.Disk.tape g.D.Disk.moment g.D.Disk.faults (founded_opening c.args.founding.now)
-    (g.D.Disk.tape (disk_of_founding c.args.founding.now)) c.args.words.now c.push.new.self.items
+    waits g.D.Disk.tape g.D.Disk.moment g.D.Disk.faults (founded_opening founding)
+    (began_of_founding g.D.Disk.tape founding) c.args.words.now c.push.new.self.items
     c.args.writer are c.requires.words
-    (record {
-      first = c.requires.writer.first;
-      size_is = c.requires.writer.size;
-      tape_is = ap g.D.Disk.tape (sym c.requires.writer.disk);
-    })
-    _ c.requires.writer.failed
+    (unsettled_unbegun g.D.Disk.tape g.D.Disk.moment g.D.Disk.faults founding c.args.writer
+    c.requires.writer)
+    (founded_plain g.D.Disk.tape g.D.Disk.moment founding) (sym c.requires.writer.plain)
+    founding.faults c.requires.writer.failed
 
 pub only_one-requires : goal.only_one-requires
 only_one-requires g c = (c.args.writer, search rules)

@@ -1,0 +1,40 @@
+use Rattle.std.proofs.Common.{◌≡◌, ℕ, ◌+◌, ◌-◌, length, subst, arith}
+use Rattle.wal_rule.specs.SeatedPasses.{HasView, view_of}
+use Rattle.word_ring.specs.Copied.{copied_view}
+use Rattle.word_ring.proofs.CopyLaws.{behind_run, run_on}
+use Rattle.word_ring.proofs.copying.store_run.Goals as goal
+
+pub store_some-requires-clause-run : goal.store_some-requires-clause-run
+store_some-requires-clause-run g c =
+    let within = c.loop-done.invariant.0 in
+    let more = c.loop-done-test.true in
+    run_on c.args.place c.loop-done.done 4 (length c.args.words.now) c.args.words.now
+    c.args.seated.now c.loop-done.seated c.requires.run c.loop-done.invariant.1
+    (omega (arith, within, more))
+
+pub loop-done-preserved : goal.loop-done-preserved
+loop-done-preserved g c =
+    let within = c.loop-done.invariant.0 in
+    let more = c.loop-done-test.true in (
+      omega (arith, within, more),
+      behind_run c.loop-done.done 4 c.args.seated.now c.loop-done.seated
+          c.store_some.new.seated c.loop-done.invariant.1 c.store_some.ensures,
+    )
+
+pub store_some-requires-2-clause-run : goal.store_some-requires-2-clause-run
+store_some-requires-2-clause-run g c =
+    let within = c.loop-done.invariant.0 in
+    run_on c.args.place c.loop-done.done _ (length c.args.words.now) c.args.words.now
+    c.args.seated.now c.loop-done.seated c.requires.run c.loop-done.invariant.1
+    (omega (arith, within))
+
+pub returns : goal.returns
+returns g c =
+    let within = c.loop-done.invariant.0 in
+    let all : c.loop-done.done + (length c.args.words.now - c.loop-done.done)
+    ≡ length c.args.words.now = omega (arith, within) in
+    subst (λ (k : ℕ). HasView (copied_view k (view_of c.args.seated.now)) c.args.seated.now
+    c.store_some-2.new.seated) all
+    (behind_run c.loop-done.done (length c.args.words.now - c.loop-done.done)
+    c.args.seated.now c.loop-done.seated c.store_some-2.new.seated c.loop-done.invariant.1
+    c.store_some-2.ensures)
