@@ -44,7 +44,7 @@ prepared_for writer before after script backends room means are enough =
       few = some.1;
     }
 
-as_many_scripts : (backends : List AnsweredLines) → length (scripts_of backends) ≡ length backends
+pub as_many_scripts : (backends : List AnsweredLines) → length (scripts_of backends) ≡ length backends
 as_many_scripts [] = refl
 as_many_scripts (backend ∷ backends) = ap suc (as_many_scripts backends)
 

@@ -11,6 +11,7 @@ use crate::run::{Finished, OpenedLog, calls_are_counted, play_opened, prepare, u
 use crate::setup::run_setup;
 use crate::told::ToldLists;
 use backend_lanes::{Gate, Room};
+use bumpalo::Bump;
 use command_words::ScriptRunOptions;
 use segment_disk::{Disk, Sink, Source};
 use std::alloc::Global;
@@ -23,7 +24,7 @@ fn append_prepared<R: Threads + Wait + Sync, O: Sink, D: Disk + Send, G: Gate + 
     rt: &R,
     alloc: Global,
     options: &ScriptRunOptions,
-    room: Room,
+    room: Room<'_>,
     disk: D,
     out: &mut O,
     gate: &G,
@@ -31,7 +32,7 @@ fn append_prepared<R: Threads + Wait + Sync, O: Sink, D: Disk + Send, G: Gate + 
     requires in_range { IsShapeInRange options.now.run.ring_pages options.now.run.cap_segments }
     requires prepared { (script : List (List AskedLine)) × IsPreparedFor script room }
     ensures { (before after : SourceView) (script : List (List AskedLine))
-        → ScriptMeans options.now.writer before after (Ok script) → IsPreparedFor script room
+        → ScriptMeans options.now.writer before after (Ok script) → IsPreparedFor script room.entry
         → AppendHolds (outside_of before after D.tape D.moment D.faults disk result.disk O.taken
         O.faults out.old out.new) options.now result.outcome result.told }
 {
@@ -71,7 +72,8 @@ pub(crate) fn append<R: Threads + Wait + Sync, S: Source, O: Sink, D: Disk + Sen
         D.tape D.moment D.faults disk result.disk O.taken O.faults out.old out.new)
         options.now result.outcome result.told }
 {
-    match prepare(alloc, options.writer, source) {
+    let arena = Bump::new(alloc);
+    match prepare(alloc, &arena, options.writer, source) {
         Ok(room) => append_prepared(rt, alloc, options, room, disk, out, gate),
         Err(outcome) => Finished {
             outcome,

@@ -18,7 +18,7 @@ use std::sync::Wait;
 use std::thread::Threads;
 
 // Makes the lines, and takes all room that their backends need.
-fn room_for(alloc: Global, lines: u32) -> Result<Room, AllocError>
+fn room_for(alloc: Global, lines: u32) -> Result<Room<'static>, AllocError>
     requires { lines ≤ 100000 }
     ensures { IfOk result (IsPreparedFor (generated_script lines)) }
 {

@@ -53,8 +53,8 @@ fn read_replay<S: Source>(alloc: Global, source: &mut S) -> Result<Replay, Outco
 // What a line asks of the machine. The last three kinds do not come: `parse_replay` refuses a
 // script with such a line, since a replay has no commits answered ahead, flushes behind or segment
 // switches.
-fn machine_line(line: Line) -> PlainLine
-    ensures { result ≡ machine_line_of line.action }
+fn machine_line(line: Line<'static>) -> PlainLine
+    ensures { result ≡ machine_line_of line.entry.action }
 {
     match line.action {
         Action::Insert(body) => PlainLine::Insert(body),
@@ -66,16 +66,16 @@ fn machine_line(line: Line) -> PlainLine
     }
 }
 
-fn script_of(alloc: Global, lines: Vec<Line>) -> Result<Script, AllocError>
-    ensures { IfOk result (λ script. script ≡ machine_lines_of lines.items) }
+fn script_of(alloc: Global, lines: Vec<Line<'static>>) -> Result<Script, AllocError>
+    ensures { IfOk result (λ script. script ≡ machine_lines_of lines.entry.items) }
 {
     let lines: Vec<PlainLine> = lines.into_iter().map(machine_line).collect(alloc)?;
     Ok(Script::of(lines))
 }
 
-fn scripts_of(alloc: Global, backends: Vec<Vec<Line>>) -> Result<Vec<Script>, AllocError>
+fn scripts_of(alloc: Global, backends: Vec<Vec<Line<'static>>>) -> Result<Vec<Script>, AllocError>
     ensures { IfOk result (λ scripts. scripts.items
-        ≡ map (λ lines. machine_lines_of lines.items) backends.items) }
+        ≡ map (λ lines. machine_lines_of lines.items) backends.entry.items) }
 {
     let mut scripts = Vec::with_capacity(alloc, backends.len())?;
     for lines in backends {
@@ -97,13 +97,13 @@ fn line_counts_of(alloc: Global, scripts: &[Script]) -> Result<Vec<u64>, AllocEr
 fn begin(
     alloc: Global,
     options: &ReplayOptions,
-    backends: Vec<Vec<Line>>,
+    backends: Vec<Vec<Line<'static>>>,
 ) -> Result<ReplayBegun, AllocError>
     requires in_range { IsShapeInRange options.now.ring_pages options.now.cap_segments }
     requires few { length backends.items ≤ most_backends }
     // The lines do what some script asks for, so the records can be inserted, and none is a switch.
     requires asked { (asked : List (List AskedLine)) × AreBackendsOf asked backends.items }
-    ensures { (asked : List (List AskedLine)) → AreBackendsOf asked backends.items
+    ensures { (asked : List (List AskedLine)) → AreBackendsOf asked backends.entry.items
         → IfOk result (λ begun. IsReplayBegun options.now asked begun) }
 {
     let setup = setup_asked(

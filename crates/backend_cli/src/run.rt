@@ -1,4 +1,4 @@
-ghost use Rattle.std.specs.Prelude.{◌≡◌, ◌≤◌, ◌↔◌, ◌^◌, ◌++◌, ℕ, All, IfSome, List, [], Ok, Option, IsTrue, false, length, not, vec_len};
+ghost use Rattle.std.specs.Prelude.{◌≡◌, ◌≤◌, ◌↔◌, ◌^◌, ◌++◌, ℕ, All, IfSome, List, [], Ok, Option, IsTrue, false, length, not, vec_capacity, vec_len};
 ghost use Rattle.command_words.specs.Given.{IsShapeInRange};
 ghost use Rattle.wal_script.specs.Asked.{AskedLine};
 ghost use Rattle.wal_script.specs.Replay.{most_backends};
@@ -28,6 +28,7 @@ use crate::reading::read_script;
 use crate::setup::run_setup;
 use crate::told::ToldLists;
 use backend_lanes::{AnsweredLines, Gate, PlayedRun, Room, play_backends};
+use bumpalo::Bump;
 use byte_position::Geometry;
 use command_words::{RunOptions, ScriptRunOptions};
 use segment_disk::{Disk, Sink, Source};
@@ -48,30 +49,33 @@ pub(crate) struct Finished<D> {
     pub told: ToldLists,
 }
 
-fn backends_of<S: Source>(
+fn backends_of<'a, S: Source>(
     alloc: Global,
+    arena: &'a Bump,
     writer: Option<u32>,
     source: &mut S,
-) -> Result<Vec<Vec<Line>>, Outcome>
+) -> Result<Vec<Vec<Line<'a>>>, Outcome>
     ensures { ReadsBackends writer
         (source_view S.left S.handed S.ends_told S.faults source.old)
         (source_view S.left S.handed S.ends_told S.faults source.new) result }
 {
     let script = read_script(alloc, source)?;
-    Ok(parse_run(alloc, &script, writer)?)
+    Ok(parse_run(alloc, arena, &script, writer)?)
 }
 
-// Reads the script and takes all room that its backends need.
-pub(crate) fn prepare<S: Source>(
+// Reads the script, with its records' bodies in the arena, and takes all room that its backends
+// need.
+pub(crate) fn prepare<'a, S: Source>(
     alloc: Global,
+    arena: &'a Bump,
     writer: Option<u32>,
     source: &mut S,
-) -> Result<Room, Outcome>
+) -> Result<Room<'a>, Outcome>
     ensures { Prepares writer
         (source_view S.left S.handed S.ends_told S.faults source.old)
         (source_view S.left S.handed S.ends_told S.faults source.new) result }
 {
-    let backends = backends_of(alloc, writer, source)?;
+    let backends = backends_of(alloc, arena, writer, source)?;
     match Room::of(alloc, backends) {
         Ok(room) => Ok(room),
         Err(AllocError) => Err(Outcome::OutOfMemory),
@@ -253,7 +257,7 @@ pub(crate) fn run_prepared<R: Threads + Wait + Sync, O: Sink, D: Disk + Send, G:
     rt: &R,
     alloc: Global,
     options: &RunOptions,
-    room: Room,
+    room: Room<'_>,
     disk: D,
     out: &mut O,
     gate: &G,
@@ -261,7 +265,7 @@ pub(crate) fn run_prepared<R: Threads + Wait + Sync, O: Sink, D: Disk + Send, G:
     requires in_range { IsShapeInRange options.now.ring_pages options.now.cap_segments }
     requires prepared { (script : List (List AskedLine)) × IsPreparedFor script room }
     ensures holds { (before after : SourceView) (script : List (List AskedLine))
-        → IsPreparedFor script room → PlayHolds (outside_of before after
+        → IsPreparedFor script room.entry → PlayHolds (outside_of before after
         D.tape D.moment D.faults disk result.disk O.taken O.faults out.old out.new)
         options.now result.outcome script result.told }
     ensures as_handed_in { result.outcome ≡ Outcome.OutOfMemory → result.disk ≡ disk }
@@ -298,7 +302,7 @@ pub(crate) fn play_opened<R: Threads + Wait + Sync, O: Sink, D: Disk + Send, G: 
     rt: &R,
     options: &RunOptions,
     opened: OpenedLog<D>,
-    room: Room,
+    room: Room<'_>,
     out: &mut O,
     gate: &G,
 ) -> Finished<D>
@@ -310,7 +314,7 @@ pub(crate) fn play_opened<R: Threads + Wait + Sync, O: Sink, D: Disk + Send, G: 
     requires counted { IfSome (began_of_table D.tape (table_of opened.log))
         (λ t. (opening_of_log opened.log).moment ≡ length t.calls) }
     requires prepared { (script : List (List AskedLine)) × IsPreparedFor script room }
-    ensures { (script : List (List AskedLine)) → IsPreparedFor script room
+    ensures { (script : List (List AskedLine)) → IsPreparedFor script room.entry
         → HasPlayedOut D.tape D.moment D.faults opened.log options.now script opened.begun
         (O.taken out.old) (O.taken out.new) (O.faults out.old) (O.faults out.new)
         result.outcome result.disk result.told }
@@ -332,31 +336,37 @@ fn conclude<O: Sink, D>(
     options: &RunOptions,
     from: Lsn,
     begun: Result<(), SinkFault>,
-    played: PlayedRun<D>,
+    played: PlayedRun<'_, D>,
     out: &mut O,
 ) -> Finished<D>
     requires answered { All HasAnswers played.backends.items }
     requires few_backends { vec_len played.backends ≤ most_backends }
     requires few { all_reserved_count (lists_of played.backends.items) ≤ 2 ^ 42 }
+    requires none { played.told.items ≡ [] }
+    requires room { vec_len played.backends ≤ vec_capacity played.told }
     requires ends { (place used : ℕ)
         × EndsBehind options.now.geometry place used from.0 played.closed.end.0 }
     ensures concluded { (place used : ℕ) (taken : Option (List ℕ)) (faults : ℕ) (text : List ℕ)
-        → EndsBehind options.now.geometry place used from.0 played.closed.end.0
+        → EndsBehind options.now.geometry place used from.0 played.entry.closed.end.0
         → Puts taken (O.taken out.old) faults (O.faults out.old) text begun
         → IsConcluded options.now.geometry place used options.now.list text
-        played.backends.items played.closed.down taken (O.taken out.new) faults
+        played.entry.backends.items played.entry.closed.down taken (O.taken out.new) faults
         (O.faults out.new) result.outcome }
-    ensures disk { result.disk ≡ played.closed.disk }
-    ensures told { result.told ≡ lists_of played.backends.items }
+    ensures disk { result.disk ≡ played.entry.closed.disk }
+    ensures told { result.told ≡ lists_of played.entry.backends.items }
 {
-    let PlayedRun { closed, backends } = played;
+    let PlayedRun {
+        closed,
+        backends,
+        told,
+    } = played;
     let Closed { disk, end, down } = closed;
     let summary = summary_of(options.geometry, from, end, &backends);
     let is_printed = print_behind(out, begun, options.list, &backends, &summary).is_ok();
     Finished {
         outcome: conclusion(down, &backends, is_printed),
         disk,
-        told: ToldLists::of_backends(backends),
+        told: ToldLists::of_backends(told, backends),
     }
 }
 
@@ -382,7 +392,8 @@ pub(crate) fn run<R: Threads + Wait + Sync, S: Source, O: Sink, D: Disk + Send, 
         options.now result.outcome result.told }
     ensures as_handed_in { result.outcome ≡ Outcome.OutOfMemory → result.disk ≡ disk }
 {
-    match prepare(alloc, options.writer, source) {
+    let arena = Bump::new(alloc);
+    match prepare(alloc, &arena, options.writer, source) {
         Ok(room) => run_prepared(rt, alloc, &options.run, room, disk, out, gate),
         Err(outcome) => Finished {
             outcome,

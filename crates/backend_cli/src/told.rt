@@ -1,4 +1,4 @@
-ghost use Rattle.std.specs.Prelude.{◌≡◌, ◌==◌, ◌<◌, ◌^◌, [], length, slice_index_or};
+ghost use Rattle.std.specs.Prelude.{◌≡◌, ◌==◌, ◌<◌, ◌≤◌, ◌^◌, [], length, slice_index_or, vec_capacity, vec_len};
 ghost use Rattle.backend_lanes.specs.Backends.{lists_of};
 
 use backend_lanes::AnsweredLines;
@@ -9,19 +9,18 @@ use told_lines::Told;
 /// What each backend's lines were told, in order, seen by contracts as a list of lists.
 #[derive(Debug, Drop)]
 pub struct ToldLists {
-    backends: Vec<AnsweredLines>,
+    lists: Vec<Vec<Told>>,
 }
 
 impl Model for ToldLists {
-    ghost use Rattle.std.specs.Prelude.{List, length, ◌<◌, ◌^◌};
-    ghost use Rattle.backend_lanes.specs.Backends.{lists_of};
+    ghost use Rattle.std.specs.Prelude.{List, length, map, ◌<◌, ◌^◌};
     ghost use Rattle.told_lines.specs.declared.told.Told.{Told};
 
     ghost Value = { List (List Told) };
 
-    ghost view = { λ t. lists_of t.backends.items };
+    ghost view = { λ t. map (λ list. list.items) t.lists.items };
 
-    ghost invariant = { λ t. length t.backends.items < 2 ^ 32 };
+    ghost invariant = { λ t. length t.lists.items < 2 ^ 32 };
 }
 
 impl ToldLists {
@@ -30,29 +29,35 @@ impl ToldLists {
         ensures { result ≡ [] }
     {
         ToldLists {
-            backends: Vec::new(alloc),
+            lists: Vec::new(alloc),
         }
     }
 
-    // What the lines of these backends were told.
-    pub(crate) fn of_backends(backends: Vec<AnsweredLines>) -> ToldLists
-        requires { length backends.items < 2 ^ 32 }
-        ensures { result ≡ lists_of backends.items }
+    // What the lines of these backends were told, in the room there is.
+    pub(crate) fn of_backends(room: Vec<Vec<Told>>, backends: Vec<AnsweredLines>) -> ToldLists
+        requires none { room.items ≡ [] }
+        requires room { vec_len backends ≤ vec_capacity room }
+        requires few { length backends.items < 2 ^ 32 }
+        ensures { result ≡ lists_of backends.entry.items }
     {
-        ToldLists { backends }
+        let mut lists = room;
+        for backend in backends {
+            lists.push_reserved(backend.told);
+        }
+        ToldLists { lists }
     }
 
     /// How many backends have a list.
     pub fn len(&self) -> u32
         ensures { result ≡ length self.now }
     {
-        self.backends.len() as u32
+        self.lists.len() as u32
     }
 
     pub fn is_empty(&self) -> bool
         ensures { result ≡ (length self.now == 0) }
     {
-        self.backends.is_empty()
+        self.lists.is_empty()
     }
 
     /// What a backend's lines were told.
@@ -60,6 +65,6 @@ impl ToldLists {
         requires { backend < length self.now }
         ensures { result.now ≡ slice_index_or self.now backend [] }
     {
-        self.backends[backend as usize].told.as_slice()
+        self.lists[backend as usize].as_slice()
     }
 }

@@ -29,6 +29,8 @@ pub record IsRoomFor (scripts : List (Vec Line Global)) (room : Room) : Type 0 w
   pub lanes_room : length scripts ≤ vec_capacity room.lanes
   pub none_played : room.played.items ≡ []
   pub played_room : length scripts ≤ vec_capacity room.played
+  pub none_told : room.told.items ≡ []
+  pub told_room : length scripts ≤ vec_capacity room.told
 
 -- one backend's lines ask for this, and each was told an answer
 pub record HasToldEach (asked : List AskedLine) (backend : AnsweredLines) : Type 0 where

@@ -8,15 +8,15 @@ use wal_script::Line;
 
 /// A backend: its lines, and what they were told, in order.
 #[derive(Debug, Drop)]
-pub struct AnsweredLines {
-    pub lines: Vec<Line>,
+pub struct AnsweredLines<'a> {
+    pub lines: Vec<Line<'a>>,
     pub told: Vec<Told>,
 }
 
-impl AnsweredLines {
+impl<'a> AnsweredLines<'a> {
     /// A backend that was told nothing yet, with room for an answer to each line.
-    pub fn of(alloc: Global, lines: Vec<Line>) -> Result<AnsweredLines, AllocError>
-        ensures lines { IfOk result (λ backend. backend.lines ≡ lines) }
+    pub fn of(alloc: Global, lines: Vec<Line<'a>>) -> Result<AnsweredLines<'a>, AllocError>
+        ensures lines { IfOk result (λ backend. backend.lines ≡ lines.entry) }
         ensures room { IfOk result HasRoom }
     {
         let told = Vec::with_capacity(alloc, lines.len())?;

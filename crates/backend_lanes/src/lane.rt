@@ -25,12 +25,12 @@ use wal_script::Line;
 
 /// A backend at work: its pass, its lines, and what they were told so far.
 #[derive(Drop)]
-pub(crate) struct Lane {
+pub(crate) struct Lane<'a> {
     pub session: Session,
-    pub backend: AnsweredLines,
+    pub backend: AnsweredLines<'a>,
 }
 
-impl Lane {
+impl<'a> Lane<'a> {
     // Plays the backend's lines in order, and notes what each is told in the room there is: nothing
     // takes memory once the log is open. The gate is passed before each line. A line that is
     // refused does not end the backend: the next is tried, and where the disk has failed it is told
@@ -39,13 +39,14 @@ impl Lane {
         requires { IsReadyLane log.now self.old }
         ensures { PlaysLane log.now self.old self.new }
     {
+        let backend = &mut self.backend;
         play_lines(
             rt,
             log,
             gate,
             &mut self.session,
-            &self.backend.lines,
-            &mut self.backend.told,
+            &backend.lines,
+            &mut backend.told,
         );
     }
 }

@@ -31,13 +31,13 @@ use wal_types::Lsn;
 
 // A lane for each backend, whose passes have the least of the first pass's spare numbers, in the
 // room there is for them; `start` is the log's.
-pub(crate) fn begin_lanes<D: Disk>(
+pub(crate) fn begin_lanes<'a, D: Disk>(
     log: &Wal<D>,
     first: &mut Pass,
-    backends: Vec<AnsweredLines>,
-    mut lanes: Vec<Lane>,
+    backends: Vec<AnsweredLines<'a>>,
+    mut lanes: Vec<Lane<'a>>,
     start: Lsn,
-) -> Vec<Lane>
+) -> Vec<Lane<'a>>
     // The first pass has a spare number for each backend, each backend has room for its answers,
     // and `lanes` has room for them all.
     requires pass { IsPassOfLog log.now first.old }
@@ -47,9 +47,9 @@ pub(crate) fn begin_lanes<D: Disk>(
     requires lanes_room { vec_len backends ≤ vec_capacity lanes }
     requires start { start.0 ≡ (setup_of_log log.now).segment_size }
     // Each lane has its backend's lines, and a pass with the next number that has reserved nothing.
-    ensures count { vec_len result ≡ vec_len backends }
+    ensures count { vec_len result ≡ vec_len backends.entry }
     ensures lanes { (script : List (List AskedLine))
-        → AreBackendsOf script (scripts_of backends.items)
+        → AreBackendsOf script (scripts_of backends.entry.items)
         → BegunLanes log.now first.old.spare script result.items }
     ensures fresh { All (IsFreshLane log.now) result.items }
     // No number is lost, and a first pass that had reserved nothing has reserved nothing still.
@@ -76,7 +76,7 @@ pub(crate) fn run_lanes<R: Threads + Wait + Sync, D: Disk + Send, G: Gate + Sync
     rt: &R,
     log: &Wal<D>,
     gate: &G,
-    lanes: &mut [Lane],
+    lanes: &mut [Lane<'_>],
 )
     requires ready { All (IsReadyLane log.now) lanes.old }
     ensures same { length lanes.new ≡ length lanes.old }
@@ -90,20 +90,20 @@ pub(crate) fn run_lanes<R: Threads + Wait + Sync, D: Disk + Send, G: Gate + Sync
 /// The backends of lanes that were taken in, and the greatest end of a record that their lines were
 /// told; the log's start where they were told none.
 #[derive(Drop)]
-pub(crate) struct Rejoined {
-    pub backends: Vec<AnsweredLines>,
+pub(crate) struct Rejoined<'a> {
+    pub backends: Vec<AnsweredLines<'a>>,
     pub end: Lsn,
 }
 
 // Takes the lanes in again, in order, and puts their backends into the room there is; `start` is
 // the log's.
-pub(crate) fn join_lanes<D: Disk>(
+pub(crate) fn join_lanes<'a, D: Disk>(
     log: &Wal<D>,
     first: &mut Pass,
-    lanes: Vec<Lane>,
-    mut backends: Vec<AnsweredLines>,
+    lanes: Vec<Lane<'a>>,
+    mut backends: Vec<AnsweredLines<'a>>,
     start: Lsn,
-) -> Rejoined
+) -> Rejoined<'a>
     // The lanes' passes are about nothing and share the log's numbers with the first; `backends`
     // has room for all.
     requires pass { IsPassOfLog log.now first.old }
@@ -115,12 +115,12 @@ pub(crate) fn join_lanes<D: Disk>(
     requires start { start.0 ≡ (setup_of_log log.now).segment_size }
     // What the lines were told is what stands in the logs that the first pass took in, which set no
     // fault itself.
-    ensures taken { (script : List (List AskedLine)) → PlayedLanes log.now 1 script lanes.items
+    ensures taken { (script : List (List AskedLine)) → PlayedLanes log.now 1 script lanes.entry.items
         → IsIdle (view_of_pass first.old)
         → HasTakenIn (opening_of_log log.now) (view_of_pass first.new) script
         (lists_of result.backends.items)
         × (((view_of_pass first.new).writing).down_set ≡ 0) }
-    ensures lines { (script : List (List AskedLine)) → PlayedLanes log.now 1 script lanes.items
+    ensures lines { (script : List (List AskedLine)) → PlayedLanes log.now 1 script lanes.entry.items
         → HaveToldEach script result.backends.items }
     // The end told is at or above each that a line was told, and the first pass has seen it
     // reserved or it is the log's start; so a flush may go up to it.

@@ -20,6 +20,7 @@ use segment_disk::Disk;
 use std::alloc::{AllocError, Global};
 use std::sync::Wait;
 use std::thread::Threads;
+use told_lines::Told;
 use wal_log::numbers::calls_keep_numbers;
 use wal_log::shared_numbers::passes_share_numbers;
 use wal_log::{Closed, Pass, Wal};
@@ -29,19 +30,22 @@ use wal_types::Lsn;
 
 /// All room that backends take while they play: taken before the log is opened.
 #[derive(Drop)]
-pub struct Room {
-    pub backends: Vec<AnsweredLines>,
-    lanes: Vec<Lane>,
-    played: Vec<AnsweredLines>,
+pub struct Room<'a> {
+    pub backends: Vec<AnsweredLines<'a>>,
+    lanes: Vec<Lane<'a>>,
+    played: Vec<AnsweredLines<'a>>,
+    /// For who keeps what lines were told without the lines.
+    told: Vec<Vec<Told>>,
 }
 
-impl Room {
+impl<'a> Room<'a> {
     /// Room for backends with these lines.
-    pub fn of(alloc: Global, scripts: Vec<Vec<Line>>) -> Result<Room, AllocError>
-        ensures { IfOk result (IsRoomFor scripts.items) }
+    pub fn of(alloc: Global, scripts: Vec<Vec<Line<'a>>>) -> Result<Room<'a>, AllocError>
+        ensures { IfOk result (IsRoomFor scripts.entry.items) }
     {
         let lanes = Vec::with_capacity(alloc, scripts.len())?;
         let played = Vec::with_capacity(alloc, scripts.len())?;
+        let told = Vec::with_capacity(alloc, scripts.len())?;
         let mut backends = Vec::with_capacity(alloc, scripts.len())?;
         for lines in scripts {
             backends.push_reserved(AnsweredLines::of(alloc, lines)?);
@@ -50,28 +54,31 @@ impl Room {
             backends,
             lanes,
             played,
+            told,
         })
     }
 }
 
 /// What a run leaves: its closed log, and its backends with what their lines were told.
 #[derive(Drop)]
-pub struct PlayedRun<D> {
+pub struct PlayedRun<'a, D> {
     pub closed: Closed<D>,
-    pub backends: Vec<AnsweredLines>,
+    pub backends: Vec<AnsweredLines<'a>>,
+    /// Room for what each backend's lines were told.
+    pub told: Vec<Vec<Told>>,
 }
 
 /// Plays the lines of all backends side by side, by passes that are split off the first one and
 /// taken in again; flushes up to the greatest end that a line was told, which no line asked for;
 /// and closes the log. `start` is the log's. Nothing takes memory.
-pub fn play_backends<R: Threads + Wait + Sync, D: Disk + Send, G: Gate + Sync>(
+pub fn play_backends<'a, R: Threads + Wait + Sync, D: Disk + Send, G: Gate + Sync>(
     rt: &R,
     log: Wal<D>,
     mut first: Pass,
-    room: Room,
+    room: Room<'a>,
     gate: &G,
     start: Lsn,
-) -> PlayedRun<D>
+) -> PlayedRun<'a, D>
     // The first pass is as the log's opening left it, and there are as many other numbers as
     // backends.
     requires pass { IsPassOfLog log first }
@@ -84,9 +91,11 @@ pub fn play_backends<R: Threads + Wait + Sync, D: Disk + Send, G: Gate + Sync>(
         × AreBackendsOf script (scripts_of room.backends.items) }
     // Each line was told an answer, the answers are what the passes' logs came to have, the log was
     // closed, and the first pass was promised all that was told or knows of a failed disk.
-    ensures { (script : List (List AskedLine))
-        → AreBackendsOf script (scripts_of room.backends.items)
+    ensures played { (script : List (List AskedLine))
+        → AreBackendsOf script (scripts_of room.entry.backends.items)
         → HasPlayed D.tape D.moment D.faults log script result.backends.items result.closed }
+    // The room for what they were told comes back as it is.
+    ensures told { result.told ≡ room.entry.told }
 {
     calls_keep_numbers();
     passes_share_numbers();
@@ -95,6 +104,7 @@ pub fn play_backends<R: Threads + Wait + Sync, D: Disk + Send, G: Gate + Sync>(
         backends,
         lanes,
         played,
+        told,
     } = room;
     let mut lanes = begin_lanes(&log, &mut first, backends, lanes, start);
     run_lanes(rt, &log, gate, &mut lanes);
@@ -104,5 +114,6 @@ pub fn play_backends<R: Threads + Wait + Sync, D: Disk + Send, G: Gate + Sync>(
     PlayedRun {
         closed: log.close(first),
         backends,
+        told,
     }
 }

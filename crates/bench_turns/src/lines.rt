@@ -44,7 +44,7 @@ fn line(alloc: Global, number: u32) -> Result<PlainLine, BodyErr>
     }
 }
 
-fn body(alloc: Global, rmid: u8, len: usize) -> Result<Body, BodyErr>
+fn body(alloc: Global, rmid: u8, len: usize) -> Result<Body<'static>, BodyErr>
     ensures { IfOk result (λ body. is_assembled_switch body ≡ false) }
 {
     let record = Record {

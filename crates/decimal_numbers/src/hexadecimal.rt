@@ -2,6 +2,7 @@ ghost use Rattle.std.specs.Prelude.{◌≡◌, ◌<◌, IfSome};
 ghost use Rattle.decimal_numbers.specs.Hexadecimal.{hexadecimal_value};
 
 /// The value of a hexadecimal digit, in either case.
+#[inline(always)]
 pub fn hexadecimal_digit(byte: u8) -> Option<u8>
     ensures value { result ≡ hexadecimal_value byte }
     ensures within { IfSome result (λ d. d < 16) }

@@ -152,7 +152,7 @@ fn damaged(found: &FoundRecord, kind: DamageKind) -> FindFault
 }
 
 // What a record is written as, if this program can write it.
-fn body_of(alloc: Global, value: &Record) -> Result<Option<Body>, AllocError>
+fn body_of(alloc: Global, value: &Record) -> Result<Option<Body<'static>>, AllocError>
     ensures { IfOk result (TellsBody value.now) }
 {
     match Body::assemble(alloc, value) {

@@ -13,7 +13,7 @@ const BACKENDS: u32 = 4;
 
 /// Makes the generator's script: four backends with so many lines each.
 #[tactic(auto, unfolding(crate::specs::Generated::generated_script))]
-pub fn generate(alloc: Global, lines: u32) -> Result<Vec<Vec<Line>>, AllocError>
+pub fn generate(alloc: Global, lines: u32) -> Result<Vec<Vec<Line<'static>>>, AllocError>
     requires { lines ≤ 100000 }
     ensures { IfOk result (λ backends. AreBackendsOf (generated_script lines) backends.items) }
 {
@@ -25,7 +25,7 @@ pub fn generate(alloc: Global, lines: u32) -> Result<Vec<Vec<Line>>, AllocError>
 }
 
 // The lines of one backend.
-fn backend_lines(alloc: Global, backend: u32, count: u32) -> Result<Vec<Line>, AllocError>
+fn backend_lines(alloc: Global, backend: u32, count: u32) -> Result<Vec<Line<'static>>, AllocError>
     requires backend { backend < 4 }
     requires count { count ≤ 100000 }
     ensures { IfOk result (λ lines. AreLinesOf (generated_lines backend count) lines.items) }

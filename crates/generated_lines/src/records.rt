@@ -41,7 +41,7 @@ const BLOCK_PLACE: u32 = 4;
 const COMMIT_PLACE: u32 = 9;
 
 /// What the line of an index asks its backend for, with its record assembled.
-pub(crate) fn action(alloc: Global, backend: u32, index: u32) -> Result<Action, AllocError>
+pub(crate) fn action(alloc: Global, backend: u32, index: u32) -> Result<Action<'static>, AllocError>
     requires backend { backend < 4 }
     requires index { index < 100000 }
     ensures { IfOk result (IsActionOf (generated_asked backend index)) }
@@ -56,7 +56,7 @@ pub(crate) fn action(alloc: Global, backend: u32, index: u32) -> Result<Action, 
 }
 
 // A record that can be written, assembled: only memory may run out.
-fn assembled(alloc: Global, value: &Record) -> Result<Body, AllocError>
+fn assembled(alloc: Global, value: &Record) -> Result<Body<'static>, AllocError>
     requires { IsWritable value.now }
     ensures { IfOk result (IsBodyOf value.now) }
 {

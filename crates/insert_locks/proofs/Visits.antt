@@ -4,7 +4,9 @@ use Rattle.machine_laws.proofs.LocksKept.{met_cases}
 use Rattle.wal_core.specs.Words.{end_form}
 use Rattle.wal_core.specs.Views.{Watching, View}
 use Rattle.wal_core.specs.Moves.{begun, is_own, visited_on}
-use Rattle.insert_locks.specs.Watching.{LetsPass, bound_behind, watched_to, with_sight, with_watching}
+use Rattle.wal_core.specs.Steps.{load_lock}
+use Rattle.wal_rule.specs.Stepping.{Meets}
+use Rattle.insert_locks.specs.Watching.{HoldsBack, IsHeldBack, LetsPass, bound_behind, watched_to, with_sight, with_watching}
 
 -- ---- one lock
 
@@ -59,6 +61,27 @@ module _ (upto end bound lock : ℕ) (old new newer : View)
       (visited_on (is_own lock new.working) lock word (watched_to end lock bound)) new
   met_is = is ∙ ap (λ (x : Watching). with_watching
       (visited_on (is_own lock new.working) lock word x) new) k.begins
+
+  -- a lock that holds the watch back
+  pub held_here : lock < 8 → Meets new (load_lock lock end) word → HoldsBack (min upto end) word
+      → IsHeldBack upto lock word old newer
+  held_here low met holds =
+      let held : View → View = λ v. with_watching
+      (visited_on (is_own lock v.working) lock word (watched_to end lock bound)) v in
+      subst (λ (w : View). IsHeldBack upto lock word old w) (sym met_is) (record {
+        end = end;
+        bound = bound;
+        rises = k.rises;
+        end_is = k.end_is;
+        reaches = k.reaches;
+        within = k.within;
+        lock_low = low;
+        before = new;
+        before_is = k.is;
+        met = met;
+        holds_back = holds;
+        new_is = ap held k.is;
+      })
 
   pub watch_goes_on : LetsPass (min upto end) word
       → WatchesOn upto end (bound_behind word bound) (lock + 1) old newer

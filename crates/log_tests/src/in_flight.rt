@@ -155,7 +155,7 @@ fn shared(alloc: Global, setup: Setup) -> Result<(Log, Pass, Pass), Fail>
 }
 
 // A record's place is reserved.
-fn begun<'a, R: Abort>(rt: &R, log: &Log, pass: Pass, body: &'a Body) -> Inflight<'a>
+fn begun<'a, R: Abort>(rt: &R, log: &Log, pass: Pass, body: &'a Body<'a>) -> Inflight<'a>
     requires pass { IsPassOfLog log.now pass }
     requires inserted { is_assembled_switch body.now ≡ false }
     ensures flight { IsInFlightOf log.now result }
@@ -407,13 +407,13 @@ fn told_behind<R: Abort>(
         return None;
     }
     let pass = log.split(first);
-    match log.try_begin(pass, body) {
+    match log.try_begin(pass, &*body) {
         Err((e, pass)) => {
             log.join(first, pass);
             Some(e)
         }
         Ok(flight) => {
-            let told = told_behind(rt, log, first, body, count - 1);
+            let told = told_behind(rt, log, first, &*body, count - 1);
             log.join(first, spent(rt, log, flight));
             told
         }

@@ -10,7 +10,7 @@ use wal_types::{BlockList, Bytes, Record, Xid};
 
 /// A heap's record of a transaction with so many bytes of main data: up to 255 of them stand behind
 /// a header of 24 bytes and one of 2, more behind one of 5.
-pub fn record(alloc: Global, xid: u32, len: usize) -> Result<Body, Fail>
+pub fn record(alloc: Global, xid: u32, len: usize) -> Result<Body<'static>, Fail>
     ensures inserted { IfOk result (λ body. is_assembled_switch body ≡ false) }
 {
     let record = Record {

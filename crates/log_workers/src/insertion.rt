@@ -12,7 +12,7 @@ use std::marker::Model;
 /// A record that is no segment switch.
 #[derive(Drop)]
 pub struct Insertion {
-    body: Body,
+    body: Body<'static>,
 }
 
 impl Model for Insertion {
@@ -27,14 +27,14 @@ impl Model for Insertion {
 }
 
 impl Insertion {
-    pub fn of(body: Body) -> Insertion
+    pub fn of(body: Body<'static>) -> Insertion
         requires { is_assembled_switch body ≡ false }
-        ensures { result ≡ body }
+        ensures { result ≡ body.entry }
     {
         Insertion { body }
     }
 
-    pub(crate) fn body(&self) -> &Body
+    pub(crate) fn body(&self) -> &Body<'static>
         ensures body { result.now ≡ self.now }
         ensures inserted { is_assembled_switch result.now ≡ false }
     {
@@ -45,7 +45,7 @@ impl Insertion {
 /// A segment switch's record.
 #[derive(Drop)]
 pub struct SegmentEnd {
-    body: Body,
+    body: Body<'static>,
 }
 
 impl Model for SegmentEnd {
@@ -67,7 +67,7 @@ impl SegmentEnd {
         }
     }
 
-    pub(crate) fn body(&self) -> &Body
+    pub(crate) fn body(&self) -> &Body<'static>
         ensures { result.now ≡ assembled switch_record }
     {
         &self.body

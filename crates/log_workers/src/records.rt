@@ -10,7 +10,7 @@ use wal_types::{BlockList, Bytes, Record, Xid};
 
 /// A transaction's record of 34 bytes, which takes up 40 of the log: a header of 24, one of 2, and
 /// 8 of main data.
-pub fn transaction(alloc: Global, xid: u32) -> Result<Body, BodyErr>
+pub fn transaction(alloc: Global, xid: u32) -> Result<Body<'static>, BodyErr>
     ensures inserted { IfOk result (λ body. is_assembled_switch body ≡ false) }
 {
     let record = Record {

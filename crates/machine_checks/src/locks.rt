@@ -6,13 +6,13 @@ ghost use Rattle.machine_checks.specs.Locks.{LocksAgree, held_by, is_lock};
 
 use crate::moment::BackendNow;
 use crate::words::word_at;
-use machine_words::layout::FIRST_LOCK;
+use machine_words::layout::number_of_lock;
 
 pub(crate) fn locks_agree(words: &[u64], backends: &[BackendNow]) -> bool
     ensures { IsTrue result ↔ LocksAgree words.now backends.now }
 {
     for lock in 0..8 {
-        let holders = if word_at(words, FIRST_LOCK + lock as usize) == 0 {
+        let holders = if word_at(words, number_of_lock(lock)) == 0 {
             0
         } else {
             1

@@ -6,7 +6,7 @@ ghost use Rattle.machine_checks.specs.Progress.{ProgressAgrees, TellsAtMost, mos
 use crate::moment::BackendNow;
 use crate::words::word_at;
 use machine_turns::PlainFlight;
-use machine_words::layout::FIRST_LOCK;
+use machine_words::layout::number_of_lock;
 
 pub(crate) fn progress_agrees(words: &[u64], backends: &[BackendNow]) -> bool
     ensures { IsTrue result ↔ ProgressAgrees words.now backends.now }
@@ -20,7 +20,7 @@ fn tells_at_most(words: &[u64], lock: Option<u32>, flight: PlainFlight) -> bool
     ensures { IsTrue result ↔ TellsAtMost words.now lock (most_of flight) }
 {
     match lock {
-        Some(lock) => is_at_most(word_at(words, FIRST_LOCK + lock as usize), flight),
+        Some(lock) => is_at_most(word_at(words, number_of_lock(lock)), flight),
         None => true,
     }
 }

@@ -6,6 +6,7 @@ use mathlib.Core.Option.{none, some}
 use Rattle.byte_position.specs.Geometry.{pages_of}
 use Rattle.segment_disk.specs.Failing.{is_listed}
 use Rattle.segment_disk.specs.Tape.{sync_call, write_call}
+use Rattle.wal_core.specs.Words.{write_turn_number}
 use Rattle.wal_core.specs.Views.{Lent, Out, Plain, View}
 use Rattle.wal_core.specs.Moves.{CallOutcome, Done, Failed, after_sync, after_write, is_done, with_hold}
 use Rattle.wal_core.proofs.WordLists.{word_again}
@@ -91,7 +92,7 @@ module _ (m : Machine) (number : ℕ) (v : View) (ask : Ask) (line : PlainLine) 
             ≡ cond (is_done (outcome_by b)) (goes_on (Writes (purpose_of purpose)))
             (goes_on (SetsDown (purpose_of purpose))))
             listed (λ fails. refl) (λ passes. refl);
-        words = sym (word_again words 11);
+        words = sym (word_again words write_turn_number);
         view = refl;
       })
 
@@ -127,7 +128,7 @@ module _ (m : Machine) (number : ℕ) (v : View) (ask : Ask) (line : PlainLine) 
             ∙ ap (λ (d : Doing). goes_on d)
             (page_or_end_alike purpose (record writer { plain = machine_writer false }) l u v ask 0
             true)));
-        words = sym (word_again words 11);
+        words = sym (word_again words write_turn_number);
         view = refl;
       })
     where
@@ -181,7 +182,7 @@ module _ (m : Machine) (number : ℕ) (v : View) (ask : Ask) (line : PlainLine) 
             ∙ ap (λ (d : Doing). goes_on d)
             (page_or_end_alike purpose (record writer { plain = machine_writer false }) l u v ask 0
             true));
-        words = sym (word_again words 11);
+        words = sym (word_again words write_turn_number);
         view = refl;
       })
     where
@@ -219,6 +220,6 @@ module _ (m : Machine) (number : ℕ) (v : View) (ask : Ask) (line : PlainLine) 
             ≡ cond (is_done (outcome_by b)) (goes_on (StoresWritten ForLine))
             (goes_on (SetsDown ForLine)))
             listed (λ fails. refl) (λ passes. refl);
-        words = sym (word_again words 11);
+        words = sym (word_again words write_turn_number);
         view = refl;
       })

@@ -11,7 +11,7 @@ use Rattle.record_spelling.specs.Spelling.{Assembled, RecordOf, is_assembled_swi
 use Rattle.record_spelling.proofs.SwitchLaws.{logged_no_switch}
 use Rattle.segment_disk.specs.declared.disk.Call.{Call}
 use Rattle.wal_core.specs.declared.setup.Setup.{Setup}
-use Rattle.wal_core.specs.Words.{Opening, flushed_word, log_limit, log_start, position_word}
+use Rattle.wal_core.specs.Words.{Opening, flushed_word, log_limit, log_start, position_word, lock_number}
 use Rattle.wal_core.specs.Moves.{no_writing, split_off, unlocked}
 use Rattle.wal_core.proofs.NothingFound.{nothing_ends, nothing_opens}
 use Rattle.wal_core.specs.Opened.{AreFirstWords, IsFirstWriter}
@@ -267,7 +267,7 @@ module _ (setup : Setup) (is : IsSetup setup) (words : WordsState) (w : WriterSt
         tell = record {
           position = ap (λ (p : ℕ). end_address_of size p % 8192) position
               ∙ ap (λ (a : ℕ). a % 8192) starts ∙ whole;
-          locks = λ lock low. let none_told = first_words.zeros (2 + lock) (omega arith)
+          locks = λ lock low. let none_told = first_words.zeros (lock_number lock) (omega arith)
               (omega (arith, low)) in ap (λ (n : ℕ). (n - 1) % 8192) none_told;
           flushed = ap (λ (a : ℕ). a % 8192) flushed ∙ whole;
         };

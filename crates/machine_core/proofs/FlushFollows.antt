@@ -4,7 +4,7 @@ use Rattle.std.proofs.Common.{◌≡◌, ℕ, ◌+◌, ◌-◌, ◌≤◌, Bool,
 use Rattle.std.proofs.Math.Bool.{and-false}
 use Rattle.std.proofs.Math.Dec.{leb}
 use Rattle.std.proofs.Math.Nat.{le-min, min-le_left}
-use Rattle.wal_core.specs.Words.{end_form, flushed_word, lock_word}
+use Rattle.wal_core.specs.Words.{end_form, flushed_word, lock_word, write_turn_number, flushed_number, moment_number, down_number, lock_number}
 use Rattle.wal_core.specs.Views.{Flight, Hold, Idle, Turned as HasTurned, View, Watching, is_among}
 use Rattle.wal_core.specs.Moves.{is_done, is_landed, is_own, visited_on, with_hold}
 use Rattle.wal_core.proofs.WordLists.{word_again}
@@ -77,7 +77,7 @@ module _ (m : Machine) (number : ℕ) (v : View) (ask : Ask) (line : PlainLine) 
   flush_begins_follow s = record {
     event = refl;
     next = refl;
-    words = sym (word_again words 16);
+    words = sym (word_again words down_number);
     view = refl;
   }
 
@@ -97,7 +97,7 @@ module _ (m : Machine) (number : ℕ) (v : View) (ask : Ask) (line : PlainLine) 
         (doings.Visits purposes.Line 0)))
         ≡ cond b (goes_on LoadsMoment) (goes_on (Visits ForLine 0)))
         (leb (asked_end v) (flushed_word words)) (λ reached. refl) (λ before. refl);
-    words = sym (word_again words 14);
+    words = sym (word_again words flushed_number);
     view = refl;
   }
 
@@ -105,7 +105,7 @@ module _ (m : Machine) (number : ℕ) (v : View) (ask : Ask) (line : PlainLine) 
   loads_moment_follow s = record {
     event = refl;
     next = refl;
-    words = sym (word_again words 15);
+    words = sym (word_again words moment_number);
     view = refl;
   }
 
@@ -119,7 +119,7 @@ module _ (m : Machine) (number : ℕ) (v : View) (ask : Ask) (line : PlainLine) 
         ≡ cond b (goes_on (TakesTurn (purpose_of purpose)))
         (goes_on (Visits (purpose_of purpose) (lock + 1))))
         (eqb (lock + 1) 8) (λ last. refl) (λ more. refl);
-    words = sym (word_again words (2 + lock));
+    words = sym (word_again words (lock_number lock));
     view = ap (λ (x : PlainWatching). record (plain_view v) { watching = x }) watched_alike;
   }
     where
@@ -147,7 +147,7 @@ module _ (m : Machine) (number : ℕ) (v : View) (ask : Ask) (line : PlainLine) 
     event = refl;
     next = refl;
     words = ap
-        (λ (b : Bool). set words 11 (cond b ((v.reserving).number + 1) (slice_index words 11)))
+        (λ (b : Bool). set words write_turn_number (cond b ((v.reserving).number + 1) (slice_index words write_turn_number)))
         (sym s.can);
     view = ap (λ (b : Bool). plain_view (cond b (with_hold HasTurned v) v)) (sym s.can);
   }
@@ -157,7 +157,7 @@ module _ (m : Machine) (number : ℕ) (v : View) (ask : Ask) (line : PlainLine) 
   loads_down_follow purpose s = record {
     event = refl;
     next = refl;
-    words = sym (word_again words 16);
+    words = sym (word_again words down_number);
     view = refl;
   }
 
@@ -167,7 +167,7 @@ module _ (m : Machine) (number : ℕ) (v : View) (ask : Ask) (line : PlainLine) 
   puts_back_follow purpose failed s = record {
     event = refl;
     next = refl;
-    words = sym (word_again words 11);
+    words = sym (word_again words write_turn_number);
     view = refl;
   }
 
@@ -182,7 +182,7 @@ module _ (m : Machine) (number : ℕ) (v : View) (ask : Ask) (line : PlainLine) 
   }
     where
       met : ℕ
-      met = slice_index words 11
+      met = slice_index words write_turn_number
 
       behind : (p : PlainPurpose) (f : Bool) → next_of_plain (behind_writing p f)
           ≡ machine_behind v (with_hold Idle v) ask met (is_done (outcome m v ask))

@@ -10,7 +10,7 @@ use Rattle.byte_position.specs.Position.{end_address_of}
 use Rattle.wal_page.specs.EntryWords.{address_of_word, words_owned}
 use Rattle.wal_page.specs.Order.{Entry, finish_of, position_behind, room_at}
 use Rattle.wal_page.proofs.PaddingLaws.{room_at-inserted, room_at-whole}
-use Rattle.wal_core.specs.Words.{end_form, end_word, lock_word, position_word}
+use Rattle.wal_core.specs.Words.{end_form, end_word, lock_word, position_word, down_number, ends_number, lock_number}
 use Rattle.wal_core.specs.Views.{Place, Free, Locked, Loaded, Stored, Copy, Landed, Copying, Away, Idle, View, Watching}
 use Rattle.wal_core.proofs.WordLists.{word_again}
 use Rattle.wal_core.specs.Moves.{begun, entry_reserved, visited_on, with_reserved}
@@ -147,7 +147,7 @@ module _ (m : Machine) (number : ℕ) (v : View) (ask : Ask) (line : PlainLine) 
   begins_follow s = record {
     event = refl;
     next = refl;
-    words = sym (word_again (m.state).words 16);
+    words = sym (word_again (m.state).words down_number);
     view = refl;
   }
 
@@ -178,7 +178,7 @@ module _ (m : Machine) (number : ℕ) (v : View) (ask : Ask) (line : PlainLine) 
             | inl last ↦ rw last refl
             | inr more ↦ rw more refl
           ]);
-          words = rw held (sym (word_again (m.state).words (2 + lock)));
+          words = rw held (sym (word_again (m.state).words (lock_number lock)));
           view = rw (held, held) (rw held at (ap (with_watching u) (watched_plain lock met u)));
         }
       ]
@@ -308,7 +308,7 @@ module _ (m : Machine) (number : ℕ) (v : View) (ask : Ask) (line : PlainLine) 
           | inl own ↦ rw own refl
           | inr other ↦ rw other refl
         ];
-        words = sym (word_again (m.state).words (17 + buffer));
+        words = sym (word_again (m.state).words (ends_number + buffer));
         view = refl;
       }
 

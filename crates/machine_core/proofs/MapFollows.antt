@@ -3,7 +3,7 @@
 use Rattle.std.proofs.Common.{◌≡◌, inl, inr, ℕ, ◌+◌, ◌*◌, Bool, true, false, cond, eq-eqb, not, ◌||◌, List, [], ◌∷◌, Option, Some, None, refl, sym, ap, subst}
 use Rattle.std.proofs.Math.Dec.{ltb, leb}
 use Rattle.std.proofs.lemmas.Bool.{cases_Bool}
-use Rattle.wal_core.specs.Words.{written_word}
+use Rattle.wal_core.specs.Words.{written_word, initialised_number, written_number}
 use Rattle.wal_core.specs.Views.{Free, Copy, Landed, Copying, Stage, Away, Taken, Looked, Ready, Zeroing, Published, Idle, View, is_among}
 use Rattle.wal_core.specs.Moves.{landed, standing, without_lock}
 use Rattle.wal_core.proofs.WordLists.{word_again}
@@ -65,7 +65,7 @@ module _ (m : Machine) (number : ℕ) (v : View) (ask : Ask) (line : PlainLine) 
                 | inr written ↦ rw written refl
               ])
         ];
-        words = sym (word_again (m.state).words 13);
+        words = sym (word_again (m.state).words written_number);
         view = refl;
       }
 
@@ -93,7 +93,7 @@ module _ (m : Machine) (number : ℕ) (v : View) (ask : Ask) (line : PlainLine) 
   maps_at lock c Taken u can = record {
     event = refl;
     next = refl;
-    words = sym (word_again (m.state).words 12);
+    words = sym (word_again (m.state).words initialised_number);
     view = refl;
   }
   maps_at lock c (Looked at) u can = looks_at_written lock c at u

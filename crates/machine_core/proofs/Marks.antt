@@ -7,7 +7,7 @@ use Rattle.byte_position.specs.Position.{address_of, end_address_of, position_of
 use Rattle.byte_position.proofs.EndAddresses.{position_of-end_address_of}
 use Rattle.byte_position.proofs.PagesTimes.{end_address_of-page_start_times}
 use Rattle.wal_core.specs.declared.setup.Setup.{Setup}
-use Rattle.wal_core.specs.Words.{end_word, flushed_word, initialised_word, lock_word, log_limit, position_word, prev_word}
+use Rattle.wal_core.specs.Words.{end_word, flushed_word, initialised_word, lock_word, log_limit, position_word, prev_word, mapping_turn_number, write_turn_number, initialised_number, written_number, flushed_number, moment_number, down_number, ends_number, lock_number}
 use Rattle.wal_core.specs.Moves.{unlocked}
 use Rattle.wal_core.specs.Steps.{ring_place}
 use Rattle.wal_core.specs.Views.{View}
@@ -148,7 +148,7 @@ MovesMarks size ends d left = (LeavesMarks size ends left × GoesNotBack d (left
     × HasReserved (left.made).next)
 
 module _ (setup : Setup) (valid : IsSegmentSize setup.segment_size) (ends : List ℕ)
-    (words : List ℕ) (wide : 17 ≤ length words) (w : WriterState) (view : PlainView)
+    (words : List ℕ) (wide : ends_number ≤ length words) (w : WriterState) (view : PlainView)
     (line : PlainLine) (copied : Option PlainLine)
     (tell : TellMarks setup.segment_size ends words)
     (written : IsMark setup.segment_size ends (w.plain).written)
@@ -170,17 +170,17 @@ module _ (setup : Setup) (valid : IsSegmentSize setup.segment_size) (ends : List
     position = subst (λ (x : ℕ). Is (end_address_of size (unlocked x)))
         (sym (word_else words 1 n 0 (λ is. omega arith))) tell.position;
     locks = λ lock low. subst (λ (x : ℕ). Is (x - 1))
-        (sym (word_else words 1 n (2 + lock) (λ is. omega arith))) (tell.locks lock low);
-    flushed = subst Is (sym (word_else words 1 n 14 (λ is. omega arith))) tell.flushed;
+        (sym (word_else words 1 n (lock_number lock) (λ is. omega arith))) (tell.locks lock low);
+    flushed = subst Is (sym (word_else words 1 n flushed_number (λ is. omega arith))) tell.flushed;
   }
 
-  store_behind : (i n : ℕ) → 10 ≤ i → 14 ≢ i → TellMarks size ends (set words i n)
+  store_behind : (i n : ℕ) → mapping_turn_number ≤ i → flushed_number ≢ i → TellMarks size ends (set words i n)
   store_behind i n behind apart = record {
     position = subst (λ (x : ℕ). Is (end_address_of size (unlocked x)))
         (sym (word_else words i n 0 (λ is. omega (arith, is, behind)))) tell.position;
     locks = λ lock low. subst (λ (x : ℕ). Is (x - 1))
-        (sym (word_else words i n (2 + lock) (λ is. omega (arith, is, low, behind)))) (tell.locks lock low);
-    flushed = subst Is (sym (word_else words i n 14 apart)) tell.flushed;
+        (sym (word_else words i n (lock_number lock) (λ is. omega (arith, is, low, behind)))) (tell.locks lock low);
+    flushed = subst Is (sym (word_else words i n flushed_number apart)) tell.flushed;
   }
 
   store_position : (n : ℕ) → Is (end_address_of size (unlocked n)) → TellMarks size ends (set words 0 n)
@@ -188,43 +188,43 @@ module _ (setup : Setup) (valid : IsSegmentSize setup.segment_size) (ends : List
     position = subst (λ (x : ℕ). Is (end_address_of size (unlocked x)))
         (sym (word_set words 0 n (omega (arith, wide)))) is;
     locks = λ lock low. subst (λ (x : ℕ). Is (x - 1))
-        (sym (word_else words 0 n (2 + lock) (λ is. omega arith))) (tell.locks lock low);
-    flushed = subst Is (sym (word_else words 0 n 14 (λ is. omega arith))) tell.flushed;
+        (sym (word_else words 0 n (lock_number lock) (λ is. omega arith))) (tell.locks lock low);
+    flushed = subst Is (sym (word_else words 0 n flushed_number (λ is. omega arith))) tell.flushed;
   }
 
-  store_lock : (lock n : ℕ) → lock < 8 → Is (n - 1) → TellMarks size ends (set words (2 + lock) n)
+  store_lock : (lock n : ℕ) → lock < 8 → Is (n - 1) → TellMarks size ends (set words (lock_number lock) n)
   store_lock lock n low is = record {
     position = subst (λ (x : ℕ). Is (end_address_of size (unlocked x)))
-        (sym (word_else words (2 + lock) n 0 (λ is. omega arith))) tell.position;
+        (sym (word_else words (lock_number lock) n 0 (λ is. omega arith))) tell.position;
     locks = λ other below. by_number other below (cases_lt other lock) (cases_lt lock other);
-    flushed = subst Is (sym (word_else words (2 + lock) n 14 (λ is. omega (arith, is, low)))) tell.flushed;
+    flushed = subst Is (sym (word_else words (lock_number lock) n flushed_number (λ is. omega (arith, is, low)))) tell.flushed;
   }
     where
       else_lock : (other : ℕ) → other < 8 → other ≢ lock
-          → Is (lock_word (set words (2 + lock) n) other - 1)
+          → Is (lock_word (set words (lock_number lock) n) other - 1)
       else_lock other below apart = subst (λ (x : ℕ). Is (x - 1))
-          (sym (word_else words (2 + lock) n (2 + other) (λ is. apart (omega (arith, is)))))
+          (sym (word_else words (lock_number lock) n (lock_number other) (λ is. apart (omega (arith, is)))))
           (tell.locks other below)
 
       by_number : (other : ℕ) → other < 8 → (other < lock) ⊎ (lock ≤ other)
-          → (lock < other) ⊎ (other ≤ lock) → Is (lock_word (set words (2 + lock) n) other - 1)
+          → (lock < other) ⊎ (other ≤ lock) → Is (lock_word (set words (lock_number lock) n) other - 1)
       by_number other below (inl before) any =
           else_lock other below (λ is. omega (arith, is, before))
       by_number other below (inr from) (inl behind) =
           else_lock other below (λ is. omega (arith, is, behind))
       by_number other below (inr from) (inr upto) =
           let same : lock ≡ other = omega (arith, from, upto) in
-          subst (λ (x : ℕ). Is (lock_word (set words (2 + lock) n) x - 1)) same
+          subst (λ (x : ℕ). Is (lock_word (set words (lock_number lock) n) x - 1)) same
           (subst (λ (x : ℕ). Is (x - 1))
-          (sym (word_set words (2 + lock) n (omega (arith, low, wide)))) is)
+          (sym (word_set words (lock_number lock) n (omega (arith, low, wide)))) is)
 
-  store_flushed : (n : ℕ) → Is n → TellMarks size ends (set words 14 n)
+  store_flushed : (n : ℕ) → Is n → TellMarks size ends (set words flushed_number n)
   store_flushed n is = record {
     position = subst (λ (x : ℕ). Is (end_address_of size (unlocked x)))
-        (sym (word_else words 14 n 0 (λ is. omega arith))) tell.position;
+        (sym (word_else words flushed_number n 0 (λ is. omega arith))) tell.position;
     locks = λ lock low. subst (λ (x : ℕ). Is (x - 1))
-        (sym (word_else words 14 n (2 + lock) (λ is. omega (arith, is, low)))) (tell.locks lock low);
-    flushed = subst Is (sym (word_set words 14 n (omega (arith, wide)))) is;
+        (sym (word_else words flushed_number n (lock_number lock) (λ is. omega (arith, is, low)))) (tell.locks lock low);
+    flushed = subst Is (sym (word_set words flushed_number n (omega (arith, wide)))) is;
   }
 
   -- ---- a view
@@ -354,9 +354,9 @@ module _ (setup : Setup) (valid : IsSegmentSize setup.segment_size) (ends : List
       let low : lock < 8 = omega arith in
       let after = cond (nat_eq (taken + 1) 8) doings.Begins (doings.Tries (taken + 1)) in
       either (LeavesMarks size ends) (nat_eq met 0)
-      (left_going_on (events.TakeLock lock) view (set words (2 + lock) 1) (doings.Reserves lock))
+      (left_going_on (events.TakeLock lock) view (set words (lock_number lock) 1) (doings.Reserves lock))
       (left_going_on (events.LoadLock lock) (watched lock 0 met view) words after)
-      (leaves (left_going_on (events.TakeLock lock) view (set words (2 + lock) 1)
+      (leaves (left_going_on (events.TakeLock lock) view (set words (lock_number lock) 1)
       (doings.Reserves lock)) (store_lock lock 1 low zero_mark) l tt)
       (leaves (left_going_on (events.LoadLock lock) (watched lock 0 met view) words after) tell
       (visits lock 0 met zero_mark (tell.locks lock low))
@@ -366,29 +366,29 @@ module _ (setup : Setup) (valid : IsSegmentSize setup.segment_size) (ends : List
   maps_marks : (lock : ℕ) → Is (next_in view.flight) → (s : PlainStage)
       → LeavesMarks size ends (at_maps setup words (record view { stage = s }) lock)
   maps_marks lock is stages.Away =
-      leaves _ (store_behind 10 _ (omega arith) (λ is. omega arith)) (staged stages.Taken) is
+      leaves _ (store_behind mapping_turn_number _ (omega arith) (λ is. omega arith)) (staged stages.Taken) is
   maps_marks lock is stages.Taken = leaves _ tell (staged (stages.Looked (initialised_word words))) is
   maps_marks lock is (stages.Looked at) =
       leaves _ tell (staged (stages.Ready at)) (may_write (next_in view.flight) _ is lock _ _)
   maps_marks lock is (stages.Ready at) =
-      leaves _ (store_behind (17 + at / 8192 % setup.ring_pages) 0 (omega arith) (λ is. omega arith))
+      leaves _ (store_behind (ends_number + at / 8192 % setup.ring_pages) 0 (omega arith) (λ is. omega arith))
       (staged (stages.Zeroing at 0)) is
   maps_marks lock is (stages.Zeroing at count) =
       let d = doings.Maps lock in
       let zeroing = record view { stage = stages.Zeroing at count } in
       let buffer = at / 8192 % setup.ring_pages in
-      let place = 17 + setup.ring_pages + (buffer * 1024 + count) in
+      let place = ends_number + setup.ring_pages + (buffer * 1024 + count) in
       let zeroed = left_going_on events.ZeroRingWord
       (at_stage (stages.Zeroing at (count + 1)) zeroing) (set words place 0) d in
       let published = left_going_on events.PublishEnd (at_stage (stages.Published at) zeroing)
-      (set words (17 + buffer) (at + 8192)) d in
+      (set words (ends_number + buffer) (at + 8192)) d in
       either (LeavesMarks size ends) (nat_lt count 1024) zeroed published
       (leaves zeroed (store_behind place 0 (omega arith) (λ is. omega arith))
       (staged (stages.Zeroing at (count + 1))) is)
-      (leaves published (store_behind (17 + buffer) (at + 8192) (omega arith) (λ is. omega arith))
+      (leaves published (store_behind (ends_number + buffer) (at + 8192) (omega arith) (λ is. omega arith))
       (staged (stages.Published at)) is)
   maps_marks lock is (stages.Published at) =
-      leaves _ (store_behind 12 _ (omega arith) (λ is. omega arith)) (staged stages.Taken) is
+      leaves _ (store_behind initialised_number _ (omega arith) (λ is. omega arith)) (staged stages.Taken) is
 
   abbrev left_at : PlainDoing → Left
   left_at d = (stepped setup words w view line copied d).left
@@ -404,12 +404,12 @@ module _ (setup : Setup) (valid : IsSegmentSize setup.segment_size) (ends : List
       (nat_eq (end_word words (next_in view.flight / 8192 % setup.ring_pages))
       (page_end_in view.flight)) (doings.Copies lock) (doings.Maps lock) tt may)
   steps_marks (doings.Copies lock) other ready may =
-      let place = 17 + setup.ring_pages + ring_place setup (next_in view.flight / 8) in
+      let place = ends_number + setup.ring_pages + ring_place setup (next_in view.flight / 8) in
       leaves _ (store_behind place _ (omega arith) (λ is. omega arith))
       (flies (with_one_more view.flight)) (may_copy lock (with_one_more view.flight))
   steps_marks (doings.Maps lock) other ready may = maps_marks lock may view.stage
   steps_marks (doings.GivesTurn lock end) other ready may =
-      leaves _ (store_behind 10 0 (omega arith) (λ is. omega arith)) (staged stages.Away)
+      leaves _ (store_behind mapping_turn_number 0 (omega arith) (λ is. omega arith)) (staged stages.Away)
       (may_turn (next_in view.flight) lock end may)
   steps_marks (doings.Tells lock end) other ready may =
       let next = next_in view.flight in
@@ -433,7 +433,7 @@ module _ (setup : Setup) (valid : IsSegmentSize setup.segment_size) (ends : List
       (either (λ (d : PlainDoing). TellsAt size ends d (next_in view.flight))
       (nat_eq (lock + 1) 8) (doings.TakesTurn purpose) (doings.Visits purpose (lock + 1)) may may)
   steps_marks (doings.TakesTurn purpose) other ready may =
-      leaves _ (store_behind 11 _ (omega arith) (λ is. omega arith)) (holds hands.Turned zero_mark) may
+      leaves _ (store_behind write_turn_number _ (omega arith) (λ is. omega arith)) (holds hands.Turned zero_mark) may
   steps_marks (doings.LoadsDown purpose) other ready may = leaves _ tell l may
   steps_marks (doings.TakesOut purpose) other ready may =
       let known = cond (nat_eq (view.watching).visited 8) (view.watching).bound 0 in
@@ -463,18 +463,18 @@ module _ (setup : Setup) (valid : IsSegmentSize setup.segment_size) (ends : List
   steps_marks doings.SyncsLast other ready may = leaves _ tell l
       (may_call (next_in view.flight) purposes.Line (doings.StoresWritten purposes.Line) tt tt)
   steps_marks (doings.StoresWritten purpose) other ready may =
-      leaves _ (store_behind 13 _ (omega arith) (λ is. omega arith)) l
+      leaves _ (store_behind written_number _ (omega arith) (λ is. omega arith)) l
       (may_store (next_in view.flight) purpose may)
   steps_marks doings.StoresMoment other ready may =
-      leaves _ (store_behind 15 _ (omega arith) (λ is. omega arith)) l tt
+      leaves _ (store_behind moment_number _ (omega arith) (λ is. omega arith)) l tt
   steps_marks doings.StoresFlushed other ready may =
       leaves _ (store_flushed (w.plain).written written) (sees_address (w.plain).written written) tt
   steps_marks (doings.SetsDown purpose) other ready may =
-      leaves _ (store_behind 16 _ (omega arith) (λ is. omega arith)) l may
+      leaves _ (store_behind down_number _ (omega arith) (λ is. omega arith)) l may
   steps_marks (doings.PutsBack purpose failed) other ready may =
       leaves _ tell (holds hands.Turned zero_mark) may
   steps_marks (doings.GivesWriteTurn purpose failed) other ready may =
-      leaves _ (store_behind 11 0 (omega arith) (λ is. omega arith)) (holds hands.Idle zero_mark)
+      leaves _ (store_behind write_turn_number 0 (omega arith) (λ is. omega arith)) (holds hands.Idle zero_mark)
       (may_end (next_in view.flight) purpose failed may)
 
   -- ---- and a reservation's
@@ -526,8 +526,8 @@ module _ (setup : Setup) (valid : IsSegmentSize setup.segment_size) (ends : List
             position = inl (sym (ap (end_address_of size)
                 (whole ∙ sym (ap unlocked (word_set words 0 end (omega (arith, wide)))))));
             locks = λ other low. inr (subst (λ (x : ℕ). Is (x - 1))
-                (sym (word_else words 0 end (2 + other) (λ is. omega arith))) (tell.locks other low));
-            flushed = inr (subst Is (sym (word_else words 0 end 14 (λ is. omega arith))) tell.flushed);
+                (sym (word_else words 0 end (lock_number other) (λ is. omega arith))) (tell.locks other low));
+            flushed = inr (subst Is (sym (word_else words 0 end flushed_number (λ is. omega arith))) tell.flushed);
           };
           view = record { seen = inl refl; bound = inr l.bound; known = inr l.known };
           next = inr (subst (λ (x : ℕ). Is (end_address_of size x)) start tell.position);

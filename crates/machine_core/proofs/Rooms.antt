@@ -7,7 +7,7 @@ use Rattle.record_spelling.specs.Spelling.{assembled_size}
 use Rattle.wal_page.specs.Order.{end_position}
 use Rattle.wal_page.proofs.OwnerLaws.{end_position-whole}
 use Rattle.wal_core.specs.declared.setup.Setup.{Setup}
-use Rattle.wal_core.specs.Words.{end_word, flushed_word, lock_word, log_limit, position_word, prev_word, written_word}
+use Rattle.wal_core.specs.Words.{end_word, flushed_word, lock_word, log_limit, position_word, prev_word, written_word, mapping_turn_number, write_turn_number, initialised_number, written_number, flushed_number, moment_number, down_number, ends_number, lock_number}
 use Rattle.wal_core.specs.Views.{Place, Free, Locked, Loaded, Stored, View, reserving_of}
 use Rattle.wal_core.specs.Moves.{unlocked}
 use Rattle.wal_core.specs.Ordered.{AtPlace}
@@ -131,7 +131,7 @@ past_page (purposes.Page lock end) known w = either IsPast (nat_lt (w.plain).wri
 
 -- the number of the word that a copy stores next
 abbrev number_copied : Setup → PlainFlight → ℕ
-number_copied setup flight = 17 + setup.ring_pages + ring_place setup (next_in flight / 8)
+number_copied setup flight = ends_number + setup.ring_pages + ring_place setup (next_in flight / 8)
 
 position_else : (words : List ℕ) (i n : ℕ) → 0 < i
     → position_word (set words i n) ≡ position_word words
@@ -216,8 +216,8 @@ module _ (setup : Setup) (words : List ℕ) (w : WriterState) (view : PlainView)
       let met = lock_word words lock in
       let next = cond (nat_eq (taken + 1) 8) doings.Begins (doings.Tries (taken + 1)) in
       either (TakesNoRoom words d) (nat_eq met 0) _ _
-      (stores d (left_going_on (events.TakeLock lock) view (set words (2 + lock) 1)
-      (doings.Reserves lock)) (2 + lock) 1 refl (omega arith) (omega arith))
+      (stores d (left_going_on (events.TakeLock lock) view (set words (lock_number lock) 1)
+      (doings.Reserves lock)) (lock_number lock) 1 refl (omega arith) (omega arith))
       (loads d (left_going_on (events.LoadLock lock) (watched lock 0 met view) words next) refl
       (omega arith))
 
@@ -225,28 +225,28 @@ module _ (setup : Setup) (words : List ℕ) (w : WriterState) (view : PlainView)
       → TakesNoRoom words (doings.Maps lock)
       (at_maps setup words (record view { stage = s }) lock)
   maps_keeps lock stages.Away =
-      stores (doings.Maps lock) _ 10 _ refl (omega arith) (omega arith)
+      stores (doings.Maps lock) _ mapping_turn_number _ refl (omega arith) (omega arith)
   maps_keeps lock stages.Taken = loads (doings.Maps lock) _ refl (omega arith)
   maps_keeps lock (stages.Looked at) =
       let looked = record view { stage = stages.Looked at } in
       loads (doings.Maps lock) _ refl
       (goes_past (doings.Maps lock) _ (past_written setup looked lock at (written_word words)))
   maps_keeps lock (stages.Ready at) =
-      stores (doings.Maps lock) _ (17 + at / 8192 % setup.ring_pages) _ refl (omega arith)
+      stores (doings.Maps lock) _ (ends_number + at / 8192 % setup.ring_pages) _ refl (omega arith)
       (omega arith)
   maps_keeps lock (stages.Zeroing at count) =
       let d = doings.Maps lock in
       let zeroing = record view { stage = stages.Zeroing at count } in
       let buffer = at / 8192 % setup.ring_pages in
-      let place = 17 + setup.ring_pages + (buffer * 1024 + count) in
+      let place = ends_number + setup.ring_pages + (buffer * 1024 + count) in
       either (TakesNoRoom words d) (nat_lt count 1024) _ _
       (stores d (left_going_on events.ZeroRingWord (at_stage (stages.Zeroing at (count + 1)) zeroing)
       (set words place 0) d) place 0 refl (omega arith) (omega arith))
       (stores d (left_going_on events.PublishEnd (at_stage (stages.Published at) zeroing)
-      (set words (17 + buffer) (at + 8192)) d) (17 + buffer) (at + 8192) refl (omega arith)
+      (set words (ends_number + buffer) (at + 8192)) d) (ends_number + buffer) (at + 8192) refl (omega arith)
       (omega arith))
   maps_keeps lock (stages.Published at) =
-      stores (doings.Maps lock) _ 12 _ refl (omega arith) (omega arith)
+      stores (doings.Maps lock) _ initialised_number _ refl (omega arith) (omega arith)
 
   abbrev pub IsNotReserving : PlainDoing → Type 0
   IsNotReserving (doings.Reserves lock) = ⊥
@@ -263,11 +263,11 @@ module _ (setup : Setup) (words : List ℕ) (w : WriterState) (view : PlainView)
       stores (doings.Copies lock) _ (number_copied setup view.flight) _ refl (omega arith)
       (goes_past (doings.Copies lock) _ (past_copies lock (with_one_more view.flight)))
   keeps (doings.Maps lock) other = maps_keeps lock view.stage
-  keeps (doings.GivesTurn lock end) other = stores (doings.GivesTurn lock end) _ 10 0 refl
+  keeps (doings.GivesTurn lock end) other = stores (doings.GivesTurn lock end) _ mapping_turn_number 0 refl
       (omega arith) (goes_past (doings.GivesTurn lock end) _ (past_turn lock end))
-  keeps (doings.Tells lock end) other = stores (doings.Tells lock end) _ (2 + lock) _ refl
+  keeps (doings.Tells lock end) other = stores (doings.Tells lock end) _ (lock_number lock) _ refl
       (omega arith) (omega arith)
-  keeps (doings.Releases lock full) other = stores (doings.Releases lock full) _ (2 + lock) 0 refl
+  keeps (doings.Releases lock full) other = stores (doings.Releases lock full) _ (lock_number lock) 0 refl
       (omega arith) (past_release setup words view (doings.Releases lock full) full _)
   keeps doings.FlushBegins other = loads doings.FlushBegins _ refl (omega arith)
   keeps doings.LoadsPosition other = loads doings.LoadsPosition _ refl (omega arith)
@@ -276,7 +276,7 @@ module _ (setup : Setup) (words : List ℕ) (w : WriterState) (view : PlainView)
   keeps doings.LoadsMoment other = loads doings.LoadsMoment _ refl tt
   keeps (doings.Visits purpose lock) other = loads (doings.Visits purpose lock) _ refl
       (goes_past (doings.Visits purpose lock) _ (past_visits purpose lock))
-  keeps (doings.TakesTurn purpose) other = stores (doings.TakesTurn purpose) _ 11 _ refl
+  keeps (doings.TakesTurn purpose) other = stores (doings.TakesTurn purpose) _ write_turn_number _ refl
       (omega arith) (omega arith)
   keeps (doings.LoadsDown purpose) other = loads (doings.LoadsDown purpose) _ refl (omega arith)
   keeps (doings.TakesOut purpose) other = loads (doings.TakesOut purpose) _ refl
@@ -293,18 +293,18 @@ module _ (setup : Setup) (words : List ℕ) (w : WriterState) (view : PlainView)
   keeps doings.SyncsLast other = loads doings.SyncsLast _ refl
       (goes_past doings.SyncsLast _
       (past_call purposes.Line _ (now_past (doings.StoresWritten purposes.Line) refl)))
-  keeps (doings.StoresWritten purpose) other = stores (doings.StoresWritten purpose) _ 13 _ refl
+  keeps (doings.StoresWritten purpose) other = stores (doings.StoresWritten purpose) _ written_number _ refl
       (omega arith) (goes_past (doings.StoresWritten purpose) _ (past_word purpose))
-  keeps doings.StoresMoment other = stores doings.StoresMoment _ 15 _ refl (omega arith)
+  keeps doings.StoresMoment other = stores doings.StoresMoment _ moment_number _ refl (omega arith)
       (omega arith)
-  keeps doings.StoresFlushed other = stores doings.StoresFlushed _ 14 _ refl (omega arith)
+  keeps doings.StoresFlushed other = stores doings.StoresFlushed _ flushed_number _ refl (omega arith)
       (omega arith)
-  keeps (doings.SetsDown purpose) other = stores (doings.SetsDown purpose) _ 16 _ refl
+  keeps (doings.SetsDown purpose) other = stores (doings.SetsDown purpose) _ down_number _ refl
       (omega arith) (omega arith)
   keeps (doings.PutsBack purpose failed) other =
       loads (doings.PutsBack purpose failed) _ refl (omega arith)
   keeps (doings.GivesWriteTurn purpose failed) other =
-      stores (doings.GivesWriteTurn purpose failed) _ 11 0 refl (omega arith)
+      stores (doings.GivesWriteTurn purpose failed) _ write_turn_number 0 refl (omega arith)
       (past_writing (doings.GivesWriteTurn purpose failed) purpose failed)
 
 -- ---- reserving

@@ -6,7 +6,7 @@ use Rattle.byte_position.specs.Geometry.{IsSegmentSize}
 use Rattle.wal_page.specs.Order.{Entry}
 use lib.ListN.{get_elem?}
 use Rattle.wal_core.specs.declared.setup.Setup.{Setup}
-use Rattle.wal_core.specs.Words.{Opening, down_word, position_word}
+use Rattle.wal_core.specs.Words.{Opening, down_word, position_word, down_number}
 use Rattle.wal_core.proofs.Lists.{at_same}
 use Rattle.wal_core.specs.Moves.{is_done, unlocked}
 use Rattle.wal_core.specs.Views.{Copy, Copying, View}
@@ -174,11 +174,11 @@ module _ (m : Machine) (number : ℕ) (v : View) (live : IsLive m.state (number 
       refl,
       plays_on core m k number backend here lane at v live fell
           (state_stepped (number + 1) v load_down m.state)
-          (view_behind v load_down (slice_index words 16) (m.state).home) (with_answer backend)
-          m.full (word_again words 16) refl (inl refl) (k.writer_is).at_home
+          (view_behind v load_down (slice_index words down_number) (m.state).home) (with_answer backend)
+          m.full (word_again words down_number) refl (inl refl) (k.writer_is).at_home
           (λ l is. (k.writer_is).in_hand (number + 1) v l live.0 is)
           (lane_answers (core.writer).page (plain_view v) script copied answered d asks
-          (view_behind v load_down (slice_index words 16) (m.state).home) of.lines refl of.copies)
+          (view_behind v load_down (slice_index words down_number) (m.state).home) of.lines refl of.copies)
           refl number_is (same_writer k.page_whole) (k.full_is ∙ sym (off core.full)) room_fallen calls_fallen running,
     )
 

@@ -1,6 +1,6 @@
 -- What a turn on plain data waits for is what the machine's waits for.
 use Rattle.std.proofs.Common.{◌≡◌, ℕ, ◌+◌, ◌%◌, Bool, true, false, eqb, List, not, ◌&&◌, ◌||◌, Option, Some, None, refl}
-use Rattle.wal_core.specs.Words.{lock_word, mapping_turn, position_word, write_turn}
+use Rattle.wal_core.specs.Words.{lock_word, mapping_turn, position_word, write_turn, mapping_turn_number, write_turn_number, lock_number}
 use Rattle.wal_core.specs.Views.{Place, Free, Locked, Loaded, Stored, Stage, Away, Taken, Looked, Ready, Zeroing, Published, View}
 use Rattle.wal_turns.specs.Doing.{Ask, Machine}
 use Rattle.wal_turns.specs.Turned.{asked_for, can_step, holds_back, is_away, is_free, looks_down, word_waited}
@@ -61,8 +61,8 @@ module _ (m : Machine) (v : View) (ask : Ask) where
   at_place (Stored at prev) even = refl
 
   at_stage : (s : Stage) (free : Bool)
-      → WaitsAlike (not (is_away m v ask s) || free) 10
-      (waits_if (lanes.is_away (plain_stage s) && not free) 10)
+      → WaitsAlike (not (is_away m v ask s) || free) mapping_turn_number
+      (waits_if (lanes.is_away (plain_stage s) && not free) mapping_turn_number)
   at_stage Away true = refl
   at_stage Away false = refl
   at_stage Taken free = refl
@@ -81,11 +81,11 @@ module _ (m : Machine) (v : View) (ask : Ask) where
 
   at_lock : (purpose : PlainPurpose) (lock : ℕ)
       → WaitsAlike (not (holds_back m v ask (asked_for v (purpose_of purpose))
-      (lock_word words lock))) (2 + lock)
+      (lock_word words lock))) (lock_number lock)
       (waits_if (lanes.holds_back (asked_by purpose (plain_view v)) (lock_word words lock))
-      (2 + lock))
-  at_lock purposes.Line lock = if_back (2 + lock) _
-  at_lock (purposes.Page held end) lock = if_back (2 + lock) _
+      (lock_number lock))
+  at_lock purposes.Line lock = if_back (lock_number lock) _
+  at_lock (purposes.Page held end) lock = if_back (lock_number lock) _
 
   pub waits_alike : (d : PlainDoing) → WaitsAlike (can_step m v ask (doing_of d))
       (word_waited m v ask (doing_of d)) (word_awaited words (plain_view v) d)
@@ -104,7 +104,7 @@ module _ (m : Machine) (v : View) (ask : Ask) where
   waits_alike doings.LoadsFlushed = refl
   waits_alike doings.LoadsMoment = refl
   waits_alike (doings.Visits purpose lock) = at_lock purpose lock
-  waits_alike (doings.TakesTurn purpose) = if_free 11 (eqb (write_turn words) 0)
+  waits_alike (doings.TakesTurn purpose) = if_free write_turn_number (eqb (write_turn words) 0)
   waits_alike (doings.LoadsDown purpose) = refl
   waits_alike (doings.TakesOut purpose) = refl
   waits_alike (doings.LoadsPage purpose loaded) = refl

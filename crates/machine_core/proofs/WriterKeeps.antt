@@ -9,7 +9,7 @@ use mathlib.Core.Option.{none, some}
 use Rattle.byte_position.specs.Geometry.{pages_of}
 use Rattle.segment_disk.specs.Failing.{is_listed}
 use Rattle.segment_disk.specs.Tape.{create_call, sync_call, write_call}
-use Rattle.wal_core.specs.Words.{flushed_word}
+use Rattle.wal_core.specs.Words.{flushed_word, write_turn_number}
 use Rattle.wal_core.specs.Views.{Hold, Idle, Turned as HasTurned, Out, Lent, Plain, View}
 use Rattle.wal_core.specs.Moves.{CallOutcome, Done, Failed, after_create, after_sync, after_write, hardened, with_hold, with_lent}
 use Rattle.wal_core.specs.Steps.{home_behind, returned, slot_out, view_behind}
@@ -234,7 +234,7 @@ module _ (m : Machine) (number : ℕ) (v : View) (ask : Ask) (line : PlainLine) 
   takes_out_keeps purpose s = kept_by (doings.TakesOut purpose) (
     tt,
     subst (λ (h : mathlib.Core.Option.Option Plain).
-        IsHeldOf w.plain ((view_behind v slot_out (slice_index words 11) h).writing).hold)
+        IsHeldOf w.plain ((view_behind v slot_out (slice_index words write_turn_number) h).writing).hold)
         (sym (writer_at_home m number v ask line copied w purpose s)) refl,
     page_or_end_held purpose _ w w.page (view_left m v ask (doings.TakesOut purpose)),
   )

@@ -3,6 +3,7 @@
 use Rattle.std.proofs.Common.{◌≡◌, ℕ, ◌+◌, Bool, cond, eqb, List, Option, set, slice_index, refl, sym, ap, ◌∙◌, subst, max}
 use Rattle.std.proofs.Math.Dec.{ltb}
 use mathlib.Core.Option.{none, some}
+use Rattle.wal_core.specs.Words.{write_turn_number, flushed_number, down_number}
 use Rattle.wal_core.specs.Views.{Turned as HasTurned, Out, Lent, Plain, View}
 use Rattle.wal_core.specs.Moves.{after_load_down, after_store_flushed, fault_number, is_done, lent, with_hold}
 use Rattle.wal_core.specs.Steps.{slot_out, view_behind}
@@ -111,14 +112,14 @@ module _ (m : Machine) (number : ℕ) (v : View) (ask : Ask) (line : PlainLine) 
         (is_done (outcome m v ask)) (purpose_of purpose))) (sym (writer_at_home purpose s))
         (ap (λ d. goes_on d) (page_or_end_alike purpose w (lent w.plain v) v knows ask met
         (is_done (outcome m v ask))));
-    words = sym (word_again words 11);
+    words = sym (word_again words write_turn_number);
     view = subst (λ (home : mathlib.Core.Option.Option Plain).
         plain_view (with_hold (Out (lent w.plain v)) v)
         ≡ plain_view (view_behind v slot_out met home)) (sym (writer_at_home purpose s)) refl;
   }
     where
       met : ℕ
-      met = slice_index words 11
+      met = slice_index words write_turn_number
 
       knows : View
       knows = after_load_down (max (v.writing).down_met (fault_number (w.plain).fault)) v
@@ -180,7 +181,7 @@ module _ (m : Machine) (number : ℕ) (v : View) (ask : Ask) (line : PlainLine) 
       by_hand doings.StoresFlushed s l is (record {
         event = refl;
         next = refl;
-        words = ap (set words 14) (sym hard_is);
+        words = ap (set words flushed_number) (sym hard_is);
         view = ap (λ (n : ℕ). plain_view (after_store_flushed n l.hard_moment
             (with_hold (Out (lent_as w.plain l)) v))) (sym hard_is);
       })
@@ -193,6 +194,6 @@ module _ (m : Machine) (number : ℕ) (v : View) (ask : Ask) (line : PlainLine) 
       (hold_of (purpose_of purpose) ask (Out l) v (s.stands).1) (record {
         event = refl;
         next = refl;
-        words = ap (set words 16) (fault_alike (w.plain).fault);
+        words = ap (set words down_number) (fault_alike (w.plain).fault);
         view = refl;
       })

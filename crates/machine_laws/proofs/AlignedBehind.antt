@@ -14,7 +14,7 @@ use Rattle.wal_page.proofs.OwnerLaws.{end_position-whole}
 use Rattle.wal_page.proofs.PaddingLaws.{room_at-whole}
 use Rattle.wal_page.proofs.WordPositions.{position_of-whole}
 use Rattle.wal_core.specs.declared.setup.Setup.{Setup}
-use Rattle.wal_core.specs.Words.{lock_word, written_word, flushed_word, position_word, prev_word, write_turn, end_form}
+use Rattle.wal_core.specs.Words.{lock_word, written_word, flushed_word, position_word, prev_word, write_turn, end_form, mapping_turn_number, write_turn_number, initialised_number, written_number, flushed_number, moment_number, down_number, ends_number, lock_number}
 use Rattle.wal_core.specs.Views.{HasAt, Place, Locked, Taken, Plain, Lent, Hold, Idle, Turned, Out, Watching, View, reserving_of, writer_of}
 use Rattle.wal_core.specs.Ordered.{AtPlace}
 use Rattle.wal_core.specs.Aligned.{AlignmentHolds, IsKnownAligned, LearnsAligned, TellsAligned}
@@ -167,9 +167,9 @@ same_written call (Failed faults (some made)) w = refl
 
 -- neither a lock's word nor the written or the flushed one
 pub record IsElsewhere (n : ℕ) : Type 0 where
-  pub locks : (n < 2) ⊎ (10 ≤ n)
-  pub written : 13 ≢ n
-  pub flushed : 14 ≢ n
+  pub locks : (n < 2) ⊎ (mapping_turn_number ≤ n)
+  pub written : written_number ≢ n
+  pub flushed : flushed_number ≢ n
 
 before_locks : (n : ℕ) → n < 2 → IsElsewhere n
 before_locks n low = record {
@@ -178,14 +178,14 @@ before_locks n low = record {
   flushed = λ e. omega arith;
 }
 
-beside : (n : ℕ) → 10 ≤ n → n < 13 → IsElsewhere n
+beside : (n : ℕ) → mapping_turn_number ≤ n → n < written_number → IsElsewhere n
 beside n low high = record {
   locks = inr low;
   written = λ e. omega arith;
   flushed = λ e. omega arith;
 }
 
-behind_flushed : (n : ℕ) → 15 ≤ n → IsElsewhere n
+behind_flushed : (n : ℕ) → moment_number ≤ n → IsElsewhere n
 behind_flushed n high = record {
   locks = inr (omega arith);
   written = λ e. omega arith;
@@ -247,7 +247,7 @@ module _ {first : DiskState} (words : List ℕ) (home : Option Plain) (views : L
         → slice_index (later s) j % 8 ≡ 0
     same_word j apart is = ap (λ n. n % 8) (word_else words s.i s.n j apart) ∙ is
 
-    same_locks : (s.i < 2) ⊎ (10 ≤ s.i) → (i : ℕ) → i < 8 → TellsAligned (lock_word (later s) i)
+    same_locks : (s.i < 2) ⊎ (mapping_turn_number ≤ s.i) → (i : ℕ) → i < 8 → TellsAligned (lock_word (later s) i)
     same_locks away i low = subst TellsAligned (sym (locks_else words s.i s.n away i low))
         ((k.aligned).locks i low)
 
@@ -255,8 +255,8 @@ module _ {first : DiskState} (words : List ℕ) (home : Option Plain) (views : L
     by_word : IsElsewhere s.i → (writer : Plain) → writer.written % 8 ≡ 0
         → LearnsAligned (behind e) → HasAligned writer
     by_word away writer writer_at now = with_words writer (same_locks away.locks)
-        (same_word 13 away.written (k.aligned).written_word)
-        (same_word 14 away.flushed (k.aligned).flushed_word) writer_at now
+        (same_word written_number away.written (k.aligned).written_word)
+        (same_word flushed_number away.flushed (k.aligned).flushed_word) writer_at now
 
     -- and by no call
     with_writer : IsElsewhere s.i → LearnsAligned (behind e) → HasAligned k.writer
@@ -276,7 +276,7 @@ module _ {first : DiskState} (words : List ℕ) (home : Option Plain) (views : L
         (k.aligned).writer_at now
 
     -- a lock's word is stored
-    by_lock : (lock : ℕ) → lock < 8 → s.i ≡ 2 + lock → TellsAligned s.n
+    by_lock : (lock : ℕ) → lock < 8 → s.i ≡ lock_number lock → TellsAligned s.n
         → LearnsAligned (behind e) → HasAligned k.writer
     by_lock lock low is tells now = with_words k.writer
         (λ i below. dite (ℕ_discrete i lock)
@@ -286,8 +286,8 @@ module _ {first : DiskState} (words : List ℕ) (home : Option Plain) (views : L
         (λ (ne : i ≢ lock). subst TellsAligned (sym
         (subst (λ (n : ℕ). lock_word (set words n s.n) i ≡ lock_word words i) (sym is)
         (lock_else words lock s.n i ne))) ((k.aligned).locks i below)))
-        (same_word 13 (λ e. omega arith) (k.aligned).written_word)
-        (same_word 14 (λ e. omega arith) (k.aligned).flushed_word)
+        (same_word written_number (λ e. omega arith) (k.aligned).written_word)
+        (same_word flushed_number (λ e. omega arith) (k.aligned).flushed_word)
         (k.aligned).writer_at now
 
   -- ---- what more is seen
@@ -382,15 +382,15 @@ module _ {first : DiskState} (words : List ℕ) (home : Option Plain) (views : L
   aligned_behind load_position may = with_writer load_position (before_locks 0 (omega arith))
       (sees_more load_position (unlocked (position_word words)) refl unlocked_aligned)
   aligned_behind take_write_turn may = with_writer take_write_turn
-      (beside 11 (omega arith) (omega arith))
-      (learns_either (eqb (slice_index words 11) 0) (with_hold Turned v) v
+      (beside write_turn_number (omega arith) (omega arith))
+      (learns_either (eqb (slice_index words write_turn_number) 0) (with_hold Turned v) v
       (holds_now v learns Turned tt) learns)
-  aligned_behind slot_out may = with_writer slot_out (beside 11 (omega arith) (omega arith))
+  aligned_behind slot_out may = with_writer slot_out (beside write_turn_number (omega arith) (omega arith))
       (slot_taken v learns home)
-  aligned_behind slot_in may = with_writer slot_in (beside 11 (omega arith) (omega arith))
+  aligned_behind slot_in may = with_writer slot_in (beside write_turn_number (omega arith) (omega arith))
       (holds_now v learns Turned tt)
   aligned_behind release_write_turn may = with_writer release_write_turn
-      (beside 11 (omega arith) (omega arith)) (holds_now v learns Idle tt)
+      (beside write_turn_number (omega arith) (omega arith)) (holds_now v learns Idle tt)
   aligned_behind (lock_position expected) may = with_writer (lock_position expected)
       (before_locks 0 (omega arith))
       (learns_either (eqb (slice_index words 0) expected) (with_place (Locked expected) v) v
@@ -404,10 +404,10 @@ module _ {first : DiskState} (words : List ℕ) (home : Option Plain) (views : L
   aligned_behind stay may = quiet stay
       (before_locks 0 (omega arith)) (rw may.1 refl)
   aligned_behind (load_lock lock limit) may = by_load (load_lock lock limit)
-      (word_again words (2 + lock)) (visited lock limit may)
+      (word_again words (lock_number lock)) (visited lock limit may)
   aligned_behind (take_lock lock) may = by_lock (take_lock lock) lock may refl
       (taken_tells (lock_word words lock) ((k.aligned).locks lock may))
-      (learns_either (eqb (slice_index words (2 + lock)) 0)
+      (learns_either (eqb (slice_index words (lock_number lock)) 0)
       (with_working ((v.working).locks ++ lock ∷ []) (v.working).flight v) v
       (learns_same v (with_working ((v.working).locks ++ lock ∷ []) (v.working).flight v) refl
       learns) learns)
@@ -417,13 +417,13 @@ module _ {first : DiskState} (words : List ℕ) (home : Option Plain) (views : L
   aligned_behind (release lock) may = by_lock (release lock) lock (held_low lock may.0) refl
       (inl refl) (learns_same v (behind (release lock)) refl learns)
   aligned_behind (load_buffer_end buffer) may = quiet (load_buffer_end buffer)
-      (behind_flushed (17 + buffer) (omega arith)) refl
+      (behind_flushed (ends_number + buffer) (omega arith)) refl
   aligned_behind store_ring_word may = quiet store_ring_word
       (behind_flushed (word_of_step v store_ring_word) (omega arith)) refl
   aligned_behind (load_ring_word number) may = with_writer (load_ring_word number)
       (behind_flushed (word_of_step v (load_ring_word number)) (omega arith))
       (lends_on v learns _ (λ l. refl))
-  aligned_behind load_written may = by_load load_written (word_again words 13) (record {
+  aligned_behind load_written may = by_load load_written (word_again words written_number) (record {
     seen = learns.seen;
     end = learns.end;
     bound = learns.bound;
@@ -431,7 +431,7 @@ module _ {first : DiskState} (words : List ℕ) (home : Option Plain) (views : L
     flushed = learns.flushed;
     known = learns.known;
   })
-  aligned_behind load_flushed may = by_load load_flushed (word_again words 14) (record {
+  aligned_behind load_flushed may = by_load load_flushed (word_again words flushed_number) (record {
     seen = max_aligned (v.reserving).seen (position_of size (flushed_word words)) learns.seen
         (position_of-whole size valid (flushed_word words) (k.aligned).flushed_word);
     end = learns.end;
@@ -440,38 +440,38 @@ module _ {first : DiskState} (words : List ℕ) (home : Option Plain) (views : L
     flushed = (k.aligned).flushed_word;
     known = learns.known;
   })
-  aligned_behind load_moment may = quiet load_moment (behind_flushed 15 (omega arith)) refl
-  aligned_behind load_down may = quiet load_down (behind_flushed 16 (omega arith)) refl
+  aligned_behind load_moment may = quiet load_moment (behind_flushed moment_number (omega arith)) refl
+  aligned_behind load_down may = quiet load_down (behind_flushed down_number (omega arith)) refl
   aligned_behind store_written may =
       let e = store_written in
       let stored = stored_aligned may.0 may.1 in
       with_words e k.writer (same_locks e (inr (omega arith)))
-      (ap (λ n. n % 8) (single_set words setup k.wide 13 (moved words home views id v k here e).n
+      (ap (λ n. n % 8) (single_set words setup k.wide written_number (moved words home views id v k here e).n
       (omega arith)) ∙ stored)
-      (same_word e 14 (λ e. omega arith) (k.aligned).flushed_word)
+      (same_word e flushed_number (λ e. omega arith) (k.aligned).flushed_word)
       (k.aligned).writer_at (lends_on v learns _ (λ l. refl))
-  aligned_behind store_moment may = with_writer store_moment (behind_flushed 15 (omega arith))
+  aligned_behind store_moment may = with_writer store_moment (behind_flushed moment_number (omega arith))
       (lends_on v learns hardened (λ l. refl))
   aligned_behind store_flushed may =
       let e = store_flushed in
       let hard = hard_aligned may in
       with_words e k.writer (same_locks e (inr (omega arith)))
-      (same_word e 13 (λ e. omega arith) (k.aligned).written_word)
-      (ap (λ n. n % 8) (single_set words setup k.wide 14 (moved words home views id v k here e).n
+      (same_word e written_number (λ e. omega arith) (k.aligned).written_word)
+      (ap (λ n. n % 8) (single_set words setup k.wide flushed_number (moved words home views id v k here e).n
       (omega arith)) ∙ hard)
       (k.aligned).writer_at (sees_more store_flushed
       (position_of size (number_lent v (λ l. l.hard) (v.writing).hold)) refl
       (position_of-whole size valid (number_lent v (λ l. l.hard) (v.writing).hold) hard))
-  aligned_behind set_down may = quiet set_down (behind_flushed 16 (omega arith)) refl
+  aligned_behind set_down may = quiet set_down (behind_flushed down_number (omega arith)) refl
   aligned_behind load_async may = quiet load_async (behind_flushed (word_of_step v load_async) (omega arith)) refl
   aligned_behind (raise_async expected upto) may = quiet (raise_async expected upto)
       (behind_flushed (word_of_step v (raise_async expected upto)) (omega arith)) refl
   aligned_behind take_mapping_turn may = with_writer take_mapping_turn
-      (beside 10 (omega arith) (omega arith))
-      (learns_either (eqb (slice_index words 10) 0) (with_stage Taken v) v
+      (beside mapping_turn_number (omega arith) (omega arith))
+      (learns_either (eqb (slice_index words mapping_turn_number) 0) (with_stage Taken v) v
       (learns_same v (with_stage Taken v) refl learns) learns)
   aligned_behind load_initialised_end may = quiet load_initialised_end
-      (beside 12 (omega arith) (omega arith)) refl
+      (beside initialised_number (omega arith) (omega arith)) refl
   aligned_behind clear_end may = quiet clear_end
       (behind_flushed (word_of_step v clear_end) (omega arith)) refl
   aligned_behind zero_ring_word may = quiet zero_ring_word
@@ -479,20 +479,20 @@ module _ {first : DiskState} (words : List ℕ) (home : Option Plain) (views : L
   aligned_behind publish_end may = quiet publish_end
       (behind_flushed (word_of_step v publish_end) (omega arith)) refl
   aligned_behind publish_initialised_end may = quiet publish_initialised_end
-      (beside 12 (omega arith) (omega arith)) refl
+      (beside initialised_number (omega arith) (omega arith)) refl
   aligned_behind release_mapping_turn may = quiet release_mapping_turn
-      (beside 10 (omega arith) (omega arith)) refl
+      (beside mapping_turn_number (omega arith) (omega arith)) refl
   aligned_behind (create segment outcome) may = by_word (create segment outcome)
-      (beside 11 (omega arith) (omega arith)) (writer_behind v (create segment outcome) k.writer)
+      (beside write_turn_number (omega arith) (omega arith)) (writer_behind v (create segment outcome) k.writer)
       (ap (λ n. n % 8) (same_written (create_call size segment) outcome k.writer)
       ∙ (k.aligned).writer_at) (called v learns _ (v.writing).hold)
   aligned_behind (write segment page upto bytes outcome) may =
-      by_word (write segment page upto bytes outcome) (beside 11 (omega arith) (omega arith))
+      by_word (write segment page upto bytes outcome) (beside write_turn_number (omega arith) (omega arith))
       (writer_behind v (write segment page upto bytes outcome) k.writer)
       (written_by (is_done outcome) upto (k.writer).written may.0.2.aligned
       (k.aligned).writer_at) (called v learns _ (v.writing).hold)
   aligned_behind (sync segment outcome) may = by_word (sync segment outcome)
-      (beside 11 (omega arith) (omega arith)) (writer_behind v (sync segment outcome) k.writer)
+      (beside write_turn_number (omega arith) (omega arith)) (writer_behind v (sync segment outcome) k.writer)
       (ap (λ n. n % 8) (same_written (sync_call size segment) outcome k.writer)
       ∙ (k.aligned).writer_at) (called v learns _ (v.writing).hold)
 

@@ -1,7 +1,7 @@
 -- A segment switch in flight stands under all eight insertion locks as long as a word of it is
 -- left to copy: behind a step of any kind, and where passes come and go. Its pass gives none of
 -- them back before, and no other step changes under which locks an entry stands.
-use Rattle.std.proofs.Common.{◌≡◌, ◌≢◌, ℕ, ◌+◌, ◌<◌, IsTrue, Contains, List, [], ◌∷◌, ◌++◌, map, set, slice_index, refl, sym, subst, ⊎_elim, arith}
+use Rattle.std.proofs.Common.{◌≡◌, ℕ, ◌+◌, ◌<◌, IsTrue, Contains, List, [], ◌∷◌, ◌++◌, map, set, slice_index, refl, sym, subst, ⊎_elim, arith}
 use mathlib.Core.Option.{Option}
 use Rattle.segment_disk.specs.Tape.{DiskState}
 use Rattle.wal_types.specs.declared.record.Record.{Record}
@@ -9,13 +9,12 @@ use Rattle.record_spelling.specs.Record.{is_switch}
 use Rattle.wal_page.specs.EntryWords.{words_owned}
 use Rattle.wal_core.specs.Views.{HasAt, Copy, Copying, Flight, Landed, Place, Plain, View, Working, flight_of, working_of}
 use Rattle.wal_core.specs.Locked.{StandsAlone, SwitchesStandAlone}
-use Rattle.wal_core.specs.Moves.{after_join, after_split, after_store_position, entry_reserved, landed, one_more, orphan_of, spent, split_off, with_place, without_lock, without_work}
-use Rattle.wal_core.specs.Steps.{StepKind, MayStep, word_of_step, view_behind, release, store_position, store_ring_word}
+use Rattle.wal_core.specs.Moves.{after_join, after_split, after_store_position, entry_reserved, landed, one_more, orphan_of, spent, split_off, with_place, without_work}
+use Rattle.wal_core.specs.Steps.{StepKind, MayStep, word_of_step, view_behind, store_position}
 use Rattle.wal_core.specs.Sound.{IsSound}
 use Rattle.wal_core.proofs.Landing.{landed_was, none_lands}
 use Rattle.wal_core.proofs.Lists.{one_added, one_set, part_at, part_set}
 use Rattle.machine_laws.specs.Locks.{idle}
-use Rattle.machine_laws.specs.RingLeft.{LeavesCopies}
 use Rattle.machine_laws.proofs.HeldLaws.{copying_same}
 use Rattle.machine_laws.proofs.LeftSteps.{by_copies, flight_left}
 use Rattle.machine_laws.proofs.LockPassSteps.{one_changes, two_change}

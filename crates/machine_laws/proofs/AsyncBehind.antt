@@ -8,7 +8,7 @@ use Rattle.byte_position.proofs.EndAddresses.{end_address_of-mono}
 use Rattle.wal_page.specs.Order.{Entry, end_position}
 use Rattle.wal_page.proofs.OrderLaws.{rooms_of_push}
 use Rattle.wal_core.specs.declared.setup.Setup.{Setup}
-use Rattle.wal_core.specs.Words.{async_number, async_word, end_form}
+use Rattle.wal_core.specs.Words.{async_number, async_word, end_form, mapping_turn_number, write_turn_number, ends_number, lock_number}
 use Rattle.wal_core.specs.Views.{HasAt, Taken, Plain, Hold, Idle, Turned, Out, Locked, View, reserving_of, async_met_of}
 use Rattle.wal_core.specs.Async.{AsyncHolds}
 use Rattle.wal_core.specs.Moves.{entry_reserved, with_hold, with_place, with_stage, with_working}
@@ -107,13 +107,13 @@ module _ {first : DiskState} (words : List ℕ) (home : Option Plain) (views : L
     some_page = let low = (k.setup_is).ring_low in omega arith
 
     -- the ring's words and the buffers' ends stand before the last word
-    ring_apart : (n : ℕ) → async_number setup ≢ 17 + setup.ring_pages + ring_place setup n
+    ring_apart : (n : ℕ) → async_number setup ≢ ends_number + setup.ring_pages + ring_place setup n
     ring_apart n is =
         let page : n / 1024 % setup.ring_pages < setup.ring_pages = mod-lt (n / 1024) some_page in
         let word : n % 1024 < 1024 = mod-lt n (omega arith) in
         omega arith
 
-    end_apart : (at : ℕ) → async_number setup ≢ 17 + at / 8192 % setup.ring_pages
+    end_apart : (at : ℕ) → async_number setup ≢ ends_number + at / 8192 % setup.ring_pages
     end_apart at is =
         let low : at / 8192 % setup.ring_pages < setup.ring_pages
         = mod-lt (at / 8192) some_page in omega arith
@@ -186,7 +186,7 @@ module _ {first : DiskState} (words : List ℕ) (home : Option Plain) (views : L
     pub async_behind : (e : StepKind) → MayStep v e → HasAsync live e (order_behind v e k.order)
     async_behind load_position may = stays load_position (λ e. omega arith) refl
     async_behind take_write_turn may = stays take_write_turn (λ e. omega arith)
-        (same_either async_met_of (eqb (slice_index words 11) 0) (with_hold Turned v) v refl)
+        (same_either async_met_of (eqb (slice_index words write_turn_number) 0) (with_hold Turned v) v refl)
     async_behind slot_out may = stays slot_out (λ e. omega arith) (slot_same home)
     async_behind slot_in may = stays slot_in (λ e. omega arith) refl
     async_behind release_write_turn may = stays release_write_turn (λ e. omega arith) refl
@@ -205,19 +205,19 @@ module _ {first : DiskState} (words : List ℕ) (home : Option Plain) (views : L
         stays (give_position_back value) (λ e. omega arith) (rw may.1 refl)
     async_behind stay may = stays stay (λ e. omega arith) (rw may.1 refl)
     async_behind (load_lock lock limit) may = by_load live (load_lock lock limit)
-        (word_again words (2 + lock)) refl
+        (word_again words (lock_number lock)) refl
     async_behind (take_lock lock) may = stays (take_lock lock) (λ e. omega (arith, may))
-        (same_either async_met_of (eqb (slice_index words (2 + lock)) 0)
+        (same_either async_met_of (eqb (slice_index words (lock_number lock)) 0)
         (with_working ((v.working).locks ++ lock ∷ []) (v.working).flight v) v refl)
     async_behind (advance lock upto) may = stays (advance lock upto)
         (λ e. omega (arith, lock_low words home views id v k here live lock may.0)) refl
     async_behind (release lock) may = stays (release lock)
         (λ e. omega (arith, lock_low words home views id v k here live lock may.0)) refl
     async_behind (load_buffer_end buffer) may = by_load live (load_buffer_end buffer)
-        (word_again words (17 + buffer)) refl
+        (word_again words (ends_number + buffer)) refl
     async_behind store_ring_word may = stays store_ring_word (ring_apart _) refl
     async_behind (load_ring_word n) may = by_load live (load_ring_word n)
-        (word_again words (17 + setup.ring_pages + ring_place setup n)) refl
+        (word_again words (ends_number + setup.ring_pages + ring_place setup n)) refl
     async_behind load_written may = stays load_written (λ e. omega arith) refl
     async_behind load_flushed may = stays load_flushed (λ e. omega arith) refl
     async_behind load_moment may = stays load_moment (λ e. omega arith) refl
@@ -229,7 +229,7 @@ module _ {first : DiskState} (words : List ℕ) (home : Option Plain) (views : L
     async_behind load_async may = loaded
     async_behind (raise_async expected upto) may = exchanged_to expected upto may
     async_behind take_mapping_turn may = stays take_mapping_turn (λ e. omega arith)
-        (same_either async_met_of (eqb (slice_index words 10) 0) (with_stage Taken v) v refl)
+        (same_either async_met_of (eqb (slice_index words mapping_turn_number) 0) (with_stage Taken v) v refl)
     async_behind load_initialised_end may = stays load_initialised_end (λ e. omega arith) refl
     async_behind clear_end may = stays clear_end (end_apart _) refl
     async_behind zero_ring_word may = stays zero_ring_word (zeroed_apart may) refl

@@ -1,11 +1,11 @@
 -- Who knows that the disk has failed, behind a step of any kind and where passes come and go: who
 -- set the down word, or met it, is live and knows it still, or was taken in by one that knows it.
-use Rattle.std.proofs.Common.{◌≡◌, ◌≢◌, ◌⊎◌, inl, inr, ℕ, ◌+◌, Bool, true, eqb, List, [], ◌∷◌, ◌++◌, set, slice_index, refl, sym, ap, ◌∙◌, subst, arith}
+use Rattle.std.proofs.Common.{◌≡◌, ◌≢◌, ◌⊎◌, inl, inr, ℕ, Bool, true, eqb, List, [], ◌∷◌, ◌++◌, set, slice_index, refl, sym, ap, ◌∙◌, subst, arith}
 use mathlib.Core.Logic.{dite}
 use mathlib.Core.Option.{Option, none, some}
 use native.Mathlib.Decide.{ℕ_discrete}
 use Rattle.segment_disk.specs.Tape.{DiskState}
-use Rattle.wal_core.specs.Words.{down_word}
+use Rattle.wal_core.specs.Words.{down_word, mapping_turn_number, write_turn_number, down_number, lock_number}
 use Rattle.wal_core.specs.Views.{HasAt, Hold, Idle, Locked, Out, Plain, Taken, Turned, View}
 use Rattle.wal_core.specs.Failed.{FaultIsKnown, KnowsOfFault, SomeKnowsOfFault}
 use Rattle.wal_core.specs.Moves.{after_join, after_split, orphan_of, spent, split_off, with_hold, with_place, with_stage, with_working, without_work}
@@ -116,26 +116,26 @@ module _ {first : DiskState} (words : List ℕ) (home : Option Plain) (views : L
     IsKnownBehind e = FaultIsKnown (down_word (later (s e))) (views_later (s e))
 
     -- another word is stored, and the view knows what it knew
-    knows_still : (e : StepKind) → 16 ≢ word_of_step v e → (IsKnowing v → IsKnowing (behind e))
+    knows_still : (e : StepKind) → down_number ≢ word_of_step v e → (IsKnowing v → IsKnowing (behind e))
         → IsKnownBehind e
     knows_still e apart still = subst (λ (down : ℕ). FaultIsKnown down (views_later (s e)))
-        (sym (word_else words (s e).i (s e).n 16 apart))
+        (sym (word_else words (s e).i (s e).n down_number apart))
         (goes_on (down_word words) views (views_later (s e)) k.failed
         (in_place views id v (behind e) here still))
 
-    stays : (e : StepKind) → 16 ≢ word_of_step v e → knows_of (behind e) ≡ knows_of v
+    stays : (e : StepKind) → down_number ≢ word_of_step v e → knows_of (behind e) ≡ knows_of v
         → IsKnownBehind e
     stays e apart is = knows_still e apart (knowing_as v (behind e) is)
 
     loaded : IsKnownBehind load_down
     loaded failed = known_at _ id (behind load_down) (at_place views id v (behind load_down) here)
-        (live, inl (λ none. failed (ap down_word (word_again words 16) ∙ none)))
+        (live, inl (λ none. failed (ap down_word (word_again words down_number) ∙ none)))
 
     stored : IsKnownBehind set_down
     stored failed = known_at _ id (behind set_down) (at_place views id v (behind set_down) here) (
       live,
       inr (λ none. failed
-          (single_set words (v.opening).setup k.wide 16 (s set_down).n (omega arith) ∙ none)),
+          (single_set words (v.opening).setup k.wide down_number (s set_down).n (omega arith) ∙ none)),
     )
 
     -- who takes a writer that has failed knows it then
@@ -152,7 +152,7 @@ module _ {first : DiskState} (words : List ℕ) (home : Option Plain) (views : L
     pub failed_behind : (e : StepKind) → MayStep v e → IsKnownBehind e
     failed_behind load_position may = stays load_position (λ e. omega arith) refl
     failed_behind take_write_turn may = stays take_write_turn (λ e. omega arith)
-        (same_either knows_of (eqb (slice_index words 11) 0) (with_hold Turned v) v refl)
+        (same_either knows_of (eqb (slice_index words write_turn_number) 0) (with_hold Turned v) v refl)
     failed_behind slot_out may = knows_still slot_out (λ e. omega arith) (slot_knows home)
     failed_behind slot_in may = stays slot_in (λ e. omega arith) refl
     failed_behind release_write_turn may = stays release_write_turn (λ e. omega arith) refl
@@ -169,7 +169,7 @@ module _ {first : DiskState} (words : List ℕ) (home : Option Plain) (views : L
     failed_behind (load_lock lock limit) may =
         stays (load_lock lock limit) (λ e. omega (arith, may.0)) refl
     failed_behind (take_lock lock) may = stays (take_lock lock) (λ e. omega (arith, may))
-        (same_either knows_of (eqb (slice_index words (2 + lock)) 0)
+        (same_either knows_of (eqb (slice_index words (lock_number lock)) 0)
         (with_working ((v.working).locks ++ lock ∷ []) (v.working).flight v) v refl)
     failed_behind (advance lock upto) may =
         let low = lock_low words home views id v k here live lock may.0 in
@@ -194,7 +194,7 @@ module _ {first : DiskState} (words : List ℕ) (home : Option Plain) (views : L
     failed_behind (raise_async expected upto) may =
         stays (raise_async expected upto) (λ e. omega arith) refl
     failed_behind take_mapping_turn may = stays take_mapping_turn (λ e. omega arith)
-        (same_either knows_of (eqb (slice_index words 10) 0) (with_stage Taken v) v refl)
+        (same_either knows_of (eqb (slice_index words mapping_turn_number) 0) (with_stage Taken v) v refl)
     failed_behind load_initialised_end may = stays load_initialised_end (λ e. omega arith) refl
     failed_behind clear_end may = stays clear_end (λ e. omega arith) refl
     failed_behind zero_ring_word may = stays zero_ring_word (λ e. omega arith) refl

@@ -5,7 +5,7 @@ use mathlib.Core.Option.{Option}
 use Rattle.byte_position.specs.Geometry.{IsSegmentSize}
 use Rattle.byte_position.proofs.EndAddresses.{end_address_of-mono}
 use Rattle.wal_core.specs.declared.setup.Setup.{Setup}
-use Rattle.wal_core.specs.Words.{Opening, position_word, prev_word, written_word, flushed_word, down_word, word_count, end_form}
+use Rattle.wal_core.specs.Words.{Opening, position_word, prev_word, written_word, flushed_word, down_word, word_count, end_form, written_number, flushed_number, down_number}
 use Rattle.wal_core.specs.Views.{HasAt, Plain, View, reserving_of, flight_of, writing_of}
 use Rattle.wal_core.specs.Ordered.{OrderHolds}
 use Rattle.wal_core.specs.Positioned.{PositionsHold}
@@ -153,13 +153,13 @@ module _ (s : Moved) where
       (λ j. (sym position j, sym prev j, sym parts j)) k.reserved
 
   pub positions_stay : flight_of w ≡ flight_of v → writing_of w ≡ writing_of v
-      → i ≢ 13 → i ≢ 14 → i ≢ 16
+      → i ≢ written_number → i ≢ flushed_number → i ≢ down_number
       → PositionsHold s.first opening k.order (written_word later) (flushed_word later) (down_word later)
       home k.writer (map flight_of views_later) (map writing_of views_later)
-  positions_stay same_flight same apart_13 apart_14 apart_16 =
-      let written = same_word 13 (λ e. apart_13 (sym e)) in
-      let flushed = same_word 14 (λ e. apart_14 (sym e)) in
-      let down = same_word 16 (λ e. apart_16 (sym e)) in
+  positions_stay same_flight same apart_written apart_flushed apart_down =
+      let written = same_word written_number (λ e. apart_written (sym e)) in
+      let flushed = same_word flushed_number (λ e. apart_flushed (sym e)) in
+      let down = same_word down_number (λ e. apart_down (sym e)) in
       let flights = part_same flight_of views id v w here same_flight in
       let parts = part_same writing_of views id v w here same in
       subst (λ (x : ℕ × ℕ × ℕ × List _ × List _).

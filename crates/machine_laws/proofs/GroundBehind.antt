@@ -1,10 +1,10 @@
 -- What is fixed of a view behind a step of any kind: it stays live, and watches for no more than it
 -- has seen reserved; and the down word, once set, stays set.
-use Rattle.std.proofs.Common.{◌≡◌, ◌≢◌, ℕ, ◌+◌, ◌≤◌, Bool, cond, true, false, ◌&&◌, ◌||◌, not, List, [], ◌∷◌, ◌++◌, slice_index, refl, sym, ap, ◌∙◌, subst, eqb, ⊎_elim, arith}
+use Rattle.std.proofs.Common.{◌≡◌, ◌≢◌, ℕ, ◌≤◌, Bool, cond, true, false, ◌&&◌, ◌||◌, not, List, [], ◌∷◌, ◌++◌, slice_index, refl, sym, ap, ◌∙◌, subst, eqb, ⊎_elim, arith}
 use mathlib.Core.Option.{Option, none, some}
 use Rattle.wal_types.specs.declared.record.Record.{Record}
 use Rattle.wal_page.specs.Order.{Entry, end_position, position_behind, prev_of}
-use Rattle.wal_core.specs.Words.{Opening, down_word, end_form, write_turn}
+use Rattle.wal_core.specs.Words.{Opening, down_word, end_form, write_turn, mapping_turn_number, write_turn_number, down_number, lock_number}
 use Rattle.wal_core.specs.Views.{HasAt, Place, Locked, Stored, Plain, Hold, Idle, Turned, Out, Taken, Watching, View, reserving_of, writer_of}
 use Rattle.wal_core.specs.Ordered.{AtPlace}
 use Rattle.wal_core.specs.Moves.{fault_number, after_store_position, begun, entry_reserved, is_own, visited_on, with_hold, with_place, with_stage, with_working}
@@ -101,7 +101,7 @@ module _ {first : DiskState} (words : List ℕ) (home : Option Plain) (views : L
     pub grounded_behind : (e : StepKind) → MayStep v e → IsGrounded v.opening down (behind e)
     grounded_behind load_position may = sees_more load_position refl refl refl (omega arith)
     grounded_behind take_write_turn may = same take_write_turn
-        (ground_either (eqb (slice_index words 11) 0) (with_hold Turned v) v refl)
+        (ground_either (eqb (slice_index words write_turn_number) 0) (with_hold Turned v) v refl)
     grounded_behind slot_out may = same slot_out (ground_slot v home)
     grounded_behind slot_in may = same slot_in refl
     grounded_behind release_write_turn may = same release_write_turn refl
@@ -114,10 +114,10 @@ module _ {first : DiskState} (words : List ℕ) (home : Option Plain) (views : L
     grounded_behind stay may = same stay (rw may.1 refl)
     grounded_behind (load_lock lock limit) may = grounded_live v.opening down
         (behind (load_lock lock limit)) refl live
-        (visited_low (is_own lock v.working) lock (slice_index words (2 + lock))
+        (visited_low (is_own lock v.working) lock (slice_index words (lock_number lock))
         (end_form (v.opening).setup (v.reserving).seen) (begun lock limit v) (begun_low lock limit))
     grounded_behind (take_lock lock) may = same (take_lock lock)
-        (ground_either (eqb (slice_index words (2 + lock)) 0)
+        (ground_either (eqb (slice_index words (lock_number lock)) 0)
         (with_working ((v.working).locks ++ lock ∷ []) (v.working).flight v) v refl)
     grounded_behind (advance lock upto) may = same (advance lock upto) refl
     grounded_behind (release lock) may = same (release lock) refl
@@ -135,7 +135,7 @@ module _ {first : DiskState} (words : List ℕ) (home : Option Plain) (views : L
     grounded_behind load_async may = same load_async refl
     grounded_behind (raise_async expected upto) may = same (raise_async expected upto) refl
     grounded_behind take_mapping_turn may = same take_mapping_turn
-        (ground_either (eqb (slice_index words 10) 0) (with_stage Taken v) v refl)
+        (ground_either (eqb (slice_index words mapping_turn_number) 0) (with_stage Taken v) v refl)
     grounded_behind load_initialised_end may = same load_initialised_end refl
     grounded_behind clear_end may = same clear_end refl
     grounded_behind zero_ring_word may = same zero_ring_word refl
@@ -155,19 +155,19 @@ module _ {first : DiskState} (words : List ℕ) (home : Option Plain) (views : L
   abbrev step : StepKind → Moved
   step e = moved words home views id v k here e
 
-  not_stored : (e : StepKind) → 16 ≢ word_of_step v e → down_word words ≢ 0
+  not_stored : (e : StepKind) → down_number ≢ word_of_step v e → down_word words ≢ 0
       → down_word (later (step e)) ≢ 0
   not_stored e apart down zero_now =
-      down (sym (word_else words (step e).i (step e).n 16 apart) ∙ zero_now)
+      down (sym (word_else words (step e).i (step e).n down_number apart) ∙ zero_now)
 
   -- what is set is a count of faults that rose
-  set_is : MayStep v set_down → value_behind v set_down (slice_index words 16) ≢ 0
+  set_is : MayStep v set_down → value_behind v set_down (slice_index words down_number) ≢ 0
   set_is may zero_now =
       let turn = (k.locks).writing in
       let writer = (stands_out (write_turn words) turn.holder home k.writer id
       (v.reserving).number (v.writing).hold may.0 may.1
       (turn.each id (writer_of v) (part_at writer_of views id v here))).1 in
-      let value : value_behind v set_down (slice_index words 16) ≡ (may.2).0 =
+      let value : value_behind v set_down (slice_index words down_number) ≡ (may.2).0 =
       ap (number_lent v (λ l. fault_number (l.writer).fault)) may.1
       ∙ ap fault_number (may.2).1 in
       ⊎_elim (λ up. omega arith) (λ top. omega arith)
@@ -203,12 +203,12 @@ module _ {first : DiskState} (words : List ℕ) (home : Option Plain) (views : L
   down_stays load_flushed may = not_stored load_flushed (λ e. omega arith)
   down_stays load_moment may = not_stored load_moment (λ e. omega arith)
   down_stays load_down may = λ down zero_now.
-      down (sym (ap down_word (word_again words 16)) ∙ zero_now)
+      down (sym (ap down_word (word_again words down_number)) ∙ zero_now)
   down_stays store_written may = not_stored store_written (λ e. omega arith)
   down_stays store_moment may = not_stored store_moment (λ e. omega arith)
   down_stays store_flushed may = not_stored store_flushed (λ e. omega arith)
   down_stays set_down may = λ down zero_now. set_is may
-      (sym (single_set words (v.opening).setup k.wide 16 (step set_down).n (omega arith))
+      (sym (single_set words (v.opening).setup k.wide down_number (step set_down).n (omega arith))
       ∙ zero_now)
   down_stays load_async may = not_stored load_async (λ e. omega arith)
   down_stays (raise_async expected upto) may =

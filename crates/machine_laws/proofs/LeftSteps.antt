@@ -3,7 +3,7 @@ use Rattle.std.proofs.Common.{◌≡◌, ◌⊎◌, inl, inr, ℕ, ◌+◌, ◌<
 use Rattle.std.specs.Prelude.{Contains, ◌==◌}
 use mathlib.Core.Option.{Option, none, some}
 use Rattle.wal_types.specs.declared.record.Record.{Record}
-use Rattle.wal_core.specs.Words.{initialised_word, written_word, end_word, word_of_ring, async_number}
+use Rattle.wal_core.specs.Words.{initialised_word, written_word, end_word, word_of_ring, async_number, initialised_number, written_number, flushed_number, ends_number}
 use Rattle.wal_core.specs.Views.{HasAt, Place, Free, Locked, Loaded, Stored, StopCause, LogFull, AtSegmentStart, Flight, Taken, Reserving, Plain, Hold, Idle, Turned, Out, Writing, View, working_of, flight_of, confirmed_of}
 use Rattle.wal_core.specs.Ringed.{RingHolds}
 use Rattle.wal_core.specs.Paged.{PagesHold}
@@ -248,17 +248,17 @@ module _ {first : DiskState} (v : View) (words : List ℕ) (home : Option Plain)
       PagesHold ((v.opening).setup).ring_pages s.reach s.stage x.0 x.1 x.2 x.3 s.memory x.4)
       (λ j. (sym i j, sym w j, sym es j, sym r j, sym parts j)) s.pages
 
-  pages_by_word : (e : StepKind) → LeavesPages e → (word_of_step v e < 12)
-      ⊎ ((14 ≤ word_of_step v e) × (word_of_step v e < 17))
+  pages_by_word : (e : StepKind) → LeavesPages e → (word_of_step v e < initialised_number)
+      ⊎ ((flushed_number ≤ word_of_step v e) × (word_of_step v e < ends_number))
       → HasPages v words home views id e s.reach s.stage s.memory
   pages_by_word e leaves away =
       let i : ℕ = word_of_step v e in
       let n : ℕ = value_behind v e (met_by v words home views id e) in
-      let before : i < 17 = ⊎_elim (λ a. omega arith) (λ a. a.1) away in
+      let before : i < ends_number = ⊎_elim (λ a. omega arith) (λ a. a.1) away in
       pages_left e (confirmed_left v e (met_by v words home views id e) home leaves)
-      (word_else words i n 12 (λ f. ⊎_elim (λ a. omega arith)
+      (word_else words i n initialised_number (λ f. ⊎_elim (λ a. omega arith)
       (λ a. let b = a.0 in omega arith) away))
-      (word_else words i n 13 (λ f. ⊎_elim (λ a. omega arith)
+      (word_else words i n written_number (λ f. ⊎_elim (λ a. omega arith)
       (λ a. let b = a.0 in omega arith) away))
       (ends_before words i n before) (ring_before words (v.opening).setup i n (omega arith))
 
@@ -275,16 +275,16 @@ module _ {first : DiskState} (v : View) (words : List ℕ) (home : Option Plain)
       subst (λ (x : ℕ × ℕ × List ℕ). PagesHold ((v.opening).setup).ring_pages s.reach s.stage x.0
       x.1 (end_word (set words i n)) (word_of_ring (v.opening).setup (set words i n)) s.memory x.2)
       (λ j. (
-        sym (word_else words i n 12 (λ e. omega arith)) j,
-        sym (word_else words i n 13 (λ e. omega arith)) j,
+        sym (word_else words i n initialised_number (λ e. omega arith)) j,
+        sym (word_else words i n written_number (λ e. omega arith)) j,
         sym parts j,
       ))
       (pages_alike ((v.opening).setup).ring_pages s.reach s.stage (initialised_word words)
       (written_word words) (end_word words) (word_of_ring (v.opening).setup words) s.memory
       (map confirmed_of views) (end_word (set words i n))
       (word_of_ring (v.opening).setup (set words i n))
-      (λ b below. word_else words i n (17 + b) (λ e. omega arith))
-      (λ k below. word_else words i n (17 + ((v.opening).setup).ring_pages + k)
+      (λ b below. word_else words i n (ends_number + b) (λ e. omega arith))
+      (λ k below. word_else words i n (ends_number + ((v.opening).setup).ring_pages + k)
       (λ e. omega arith)) s.pages)
 
   pub pages_behind-left : (e : StepKind) → MayStep v e → LeavesPages e
@@ -317,7 +317,7 @@ module _ {first : DiskState} (v : View) (words : List ℕ) (home : Option Plain)
   pages_behind-left (load_buffer_end buffer) may leaves = absurd leaves
   pages_behind-left store_ring_word may leaves = absurd leaves
   pages_behind-left (load_ring_word n) may leaves =
-      let place : ℕ = 17 + ((v.opening).setup).ring_pages + ring_place (v.opening).setup n in
+      let place : ℕ = ends_number + ((v.opening).setup).ring_pages + ring_place (v.opening).setup n in
       let same = word_again words place in
       pages_left (load_ring_word n) refl (ap initialised_word same) (ap written_word same)
       (ap end_word same) (ap (word_of_ring (v.opening).setup) same)

@@ -9,7 +9,7 @@ use Rattle.byte_position.proofs.SegmentSizes.{segment_size_in_pages}
 use Rattle.wal_types.specs.declared.record.Record.{Record}
 use Rattle.wal_page.specs.Order.{Entry, end_position, position_behind, prev_of}
 use Rattle.wal_page.proofs.OrderLaws.{room_at-pos}
-use Rattle.wal_core.specs.Words.{flushed_word, moment_word, write_turn}
+use Rattle.wal_core.specs.Words.{flushed_word, moment_word, write_turn, mapping_turn_number, write_turn_number, flushed_number, moment_number, lock_number}
 use Rattle.wal_core.specs.Views.{HasAt, FlushPromise, Place, Locked, Plain, Lent, Hold, Idle, Turned, Out, Taken, View, reserving_of, receipts_of, working_of, writer_of, writing_of}
 use Rattle.wal_core.specs.Ordered.{AtPlace}
 use Rattle.wal_core.specs.Locked.{StandsTo}
@@ -148,19 +148,19 @@ module _ {first : DiskState} (words : List ℕ) (home : Option Plain) (views : L
         (λ j. (sym is_flushed j, sym is_moment j, sym are j)) holds
 
     -- where neither word is stored
-    same_words : 14 ≢ word_of_step v e → 15 ≢ word_of_step v e → (ps : List Promised)
+    same_words : flushed_number ≢ word_of_step v e → moment_number ≢ word_of_step v e → (ps : List Promised)
         → map promised_of views_later ≡ ps
         → Now (flushed_word words) (moment_word words) (writer_behind v e k.writer) ps
         → HasMoments
-    same_words apart_14 apart_15 ps are holds = with_these (flushed_word words)
-        (moment_word words) ps (word_else words (word_of_step v e) stored 14 apart_14)
-        (word_else words (word_of_step v e) stored 15 apart_15) are holds
+    same_words apart_flushed apart_moment ps are holds = with_these (flushed_word words)
+        (moment_word words) ps (word_else words (word_of_step v e) stored flushed_number apart_flushed)
+        (word_else words (word_of_step v e) stored moment_number apart_moment) are holds
 
     -- and the view has the same of promises
     stays : Now (flushed_word words) (moment_word words) (writer_behind v e k.writer) parts
-        → promised_of left ≡ promised_of v → 14 ≢ word_of_step v e → 15 ≢ word_of_step v e
+        → promised_of left ≡ promised_of v → flushed_number ≢ word_of_step v e → moment_number ≢ word_of_step v e
         → HasMoments
-    stays holds same apart_14 apart_15 = same_words apart_14 apart_15 parts
+    stays holds same apart_flushed apart_moment = same_words apart_flushed apart_moment parts
         (part_same promised_of views id v left here same) holds
 
     -- where a word is stored as it was
@@ -176,7 +176,7 @@ module _ {first : DiskState} (words : List ℕ) (home : Option Plain) (views : L
   told =
       let x : Promised = promised_of v in
       let met = ((k.positions).views id v.writing (part_at writing_of views id v here)).flushed_met in
-      loads load_moment (word_again words 15)
+      loads load_moment (word_again words moment_number)
       (set parts id (with_promise (v.writing).flushed (moment_word words) x))
       (part_set promised_of views id (left load_moment))
       (tells v.opening (flushed_word words) (moment_word words) k.writer parts now id x mine
@@ -206,8 +206,8 @@ module _ {first : DiskState} (words : List ℕ) (home : Option Plain) (views : L
       ∙ ap (λ (p : Plain). with_hard p.written p.moment x) writer_is in
       with_these store_moment (flushed_word words) w.moment
       (set parts id (with_hard w.written w.moment x))
-      (word_else words 15 (stored store_moment) 14 (λ e. omega arith))
-      (single_set words (v.opening).setup k.wide 15 (stored store_moment) (omega arith) ∙ value)
+      (word_else words moment_number (stored store_moment) flushed_number (λ e. omega arith))
+      (single_set words (v.opening).setup k.wide moment_number (stored store_moment) (omega arith) ∙ value)
       (part_set promised_of views id (left store_moment)
       ∙ ap (λ (y : Promised). set parts id y) same)
       (stores_moment v.opening (flushed_word words) (moment_word words) w parts now id x mine late
@@ -234,8 +234,8 @@ module _ {first : DiskState} (words : List ℕ) (home : Option Plain) (views : L
       let moment = hard_moment_is v (v.writing).hold in
       with_these store_flushed x.hard (moment_word words)
       (set parts id (with_promise x.hard x.hard_moment x))
-      (single_set words (v.opening).setup k.wide 14 (stored store_flushed) (omega arith) ∙ hard)
-      (word_else words 14 (stored store_flushed) 15 (λ e. omega arith))
+      (single_set words (v.opening).setup k.wide flushed_number (stored store_flushed) (omega arith) ∙ hard)
+      (word_else words flushed_number (stored store_flushed) moment_number (λ e. omega arith))
       (part_set promised_of views id (left store_flushed)
       ∙ ap (λ (n : ℕ × ℕ). set parts id (with_promise n.0 n.1 x)) (λ i. (hard i, moment i)))
       (tells v.opening x.hard (moment_word words) w parts
@@ -311,7 +311,7 @@ module _ {first : DiskState} (words : List ℕ) (home : Option Plain) (views : L
   pub moments_behind : (e : StepKind) → MayStep v e → HasMoments e
   moments_behind load_position may = stays load_position now refl (λ e. omega arith) (λ e. omega arith)
   moments_behind take_write_turn may = stays take_write_turn now
-      (same_either promised_of (eqb (slice_index words 11) 0) (with_hold Turned v) v
+      (same_either promised_of (eqb (slice_index words write_turn_number) 0) (with_hold Turned v) v
       (ap (promised_on v) (sym may))) (λ e. omega arith) (λ e. omega arith)
   moments_behind slot_out may = stays slot_out now (out_same v home may) (λ e. omega arith) (λ e. omega arith)
   moments_behind slot_in may = same_words slot_in (λ e. omega arith) (λ e. omega arith)
@@ -330,7 +330,7 @@ module _ {first : DiskState} (words : List ℕ) (home : Option Plain) (views : L
   moments_behind stay may = stays stay now (rw may.1 refl) (λ e. omega arith) (λ e. omega arith)
   moments_behind (load_lock lock limit) may = stays (load_lock lock limit) now refl (λ e. omega (arith, may)) (λ e. omega (arith, may))
   moments_behind (take_lock lock) may = stays (take_lock lock) now
-      (same_either promised_of (eqb (slice_index words (2 + lock)) 0)
+      (same_either promised_of (eqb (slice_index words (lock_number lock)) 0)
       (with_working ((v.working).locks ++ lock ∷ []) (v.working).flight v) v refl)
       (λ e. omega (arith, may)) (λ e. omega (arith, may))
   moments_behind (advance lock upto) may =
@@ -345,7 +345,7 @@ module _ {first : DiskState} (words : List ℕ) (home : Option Plain) (views : L
       (lent_same v (λ l. record l { staged = (number, _) ∷ l.staged }) (λ _. refl) (λ _. refl)
       (v.writing).hold) (λ e. omega arith) (λ e. omega arith)
   moments_behind load_written may = stays load_written now refl (λ e. omega arith) (λ e. omega arith)
-  moments_behind load_flushed may = loads load_flushed (word_again words 14) parts
+  moments_behind load_flushed may = loads load_flushed (word_again words flushed_number) parts
       (part_same promised_of views id v (left load_flushed) here refl) now
   moments_behind load_moment may = told
   moments_behind load_down may = stays load_down now refl (λ e. omega arith) (λ e. omega arith)
@@ -358,7 +358,7 @@ module _ {first : DiskState} (words : List ℕ) (home : Option Plain) (views : L
   moments_behind load_async may = stays load_async now refl (λ e. omega arith) (λ e. omega arith)
   moments_behind (raise_async expected upto) may = stays (raise_async expected upto) now refl (λ e. omega arith) (λ e. omega arith)
   moments_behind take_mapping_turn may = stays take_mapping_turn now
-      (same_either promised_of (eqb (slice_index words 10) 0) (with_stage Taken v) v refl)
+      (same_either promised_of (eqb (slice_index words mapping_turn_number) 0) (with_stage Taken v) v refl)
       (λ e. omega arith) (λ e. omega arith)
   moments_behind load_initialised_end may = stays load_initialised_end now refl (λ e. omega arith) (λ e. omega arith)
   moments_behind clear_end may = stays clear_end now refl (λ e. omega arith) (λ e. omega arith)

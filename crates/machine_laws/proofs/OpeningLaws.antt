@@ -21,7 +21,7 @@ use Rattle.wal_page.proofs.OwnerLaws.{owner_at-none_before, end_position-whole}
 use Rattle.byte_position.proofs.EndAddresses.{end_address_of-mono}
 use Rattle.byte_position.proofs.Words.{end_address_of-mod_word}
 use Rattle.wal_core.specs.declared.setup.Setup.{Setup}
-use Rattle.wal_core.specs.Words.{Opening, position_word, prev_word, lock_word, mapping_turn, write_turn, initialised_word, written_word, flushed_word, moment_word, down_word, end_word, word_of_ring, async_word, found_end, found_position}
+use Rattle.wal_core.specs.Words.{Opening, position_word, prev_word, lock_word, mapping_turn, write_turn, initialised_word, written_word, flushed_word, moment_word, down_word, end_word, word_of_ring, async_word, found_end, found_position, mapping_turn_number, write_turn_number, lock_number}
 use Rattle.wal_core.specs.Views.{HasAt, Plain, Away, Landed, Copying, IsLoadedLast, Out, AreSomeOf, View, mapper_of, receipts_of, writer_of}
 use Rattle.wal_core.specs.Opened.{AreFirstWords, IsFirstWriter, IsOpenable, first_view}
 use Rattle.wal_core.specs.Ordered.{HasLive, IsUnused, entries_under, is_pass, OrderHolds, Role, active, spare, ended, unborn}
@@ -161,7 +161,7 @@ module _ (opening : Opening) (words : List ℕ) (writer : Plain) (log : IsOpenab
   }
 
   lock_zero : (i : ℕ) → i < 8 → lock_word words i ≡ 0
-  lock_zero i below = zeroed.zeros (2 + i) (omega arith) (omega arith)
+  lock_zero i below = zeroed.zeros (lock_number i) (omega arith) (omega arith)
 
   pub locks_begin : LocksHold (lock_word words) (view.working ∷ []) (mapping_turn words) Away
       (mapper_of view ∷ []) (write_turn words) (some writer) writer (writer_of view ∷ [])
@@ -177,13 +177,13 @@ module _ (opening : Opening) (words : List ℕ) (writer : Plain) (log : IsOpenab
     mapping = record {
       holder = 0;
       each = only_one (mapper_of view) _ (λ has. absurd has);
-      held = λ taken. absurd (taken (zeroed.zeros 10 (omega arith) (omega arith)));
+      held = λ taken. absurd (taken (zeroed.zeros mapping_turn_number (omega arith) (omega arith)));
       free = λ z. refl;
     };
     writing = record {
       holder = 0;
       each = only_one (writer_of view) _ tt;
-      held = λ taken. absurd (taken (zeroed.zeros 11 (omega arith) (omega arith)));
+      held = λ taken. absurd (taken (zeroed.zeros write_turn_number (omega arith) (omega arith)));
       free = λ z. refl;
     };
   }

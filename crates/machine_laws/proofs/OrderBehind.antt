@@ -1,8 +1,8 @@
 -- The reserved order behind a step of any kind.
-use Rattle.std.proofs.Common.{◌≡◌, ℕ, ◌+◌, ◌≤◌, true, List, [], ◌∷◌, ◌++◌, map, set, slice_index, refl, sym, subst, arith, eqb}
+use Rattle.std.proofs.Common.{◌≡◌, ℕ, ◌≤◌, true, List, [], ◌∷◌, ◌++◌, map, set, slice_index, refl, sym, subst, arith, eqb}
 use mathlib.Core.Option.{Option, none, some}
 use Rattle.wal_page.specs.Order.{Entry}
-use Rattle.wal_core.specs.Words.{position_word, prev_word, flushed_word}
+use Rattle.wal_core.specs.Words.{position_word, prev_word, flushed_word, mapping_turn_number, write_turn_number, lock_number}
 use Rattle.wal_core.specs.Views.{HasAt, Plain, Reserving, Hold, Idle, Turned, Out, Taken, View, reserving_of}
 use Rattle.wal_core.specs.Ordered.{OrderHolds}
 use Rattle.wal_core.specs.Moves.{with_hold, with_stage, with_working}
@@ -99,7 +99,7 @@ module _ {first : DiskState} (words : List ℕ) (home : Option Plain) (views : L
       (order.load_position_keeps k.order (position_word words) (prev_word words)
       (map reserving_of views) id v home takes_part)
   order_holds take_write_turn may = stays take_write_turn
-      (same_either reserving_of (eqb (slice_index words 11) 0) (with_hold Turned v) v refl)
+      (same_either reserving_of (eqb (slice_index words write_turn_number) 0) (with_hold Turned v) v refl)
       (omega arith)
   order_holds slot_out may = stays slot_out (slot_same home) (omega arith)
   order_holds slot_in may = stays slot_in refl (omega arith)
@@ -126,7 +126,7 @@ module _ {first : DiskState} (words : List ℕ) (home : Option Plain) (views : L
       (map reserving_of views) id v home takes_part may)
   order_holds (load_lock lock limit) may = stays (load_lock lock limit) refl (omega arith)
   order_holds (take_lock lock) may = stays (take_lock lock)
-      (same_either reserving_of (eqb (slice_index words (2 + lock)) 0)
+      (same_either reserving_of (eqb (slice_index words (lock_number lock)) 0)
       (with_working ((v.working).locks ++ lock ∷ []) (v.working).flight v) v refl) (omega arith)
   order_holds (advance lock upto) may = stays (advance lock upto) refl (omega arith)
   order_holds (release lock) may = stays (release lock) refl (omega arith)
@@ -152,7 +152,7 @@ module _ {first : DiskState} (words : List ℕ) (home : Option Plain) (views : L
   order_holds load_async may = stays load_async refl (omega arith)
   order_holds (raise_async expected upto) may = stays (raise_async expected upto) refl (omega arith)
   order_holds take_mapping_turn may = stays take_mapping_turn
-      (same_either reserving_of (eqb (slice_index words 10) 0) (with_stage Taken v) v refl)
+      (same_either reserving_of (eqb (slice_index words mapping_turn_number) 0) (with_stage Taken v) v refl)
       (omega arith)
   order_holds load_initialised_end may = stays load_initialised_end refl (omega arith)
   order_holds clear_end may = stays clear_end refl (omega arith)

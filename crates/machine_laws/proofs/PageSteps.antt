@@ -6,7 +6,7 @@ use mathlib.Core.Option.{Option}
 use mathlib.Core.Logic.{dite}
 use native.Mathlib.Decide.{ℕ_discrete}
 use Rattle.wal_core.specs.declared.setup.Setup.{Setup}
-use Rattle.wal_core.specs.Words.{initialised_word, written_word, mapping_turn, end_word, word_of_ring}
+use Rattle.wal_core.specs.Words.{initialised_word, written_word, mapping_turn, end_word, word_of_ring, mapping_turn_number, initialised_number, written_number, ends_number}
 use Rattle.wal_core.specs.Views.{HasAt, Flight, Copying, Stage, Away, Taken, Ready, Zeroing, Published, Plain, Lent, Out, View, flight_of, mapper_of, confirmed_of, writer_of, writing_of}
 use Rattle.wal_core.specs.Locked.{HasTurn, StandsTo}
 use Rattle.wal_core.specs.Paged.{IsOpen, PagesHold}
@@ -79,7 +79,7 @@ module _ {first : DiskState} (v : View) (words : List ℕ) (home : Option Plain)
       (ap (word_of_ring setup) same) holds
 
   -- one that stores into a word before those of the buffers, which they do not read
-  pages_by_turn : (e : StepKind) (next : Stage) (c : ℕ) → word_of_step v e ≡ 10
+  pages_by_turn : (e : StepKind) (next : Stage) (c : ℕ) → word_of_step v e ≡ mapping_turn_number
       → confirmed_of (view_behind v e (met_by v words home views id e) home) ≡ c
       → PagesHold pages s.reach next (initialised_word words) (written_word words) (end_word words)
       (word_of_ring setup words) s.memory (set all_met id c)
@@ -89,7 +89,7 @@ module _ {first : DiskState} (v : View) (words : List ℕ) (home : Option Plain)
       let n : ℕ = value_behind v e (met_by v words home views id e) in
       pages_by e s.reach next s.memory c (initialised_word words)
       (written_word words) (end_word words) (word_of_ring setup words) is
-      (word_else words i n 12 (λ f. omega arith)) (word_else words i n 13 (λ f. omega arith))
+      (word_else words i n initialised_number (λ f. omega arith)) (word_else words i n written_number (λ f. omega arith))
       (ends_before words i n (omega arith)) (ring_before words setup i n (omega arith)) holds
 
   -- the list of the ends met, where this one stays
@@ -103,14 +103,14 @@ module _ {first : DiskState} (v : View) (words : List ℕ) (home : Option Plain)
   pub pages_behind-end : (buffer : ℕ) → MayStep v (load_buffer_end buffer)
       → HasPages v words home views id (load_buffer_end buffer) s.reach s.stage s.memory
   pages_behind-end buffer below = pages_by_load (load_buffer_end buffer) s.stage
-      (max met (end_word words buffer)) (word_again words (17 + buffer)) refl
+      (max met (end_word words buffer)) (word_again words (ends_number + buffer)) refl
       (page.meets_end pages s.reach s.stage (initialised_word words) (written_word words)
       (end_word words) (word_of_ring setup words) s.memory all_met s.pages id met buffer mine below)
 
   pub pages_behind-initialised : HasPages v words home views id load_initialised_end s.reach s.stage
       s.memory
   pages_behind-initialised = pages_by_load load_initialised_end s.stage
-      (max met (initialised_word words)) (word_again words 12) refl
+      (max met (initialised_word words)) (word_again words initialised_number) refl
       (page.meets_initialised pages s.reach s.stage (initialised_word words) (written_word words)
       (end_word words) (word_of_ring setup words) s.memory all_met s.pages id met mine)
 
@@ -119,7 +119,7 @@ module _ {first : DiskState} (v : View) (words : List ℕ) (home : Option Plain)
       (looked (initialised_word words) stage) s.memory
   pages_behind-looked is = pages_by_load load_initialised_end (looked
       (initialised_word words) stage)
-      (max met (initialised_word words)) (word_again words 12) refl
+      (max met (initialised_word words)) (word_again words initialised_number) refl
       (subst (λ (x : Stage). PagesHold pages s.reach (looked (initialised_word words) x)
       (initialised_word words) (written_word words) (end_word words) (word_of_ring setup words)
       s.memory (set all_met id (max met (initialised_word words)))) is
@@ -129,13 +129,13 @@ module _ {first : DiskState} (v : View) (words : List ℕ) (home : Option Plain)
   pub pages_behind-written_loaded : HasPages v words home views id load_written s.reach s.stage
       s.memory
   pages_behind-written_loaded =
-      pages_by_load load_written s.stage met (word_again words 13) refl stays
+      pages_by_load load_written s.stage met (word_again words written_number) refl stays
 
   pub pages_behind-ready : s.stage ≡ stage
       → HasPages v words home views id load_written s.reach (ready (written_word words) stage)
       s.memory
   pages_behind-ready is = pages_by_load load_written (ready (written_word words) stage) met
-      (word_again words 13) refl
+      (word_again words written_number) refl
       (subst (λ (x : Stage). PagesHold pages s.reach (ready (written_word words) x)
       (initialised_word words) (written_word words) (end_word words) (word_of_ring setup words)
       s.memory (set all_met id met)) is
@@ -219,12 +219,12 @@ module _ {first : DiskState} (v : View) (words : List ℕ) (home : Option Plain)
       let ready : s.stage ≡ Ready at may.1 = own (subst HasTurn (sym may.2) tt) ∙ may.2
       ∙ ap (λ (a : ℕ). Ready a may.1) (sym here_at) in
       let out = may.3 in
-      let later : List ℕ = set words (17 + buffer) 0 in
+      let later : List ℕ = set words (ends_number + buffer) 0 in
       pages_by clear_end s.reach (Zeroing at 0) s.memory met (initialised_word words)
       (written_word words) (end_word later) (word_of_ring setup words) refl
-      (word_else words (17 + buffer) 0 12 (λ f. omega arith))
-      (word_else words (17 + buffer) 0 13 (λ f. omega arith))
-      refl (ring_before words setup (17 + buffer) 0 (let low = buffer_low in omega arith))
+      (word_else words (ends_number + buffer) 0 initialised_number (λ f. omega arith))
+      (word_else words (ends_number + buffer) 0 written_number (λ f. omega arith))
+      refl (ring_before words setup (ends_number + buffer) 0 (let low = buffer_low in omega arith))
       (page.clears pages s.reach s.stage (initialised_word words) (written_word words)
       (end_word words) (word_of_ring setup words) s.memory (set all_met id met) stays
       (end_word later) at may.1 ready (omega arith)
@@ -242,11 +242,11 @@ module _ {first : DiskState} (v : View) (words : List ℕ) (home : Option Plain)
       let less = may.3 in
       let more : count < 1024 = omega arith in
       let place : ℕ = buffer * 1024 + count in
-      let later : List ℕ = set words (17 + pages + place) 0 in
+      let later : List ℕ = set words (ends_number + pages + place) 0 in
       pages_by zero_ring_word s.reach (Zeroing at (count + 1)) s.memory met (initialised_word words)
       (written_word words) (end_word later) (word_of_ring setup later) refl
-      (word_else words (17 + pages + place) 0 12 (λ f. omega arith))
-      (word_else words (17 + pages + place) 0 13 (λ f. omega arith)) refl refl
+      (word_else words (ends_number + pages + place) 0 initialised_number (λ f. omega arith))
+      (word_else words (ends_number + pages + place) 0 written_number (λ f. omega arith)) refl refl
       (page.zeroes pages s.reach s.stage (initialised_word words) (written_word words)
       (end_word words) (word_of_ring setup words) s.memory (set all_met id met) stays
       (end_word later) (word_of_ring setup later) (ends_behind words setup place 0) at count zeroing
@@ -259,12 +259,12 @@ module _ {first : DiskState} (v : View) (words : List ℕ) (home : Option Plain)
       let here_at : at ≡ may.0 = ap page_mapped may.1 in
       let zeroed : s.stage ≡ Zeroing at 1024 = own (subst HasTurn (sym may.1) tt) ∙ may.1
       ∙ ap (λ (a : ℕ). Zeroing a 1024) (sym here_at) in
-      let later : List ℕ = set words (17 + buffer) (at + 8192) in
+      let later : List ℕ = set words (ends_number + buffer) (at + 8192) in
       pages_by publish_end (s.reach + 1) (Published at) s.memory met (initialised_word words)
       (written_word words) (end_word later) (word_of_ring setup words) refl
-      (word_else words (17 + buffer) (at + 8192) 12 (λ f. omega arith))
-      (word_else words (17 + buffer) (at + 8192) 13 (λ f. omega arith)) refl
-      (ring_before words setup (17 + buffer) (at + 8192) (let low = buffer_low in omega arith))
+      (word_else words (ends_number + buffer) (at + 8192) initialised_number (λ f. omega arith))
+      (word_else words (ends_number + buffer) (at + 8192) written_number (λ f. omega arith)) refl
+      (ring_before words setup (ends_number + buffer) (at + 8192) (let low = buffer_low in omega arith))
       (page.publishes pages s.reach s.stage (initialised_word words) (written_word words)
       (end_word words) (word_of_ring setup words) s.memory (set all_met id met) stays
       (end_word later) at zeroed (end_put setup words s.wide buffer (at + 8192) buffer_low))
@@ -277,10 +277,10 @@ module _ {first : DiskState} (v : View) (words : List ℕ) (home : Option Plain)
       ∙ ap Published (sym here_at) in
       pages_by publish_initialised_end s.reach Taken s.memory (max met (at + 8192)) (at + 8192)
       (written_word words) (end_word words) (word_of_ring setup words) refl
-      (single_set words setup s.wide 12 (at + 8192) (omega arith))
-      (word_else words 12 (at + 8192) 13 (λ f. omega arith))
-      (ends_before words 12 (at + 8192) (omega arith))
-      (ring_before words setup 12 (at + 8192) (omega arith))
+      (single_set words setup s.wide initialised_number (at + 8192) (omega arith))
+      (word_else words initialised_number (at + 8192) written_number (λ f. omega arith))
+      (ends_before words initialised_number (at + 8192) (omega arith))
+      (ring_before words setup initialised_number (at + 8192) (omega arith))
       (page.advances pages s.reach s.stage (initialised_word words) (written_word words)
       (end_word words) (word_of_ring setup words) s.memory all_met s.pages at id met published mine)
 
@@ -293,15 +293,15 @@ module _ {first : DiskState} (v : View) (words : List ℕ) (home : Option Plain)
       let number : ℕ = number_of_next setup (v.working).flight in
       let value : ℕ = next_value v (v.working).flight in
       let place : ℕ = ring_place setup number in
-      let later : List ℕ = set words (17 + pages + place) value in
+      let later : List ℕ = set words (ends_number + pages + place) value in
       let memory2 : ℕ → ℕ = put s.memory number value in
       let flies : HasAt (map flight_of views) id (Copying may.0) =
       subst (λ (f : Flight). HasAt (map flight_of views) id f) may.1
       (part_at flight_of views id v here) in
       pages_by store_ring_word s.reach s.stage memory2 met (initialised_word words)
       (written_word words) (end_word later) (word_of_ring setup later) refl
-      (word_else words (17 + pages + place) value 12 (λ f. omega arith))
-      (word_else words (17 + pages + place) value 13 (λ f. omega arith)) refl refl
+      (word_else words (ends_number + pages + place) value initialised_number (λ f. omega arith))
+      (word_else words (ends_number + pages + place) value written_number (λ f. omega arith)) refl refl
       (stores_word setup s.reach s.stage (initialised_word words) (written_word words)
       (end_word words) (word_of_ring setup words) s.memory (set all_met id met) stays may.0
       (map flight_of views) id met (s.writer).written value (end_word later)
@@ -327,10 +327,10 @@ module _ {first : DiskState} (v : View) (words : List ℕ) (home : Option Plain)
       let low = (s.positions).written_low in
       pages_by store_written s.reach s.stage s.memory met (initialised_word words) written2
       (end_word words) (word_of_ring setup words) refl
-      (word_else words 13 written2 12 (λ f. omega arith))
-      (single_set words setup s.wide 13 written2 (omega arith))
-      (ends_before words 13 written2 (omega arith))
-      (ring_before words setup 13 written2 (omega arith))
+      (word_else words written_number written2 initialised_number (λ f. omega arith))
+      (single_set words setup s.wide written_number written2 (omega arith))
+      (ends_before words written_number written2 (omega arith))
+      (ring_before words setup written_number written2 (omega arith))
       (page.rises pages s.reach s.stage (initialised_word words) (written_word words)
       (end_word words) (word_of_ring setup words) s.memory (set all_met id met) stays written2
       (omega arith))

@@ -1,9 +1,9 @@
 -- The positions behind a step of any kind.
-use Rattle.std.proofs.Common.{◌≡◌, ◌≢◌, ℕ, ◌+◌, ◌<◌, true, Contains, List, [], ◌∷◌, ◌++◌, map, set, slice_index, refl, sym, ap, subst, arith, eqb, ⊎_elim, ◌∙◌}
+use Rattle.std.proofs.Common.{◌≡◌, ◌≢◌, ℕ, ◌<◌, true, Contains, List, [], ◌∷◌, ◌++◌, map, set, slice_index, refl, sym, ap, subst, arith, eqb, ⊎_elim, ◌∙◌}
 use mathlib.Core.Option.{Option}
 use Rattle.wal_page.specs.Order.{Entry}
 use Rattle.wal_core.specs.declared.setup.Setup.{Setup}
-use Rattle.wal_core.specs.Words.{lock_word, position_word, prev_word, written_word, flushed_word, moment_word, down_word}
+use Rattle.wal_core.specs.Words.{lock_word, position_word, prev_word, written_word, flushed_word, moment_word, down_word, mapping_turn_number, write_turn_number, written_number, flushed_number, moment_number, down_number, lock_number}
 use Rattle.wal_core.specs.Views.{HasAt, Plain, Flight, Writing, Locked, Taken, View, reserving_of, working_of, flight_of, writing_of, receipts_of}
 use Rattle.wal_core.specs.Positioned.{PositionsHold}
 use Rattle.wal_core.specs.Moves.{with_place, with_stage, with_working}
@@ -59,14 +59,14 @@ module _ {first : DiskState} (words : List ℕ) (home : Option Plain) (views : L
     same j apart = word_else words s.i s.n j apart
 
     -- where none of them is stored
-    by_law : (es : List Entry) (writer : Plain) → 13 ≢ s.i → 14 ≢ s.i → 16 ≢ s.i
+    by_law : (es : List Entry) (writer : Plain) → written_number ≢ s.i → flushed_number ≢ s.i → down_number ≢ s.i
         → PositionsHold first v.opening es (written_word words) (flushed_word words) (down_word words)
         (home_behind v e home) writer (set (map flight_of views) id (flight_of s.w))
         (set (map writing_of views) id (writing_of s.w))
         → HasPositions es writer
-    by_law es writer apart_13 apart_14 apart_16 holds = with_words es writer
-        (written_word words) (flushed_word words) (down_word words) (same 13 apart_13)
-        (same 14 apart_14) (same 16 apart_16) holds
+    by_law es writer apart_written apart_flushed apart_down holds = with_words es writer
+        (written_word words) (flushed_word words) (down_word words) (same written_number apart_written)
+        (same flushed_number apart_flushed) (same down_number apart_down) holds
 
     -- where a load leaves all words
     by_load : (es : List Entry) (writer : Plain) → later s ≡ words
@@ -111,7 +111,7 @@ module _ {first : DiskState} (words : List ℕ) (home : Option Plain) (views : L
   positions_hold slot_in may = by_law slot_in k.order k.writer
       (λ e. omega arith) (λ e. omega arith) (λ e. omega arith)
       (kept.slot_in_keeps p id v known
-      (slice_index words 11) down_known may)
+      (slice_index words write_turn_number) down_known may)
   positions_hold release_write_turn may = by_law release_write_turn k.order k.writer
       (λ e. omega arith) (λ e. omega arith) (λ e. omega arith)
       (kept.release_write_turn_keeps p id v known)
@@ -138,7 +138,7 @@ module _ {first : DiskState} (words : List ℕ) (home : Option Plain) (views : L
   positions_hold (load_lock lock limit) may = positions_stay (step (load_lock lock limit)) refl
       refl (λ e. omega arith) (λ e. omega arith) (λ e. omega arith)
   positions_hold (take_lock lock) may =
-      let free = eqb (slice_index words (2 + lock)) 0 in
+      let free = eqb (slice_index words (lock_number lock)) 0 in
       let taken = with_working ((v.working).locks ++ lock ∷ []) (v.working).flight v in
       positions_stay (step (take_lock lock)) (same_either flight_of free taken v refl)
       (same_either writing_of free taken v refl)
@@ -152,7 +152,7 @@ module _ {first : DiskState} (words : List ℕ) (home : Option Plain) (views : L
       by_law (release lock) k.order k.writer
       (λ e. omega arith) (λ e. omega arith) (λ e. omega arith)
       (kept.release_keeps p id v known lock
-      (slice_index words (2 + lock)))
+      (slice_index words (lock_number lock)))
   positions_hold (load_buffer_end buffer) may = positions_stay (step
       (load_buffer_end buffer)) refl refl
       (λ e. omega arith) (λ e. omega arith) (λ e. omega arith)
@@ -164,34 +164,34 @@ module _ {first : DiskState} (words : List ℕ) (home : Option Plain) (views : L
       (λ e. omega arith) (λ e. omega arith) (λ e. omega arith)
       (kept.load_word_keeps p id v known number
       (slice_index words (word_of_step v (load_ring_word number))))
-  positions_hold load_written may = by_load load_written k.order k.writer (word_again words 13)
+  positions_hold load_written may = by_load load_written k.order k.writer (word_again words written_number)
       (kept.load_written_keeps p id v known)
-  positions_hold load_flushed may = by_load load_flushed k.order k.writer (word_again words 14)
+  positions_hold load_flushed may = by_load load_flushed k.order k.writer (word_again words flushed_number)
       (kept.load_flushed_keeps p id v known)
-  positions_hold load_moment may = by_load load_moment k.order k.writer (word_again words 15)
+  positions_hold load_moment may = by_load load_moment k.order k.writer (word_again words moment_number)
       (kept.load_moment_keeps p id v known
       (moment_word words))
-  positions_hold load_down may = by_load load_down k.order k.writer (word_again words 16)
+  positions_hold load_down may = by_load load_down k.order k.writer (word_again words down_number)
       (kept.load_down_keeps p id v known
       (down_word words))
   positions_hold store_written may = with_words store_written k.order k.writer _
       (flushed_word words) (down_word words)
-      (single_set words setup k.wide 13 (step store_written).n (omega arith))
-      (same store_written 14 (λ e. omega arith)) (same store_written 16 (λ e. omega arith))
+      (single_set words setup k.wide written_number (step store_written).n (omega arith))
+      (same store_written flushed_number (λ e. omega arith)) (same store_written down_number (λ e. omega arith))
       (kept.store_written_keeps p id v known may)
   positions_hold store_moment may = by_law store_moment k.order k.writer
       (λ e. omega arith) (λ e. omega arith) (λ e. omega arith)
       (kept.store_moment_keeps p id v known
       (moment_word words))
   positions_hold store_flushed may = with_words store_flushed k.order k.writer
-      (written_word words) _ (down_word words) (same store_flushed 13 (λ e. omega arith))
-      (single_set words setup k.wide 14 (step store_flushed).n (omega arith))
-      (same store_flushed 16 (λ e. omega arith))
+      (written_word words) _ (down_word words) (same store_flushed written_number (λ e. omega arith))
+      (single_set words setup k.wide flushed_number (step store_flushed).n (omega arith))
+      (same store_flushed down_number (λ e. omega arith))
       (kept.store_flushed_keeps p id v known may)
   positions_hold set_down may = with_words set_down k.order k.writer (written_word words)
-      (flushed_word words) _ (same set_down 13 (λ e. omega arith))
-      (same set_down 14 (λ e. omega arith))
-      (single_set words setup k.wide 16 (step set_down).n (omega arith))
+      (flushed_word words) _ (same set_down written_number (λ e. omega arith))
+      (same set_down flushed_number (λ e. omega arith))
+      (single_set words setup k.wide down_number (step set_down).n (omega arith))
       (kept.set_down_keeps p id v known may)
   positions_hold load_async may = positions_stay (step load_async) refl refl
       (λ e. omega arith) (λ e. omega arith) (λ e. omega arith)
@@ -199,7 +199,7 @@ module _ {first : DiskState} (words : List ℕ) (home : Option Plain) (views : L
       (step (raise_async expected upto)) refl refl
       (λ e. omega arith) (λ e. omega arith) (λ e. omega arith)
   positions_hold take_mapping_turn may =
-      let free = eqb (slice_index words 10) 0 in
+      let free = eqb (slice_index words mapping_turn_number) 0 in
       positions_stay (step take_mapping_turn)
       (same_either flight_of free (with_stage Taken v) v refl)
       (same_either writing_of free (with_stage Taken v) v refl)
@@ -221,16 +221,16 @@ module _ {first : DiskState} (words : List ℕ) (home : Option Plain) (views : L
       (writer_behind v (create segment outcome) k.writer)
       (λ e. omega arith) (λ e. omega arith) (λ e. omega arith)
       (calls.create_keeps p id v known
-      (moment_word words) (map receipts_of views) k.durable (slice_index words 11) segment outcome may)
+      (moment_word words) (map receipts_of views) k.durable (slice_index words write_turn_number) segment outcome may)
   positions_hold (write segment page upto bytes outcome) may =
       by_law (write segment page upto bytes outcome) k.order
       (writer_behind v (write segment page upto bytes outcome) k.writer)
       (λ e. omega arith) (λ e. omega arith) (λ e. omega arith)
       (calls.write_keeps p id v known
-      (moment_word words) (map receipts_of views) k.durable (slice_index words 11) segment page upto
+      (moment_word words) (map receipts_of views) k.durable (slice_index words write_turn_number) segment page upto
       bytes outcome (told_here words home views id v k here) may)
   positions_hold (sync segment outcome) may = by_law (sync segment outcome) k.order
       (writer_behind v (sync segment outcome) k.writer)
       (λ e. omega arith) (λ e. omega arith) (λ e. omega arith)
       (calls.sync_keeps p id v known
-      (moment_word words) (map receipts_of views) k.durable (slice_index words 11) segment outcome may)
+      (moment_word words) (map receipts_of views) k.durable (slice_index words write_turn_number) segment outcome may)

@@ -2,7 +2,7 @@
 use Rattle.std.proofs.Common.{◌≡◌, ℕ, ◌+◌, ◌*◌, ◌/◌, ◌%◌, ◌<◌, Bool, cond, eq-eqb, ne_eqb, List, length, set, refl, ap, arith}
 use Rattle.std.proofs.Math.Nat.{mod-lt}
 use Rattle.wal_core.specs.declared.setup.Setup.{Setup}
-use Rattle.wal_core.specs.Words.{end_word, word_of_ring, word_count}
+use Rattle.wal_core.specs.Words.{end_word, word_of_ring, word_count, ends_number}
 use Rattle.wal_core.specs.Steps.{buffer_of, ring_place}
 use Rattle.wal_core.proofs.WordLists.{end_else, end_set, ring_else, ring_set}
 use Rattle.machine_laws.specs.WordsPut.{IsPut, put}
@@ -29,7 +29,7 @@ module _ (setup : Setup) where
 
   module _ (words : List ℕ) (wide : length words ≡ word_count setup) where
     pub end_put : (buffer value : ℕ) → buffer < setup.ring_pages
-        → IsPut (end_word words) buffer value (end_word (set words (17 + buffer) value))
+        → IsPut (end_word words) buffer value (end_word (set words (ends_number + buffer) value))
     end_put buffer value below = record {
       here = end_set words setup wide buffer value below;
       elsewhere = λ b ne. end_else words buffer value b ne;
@@ -37,7 +37,7 @@ module _ (setup : Setup) where
 
     pub ring_put : (place value : ℕ) → place < setup.ring_pages * 1024
         → IsPut (word_of_ring setup words) place value
-        (word_of_ring setup (set words (17 + setup.ring_pages + place) value))
+        (word_of_ring setup (set words (ends_number + setup.ring_pages + place) value))
     ring_put place value below = record {
       here = ring_set words setup wide place value below;
       elsewhere = λ p ne. ring_else words setup place value p ne;

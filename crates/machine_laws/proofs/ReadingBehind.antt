@@ -1,13 +1,13 @@
 -- What is read of the writer's disk, behind a step of any kind and where passes come and go. The
 -- calls of the device change what is read; a store of a copy's next word changes the memory, a load
 -- for a write what was loaded last; all other steps leave that, or let it go.
-use Rattle.std.proofs.Common.{◌≡◌, ℕ, ◌+◌, ◌/◌, Bool, true, false, cond, eqb, List, [], ◌∷◌, ◌++◌, map, set, slice_index, Some, refl, sym, ap, ◌∙◌, subst, arith}
+use Rattle.std.proofs.Common.{◌≡◌, ℕ, ◌/◌, Bool, true, false, cond, eqb, List, [], ◌∷◌, ◌++◌, map, set, slice_index, Some, refl, sym, ap, ◌∙◌, subst, arith}
 use mathlib.Core.Option.{Option, none, some}
 use Rattle.segment_disk.specs.declared.disk.Call.{Call}
 use Rattle.segment_disk.specs.Assured.{IsNowhere, SegmentAssures, TapeAssures}
 use Rattle.segment_disk.specs.Tape.{DiskState, Segment, Tape, create_call, failed_call, state_now, sync_call, write_call}
 use Rattle.byte_position.specs.Geometry.{pages_of}
-use Rattle.wal_core.specs.Words.{Opening, write_turn}
+use Rattle.wal_core.specs.Words.{Opening, write_turn, mapping_turn_number, write_turn_number, lock_number}
 use Rattle.wal_core.specs.Views.{HasAt, Hold, Turned, Out, Lent, Locked, Plain, Taken, View, Writing, writer_of, writing_of}
 use Rattle.wal_core.specs.Moves.{CallOutcome, after_create, after_join, after_sync, after_write, hardened, orphan_of, spent, split_off, with_hold, with_lent, with_outcome, with_place, with_stage, with_working}
 use Rattle.wal_core.specs.Durable.{IsLawfulAt}
@@ -145,7 +145,7 @@ module _ {first : DiskState} (words : List ℕ) (home : Option Plain) (views : L
       → HasReading e (memory_behind v e k.memory) (writer_behind v e k.writer)
   reading_behind load_position may = keeps load_position refl
   reading_behind take_write_turn may = changes take_write_turn
-      (either_less (eqb (slice_index words 11) 0) (with_hold Turned v) v
+      (either_less (eqb (slice_index words write_turn_number) 0) (with_hold Turned v) v
       (none_turned (v.writing).hold) (as_before (v.writing).hold))
   reading_behind slot_out may = changes slot_out (slot_less home)
   reading_behind slot_in may = changes slot_in (none_turned (v.writing).hold)
@@ -162,7 +162,7 @@ module _ {first : DiskState} (words : List ℕ) (home : Option Plain) (views : L
   reading_behind (load_lock lock limit) may = keeps (load_lock lock limit) refl
   reading_behind (take_lock lock) may = keeps (take_lock lock)
       (ap (λ (x : Writing). x.hold)
-      (same_either writing_of (eqb (slice_index words (2 + lock)) 0)
+      (same_either writing_of (eqb (slice_index words (lock_number lock)) 0)
       (with_working ((v.working).locks ++ lock ∷ []) (v.working).flight v) v refl))
   reading_behind (advance lock upto) may = keeps (advance lock upto) refl
   reading_behind (release lock) may = keeps (release lock) refl
@@ -191,7 +191,7 @@ module _ {first : DiskState} (words : List ℕ) (home : Option Plain) (views : L
   reading_behind load_async may = keeps load_async refl
   reading_behind (raise_async expected upto) may = keeps (raise_async expected upto) refl
   reading_behind take_mapping_turn may = keeps take_mapping_turn
-      (ap (λ (x : Writing). x.hold) (same_either writing_of (eqb (slice_index words 10) 0)
+      (ap (λ (x : Writing). x.hold) (same_either writing_of (eqb (slice_index words mapping_turn_number) 0)
       (with_stage Taken v) v refl))
   reading_behind load_initialised_end may = keeps load_initialised_end refl
   reading_behind clear_end may = keeps clear_end refl

@@ -1,11 +1,11 @@
 -- Durability behind each kind of step, from a state that keeps the invariant.
-use Rattle.std.proofs.Common.{◌≡◌, ◌≢◌, ℕ, ◌+◌, ◌<◌, ◌≤◌, Bool, true, false, Contains, List, [], ◌∷◌, ◌++◌, map, set, slice_index, refl, sym, ap, subst, ◌∙◌, ◌==◌, if◌then◌else◌, arith}
+use Rattle.std.proofs.Common.{◌≡◌, ◌≢◌, ℕ, ◌<◌, ◌≤◌, Bool, true, false, Contains, List, [], ◌∷◌, ◌++◌, map, set, slice_index, refl, sym, ap, subst, ◌∙◌, ◌==◌, if◌then◌else◌, arith}
 use mathlib.Core.Option.{Option}
 use Rattle.byte_position.proofs.SegmentSizes.{segment_size_in_pages}
 use Rattle.segment_disk.specs.Tape.{DiskState, create_call, sync_call, write_call}
 use Rattle.wal_types.specs.declared.record.Record.{Record}
 use Rattle.wal_page.specs.Order.{Entry}
-use Rattle.wal_core.specs.Words.{Opening, flushed_word, moment_word, down_word, written_word, write_turn}
+use Rattle.wal_core.specs.Words.{Opening, flushed_word, moment_word, down_word, written_word, write_turn, mapping_turn_number, write_turn_number, initialised_number, written_number, flushed_number, moment_number, down_number, ends_number, lock_number}
 use Rattle.wal_core.specs.Views.{HasAt, Lent, Out, Plain, Receipts, View, reserving_of, receipts_of, working_of, writer_of, writing_of, flight_of, Taken, Locked}
 use Rattle.wal_core.specs.Moves.{CallOutcome, after_create, after_sync, after_write, after_join, entry_reserved, after_split, orphan_of, split_off, spent, without_work, with_place, with_stage, with_working}
 use Rattle.wal_core.specs.Durable.{DurabilityHolds}
@@ -61,14 +61,14 @@ module _ {first : DiskState} (words : List ℕ) (home : Option Plain) (views : L
       stays : (j : ℕ) → j ≢ i → slice_index words j ≡ slice_index (set words i n) j
       stays j apart = sym (word_else words i n j apart)
 
-      elsewhere_stored : 14 ≢ i → 15 ≢ i → 16 ≢ i
+      elsewhere_stored : flushed_number ≢ i → moment_number ≢ i → down_number ≢ i
           → DurabilityHolds first o order (flushed_word words) (moment_word words) (down_word words)
           elsewhere writer (set (map receipts_of views) id (receipts_of w))
           → DurabilityHolds first o order (flushed_word (set words i n)) (moment_word (set words i n))
           (down_word (set words i n)) elsewhere writer (map receipts_of (set views id w))
       elsewhere_stored flushed moment down h =
           with_words (flushed_word words) (moment_word words) (down_word words)
-          (stays 14 flushed) (stays 15 moment) (stays 16 down) h
+          (stays flushed_number flushed) (stays moment_number moment) (stays down_number down) h
 
   -- a word is loaded
   loaded : (i : ℕ) (w : View) → DurabilityHolds first o k.order (flushed_word words) (moment_word words)
@@ -84,7 +84,7 @@ module _ {first : DiskState} (words : List ℕ) (home : Option Plain) (views : L
       (ap (λ (l : List ℕ). moment_word l) again) (ap (λ (l : List ℕ). down_word l) again) h
 
   -- nothing of which it speaks becomes another
-  untouched : (i n : ℕ) (w : View) → receipts_of w ≡ receipts_of v → 14 ≢ i → 15 ≢ i → 16 ≢ i
+  untouched : (i n : ℕ) (w : View) → receipts_of w ≡ receipts_of v → flushed_number ≢ i → moment_number ≢ i → down_number ≢ i
       → DurabilityHolds first o k.order (flushed_word (set words i n)) (moment_word (set words i n))
       (down_word (set words i n)) home k.writer (map receipts_of (set views id w))
   untouched i n w is flushed moment down =
@@ -164,8 +164,8 @@ module _ {first : DiskState} (words : List ℕ) (home : Option Plain) (views : L
       (after_create segment (create_call ((v.opening).setup).segment_size segment) outcome
       k.writer)
   durable-create segment outcome may =
-      let met = slice_index words 11 in
-      elsewhere_stored k.order _ home 11 met (view_behind v (create segment outcome) met home)
+      let met = slice_index words write_turn_number in
+      elsewhere_stored k.order _ home write_turn_number met (view_behind v (create segment outcome) met home)
       (λ e. omega arith) (λ e. omega arith) (λ e. omega arith)
       (create_keeps o k.order (flushed_word words) (moment_word words) (down_word words) home
       k.writer (map receipts_of views) k.durable id v mine refl k.setup_is (write_turn words)
@@ -178,8 +178,8 @@ module _ {first : DiskState} (words : List ℕ) (home : Option Plain) (views : L
       (after_write segment upto
       (write_call ((v.opening).setup).segment_size segment page bytes) outcome k.writer)
   durable-write segment page upto bytes outcome may =
-      let met = slice_index words 11 in
-      elsewhere_stored k.order _ home 11 met
+      let met = slice_index words write_turn_number in
+      elsewhere_stored k.order _ home write_turn_number met
       (view_behind v (write segment page upto bytes outcome) met home)
       (λ e. omega arith) (λ e. omega arith) (λ e. omega arith)
       (write_keeps o k.order (flushed_word words) (moment_word words) (down_word words) home
@@ -191,8 +191,8 @@ module _ {first : DiskState} (words : List ℕ) (home : Option Plain) (views : L
       → HasDurable first words home views id v (sync segment outcome) k.order
       (after_sync (sync_call ((v.opening).setup).segment_size segment) outcome k.writer)
   durable-sync segment outcome may =
-      let met = slice_index words 11 in
-      elsewhere_stored k.order _ home 11 met (view_behind v (sync segment outcome) met home)
+      let met = slice_index words write_turn_number in
+      elsewhere_stored k.order _ home write_turn_number met (view_behind v (sync segment outcome) met home)
       (λ e. omega arith) (λ e. omega arith) (λ e. omega arith)
       (sync_keeps o k.order (flushed_word words) (moment_word words) (down_word words) home
       k.writer (map receipts_of views) k.durable id v mine refl k.setup_is (write_turn words)
@@ -201,7 +201,7 @@ module _ {first : DiskState} (words : List ℕ) (home : Option Plain) (views : L
 
   -- ---- all other kinds
 
-  stored : (i n : ℕ) → i < 17 → n ≡ slice_index (set words i n) i
+  stored : (i n : ℕ) → i < ends_number → n ≡ slice_index (set words i n) i
   stored i n single = sym (single_set words (v.opening).setup k.wide i n single)
 
   away : (i n j : ℕ) → j ≢ i → slice_index words j ≡ slice_index (set words i n) j
@@ -226,24 +226,24 @@ module _ {first : DiskState} (words : List ℕ) (home : Option Plain) (views : L
   durable-inside load_position may inside staged =
       untouched 0 _ _ refl (λ e. omega arith) (λ e. omega arith) (λ e. omega arith)
   durable-inside take_write_turn may inside staged =
-      elsewhere_stored k.order k.writer home 11 _ _ (λ e. omega arith) (λ e. omega arith)
+      elsewhere_stored k.order k.writer home write_turn_number _ _ (λ e. omega arith) (λ e. omega arith)
       (λ e. omega arith)
       (one.take_turn_keeps o k.order (flushed_word words) (moment_word words) (down_word words)
-      home k.writer (map receipts_of views) k.durable id v mine (slice_index words 11))
+      home k.writer (map receipts_of views) k.durable id v mine (slice_index words write_turn_number))
   durable-inside slot_out may inside staged =
-      elsewhere_stored k.order k.writer (home_behind v slot_out home) 11 _ _ (λ e. omega arith)
+      elsewhere_stored k.order k.writer (home_behind v slot_out home) write_turn_number _ _ (λ e. omega arith)
       (λ e. omega arith) (λ e. omega arith)
       (one.slot_out_keeps o k.order (flushed_word words) (moment_word words) (down_word words)
       home k.writer (map receipts_of views) k.durable id v mine (write_turn words)
-      (map writer_of views) (k.locks).writing turn_at (slice_index words 11) may)
+      (map writer_of views) (k.locks).writing turn_at (slice_index words write_turn_number) may)
   durable-inside slot_in may inside staged =
-      elsewhere_stored k.order k.writer (home_behind v slot_in home) 11 _ _ (λ e. omega arith)
+      elsewhere_stored k.order k.writer (home_behind v slot_in home) write_turn_number _ _ (λ e. omega arith)
       (λ e. omega arith) (λ e. omega arith)
       (one.slot_in_keeps o k.order (flushed_word words) (moment_word words) (down_word words)
       home k.writer (map receipts_of views) k.durable id v mine (write_turn words)
-      (map writer_of views) (k.locks).writing turn_at (slice_index words 11) may)
+      (map writer_of views) (k.locks).writing turn_at (slice_index words write_turn_number) may)
   durable-inside release_write_turn may inside staged =
-      elsewhere_stored k.order k.writer home 11 _ _ (λ e. omega arith) (λ e. omega arith)
+      elsewhere_stored k.order k.writer home write_turn_number _ _ (λ e. omega arith) (λ e. omega arith)
       (λ e. omega arith)
       (one.release_turn_keeps o k.order (flushed_word words) (moment_word words) (down_word words)
       home k.writer (map receipts_of views) k.durable id v mine)
@@ -261,17 +261,17 @@ module _ {first : DiskState} (words : List ℕ) (home : Option Plain) (views : L
   durable-inside stay may inside staged =
       untouched 0 _ _ (rw may.1 refl) (λ e. omega arith) (λ e. omega arith) (λ e. omega arith)
   durable-inside (load_lock lock limit) may inside staged =
-      untouched (2 + lock) _ _ refl (λ e. omega arith) (λ e. omega arith) (λ e. omega arith)
+      untouched (lock_number lock) _ _ refl (λ e. omega arith) (λ e. omega arith) (λ e. omega arith)
   durable-inside (take_lock lock) may inside staged =
-      untouched (2 + lock) _ _ (either_told (slice_index words (2 + lock) == 0)
+      untouched (lock_number lock) _ _ (either_told (slice_index words (lock_number lock) == 0)
       (with_working ((v.working).locks ++ lock ∷ []) (v.working).flight v) v refl)
       (λ e. omega arith) (λ e. omega arith) (λ e. omega arith)
   durable-inside (advance lock upto) may inside staged =
       let below = lock_below lock may.0 in
-      untouched (2 + lock) _ _ refl (λ e. omega arith) (λ e. omega arith) (λ e. omega arith)
+      untouched (lock_number lock) _ _ refl (λ e. omega arith) (λ e. omega arith) (λ e. omega arith)
   durable-inside (release lock) may inside staged =
       let below = lock_below lock may.0 in
-      untouched (2 + lock) _ _ refl (λ e. omega arith) (λ e. omega arith) (λ e. omega arith)
+      untouched (lock_number lock) _ _ refl (λ e. omega arith) (λ e. omega arith) (λ e. omega arith)
   durable-inside (load_buffer_end buffer) may inside staged =
       untouched (word_of_step v (load_buffer_end buffer)) _ _ refl (λ e. omega arith)
       (λ e. omega arith)
@@ -286,59 +286,59 @@ module _ {first : DiskState} (words : List ℕ) (home : Option Plain) (views : L
       home k.writer (map receipts_of views) k.durable id v mine i
       (slice_index words (word_of_step v (load_ring_word i))) staged)
   durable-inside load_written may inside staged =
-      loaded 13 _ (one.load_written_keeps o k.order (flushed_word words) (moment_word words)
+      loaded written_number _ (one.load_written_keeps o k.order (flushed_word words) (moment_word words)
       (down_word words) home k.writer (map receipts_of views) k.durable id v mine
-      (slice_index words 13))
+      (slice_index words written_number))
   durable-inside load_flushed may inside staged =
-      loaded 14 _ (one.load_flushed_keeps o k.order (flushed_word words) (moment_word words)
+      loaded flushed_number _ (one.load_flushed_keeps o k.order (flushed_word words) (moment_word words)
       (down_word words) home k.writer (map receipts_of views) k.durable id v mine
-      (slice_index words 14))
+      (slice_index words flushed_number))
   durable-inside load_moment may inside staged =
-      loaded 15 _ (one.load_moment_keeps o k.order (flushed_word words) (moment_word words)
+      loaded moment_number _ (one.load_moment_keeps o k.order (flushed_word words) (moment_word words)
       (down_word words) home k.writer (map receipts_of views) k.durable id v mine
       ((k.positions).views id v.writing (part_at writing_of views id v here)).flushed_met)
   durable-inside load_down may inside staged =
-      loaded 16 _ (one.load_down_keeps o k.order (flushed_word words) (moment_word words)
+      loaded down_number _ (one.load_down_keeps o k.order (flushed_word words) (moment_word words)
       (down_word words) home k.writer (map receipts_of views) k.durable id v mine)
   durable-inside store_written may inside staged =
-      elsewhere_stored k.order k.writer home 13 _ _ (λ e. omega arith) (λ e. omega arith)
+      elsewhere_stored k.order k.writer home written_number _ _ (λ e. omega arith) (λ e. omega arith)
       (λ e. omega arith)
       (one.store_written_keeps o k.order (flushed_word words) (moment_word words)
       (down_word words) home k.writer (map receipts_of views) k.durable id v mine)
   durable-inside store_moment may inside staged =
-      let n = value_behind v store_moment (slice_index words 15) in
-      with_words k.order k.writer home 15 n _ (flushed_word words) n (down_word words)
-      (away 15 n 14 (λ e. omega arith)) (stored 15 n (omega arith))
-      (away 15 n 16 (λ e. omega arith))
+      let n = value_behind v store_moment (slice_index words moment_number) in
+      with_words k.order k.writer home moment_number n _ (flushed_word words) n (down_word words)
+      (away moment_number n flushed_number (λ e. omega arith)) (stored moment_number n (omega arith))
+      (away moment_number n down_number (λ e. omega arith))
       (one.store_moment_keeps o k.order (flushed_word words) (moment_word words)
       (down_word words) home k.writer (map receipts_of views) k.durable id v mine (write_turn words)
-      (map writer_of views) (k.locks).writing turn_at (slice_index words 15) may)
+      (map writer_of views) (k.locks).writing turn_at (slice_index words moment_number) may)
   durable-inside store_flushed may inside staged =
-      let n = value_behind v store_flushed (slice_index words 14) in
-      with_words k.order k.writer home 14 n _ n (moment_word words) (down_word words)
-      (stored 14 n (omega arith)) (away 14 n 15 (λ e. omega arith))
-      (away 14 n 16 (λ e. omega arith))
+      let n = value_behind v store_flushed (slice_index words flushed_number) in
+      with_words k.order k.writer home flushed_number n _ n (moment_word words) (down_word words)
+      (stored flushed_number n (omega arith)) (away flushed_number n moment_number (λ e. omega arith))
+      (away flushed_number n down_number (λ e. omega arith))
       (one.store_flushed_keeps o k.order (flushed_word words) (moment_word words)
       (down_word words) home k.writer (map receipts_of views) k.durable id v mine (write_turn words)
-      (map writer_of views) (k.locks).writing turn_at (slice_index words 14) some_flushed low may)
+      (map writer_of views) (k.locks).writing turn_at (slice_index words flushed_number) some_flushed low may)
   durable-inside set_down may inside staged =
-      let n = value_behind v set_down (slice_index words 16) in
-      with_words k.order k.writer home 16 n _ (flushed_word words) (moment_word words) n
-      (away 16 n 14 (λ e. omega arith)) (away 16 n 15 (λ e. omega arith))
-      (stored 16 n (omega arith))
+      let n = value_behind v set_down (slice_index words down_number) in
+      with_words k.order k.writer home down_number n _ (flushed_word words) (moment_word words) n
+      (away down_number n flushed_number (λ e. omega arith)) (away down_number n moment_number (λ e. omega arith))
+      (stored down_number n (omega arith))
       (one.set_down_keeps o k.order (flushed_word words) (moment_word words)
       (down_word words) home k.writer (map receipts_of views) k.durable id v mine (write_turn words)
       (map writer_of views) (k.locks).writing turn_at (alone_out may.0 may.1)
-      (slice_index words 16) may)
+      (slice_index words down_number) may)
   durable-inside load_async may inside staged =
       untouched _ _ _ refl (λ e. omega arith) (λ e. omega arith) (λ e. omega arith)
   durable-inside (raise_async expected upto) may inside staged =
       untouched _ _ _ refl (λ e. omega arith) (λ e. omega arith) (λ e. omega arith)
   durable-inside take_mapping_turn may inside staged =
-      untouched 10 _ _ (either_told (slice_index words 10 == 0) (with_stage Taken v) v refl)
+      untouched mapping_turn_number _ _ (either_told (slice_index words mapping_turn_number == 0) (with_stage Taken v) v refl)
       (λ e. omega arith) (λ e. omega arith) (λ e. omega arith)
   durable-inside load_initialised_end may inside staged =
-      untouched 12 _ _ refl (λ e. omega arith) (λ e. omega arith) (λ e. omega arith)
+      untouched initialised_number _ _ refl (λ e. omega arith) (λ e. omega arith) (λ e. omega arith)
   durable-inside clear_end may inside staged =
       untouched (word_of_step v clear_end) _ _ refl (λ e. omega arith) (λ e. omega arith)
       (λ e. omega arith)
@@ -349,9 +349,9 @@ module _ {first : DiskState} (words : List ℕ) (home : Option Plain) (views : L
       untouched (word_of_step v publish_end) _ _ refl (λ e. omega arith) (λ e. omega arith)
       (λ e. omega arith)
   durable-inside publish_initialised_end may inside staged =
-      untouched 12 _ _ refl (λ e. omega arith) (λ e. omega arith) (λ e. omega arith)
+      untouched initialised_number _ _ refl (λ e. omega arith) (λ e. omega arith) (λ e. omega arith)
   durable-inside release_mapping_turn may inside staged =
-      untouched 10 _ _ refl (λ e. omega arith) (λ e. omega arith) (λ e. omega arith)
+      untouched mapping_turn_number _ _ refl (λ e. omega arith) (λ e. omega arith) (λ e. omega arith)
   durable-inside (create segment outcome) may inside staged = absurd inside
   durable-inside (write segment page upto bytes outcome) may inside staged = absurd inside
   durable-inside (sync segment outcome) may inside staged = absurd inside

@@ -1,6 +1,6 @@
 -- A segment switch is reserved while nothing is in flight, and nothing else comes in flight before
 -- its last word is copied; the ring is zeros behind it.
-use Rattle.std.proofs.Common.{◌≡◌, ◌≢◌, ℕ, ◌+◌, ◌*◌, ◌/◌, ◌<◌, ◌≤◌, Bool, Contains, IsTrue, List, cond, refl, sym, ap, ◌∙◌, subst, ⊎_elim, arith}
+use Rattle.std.proofs.Common.{◌≡◌, ℕ, ◌+◌, ◌*◌, ◌/◌, ◌<◌, ◌≤◌, Bool, Contains, IsTrue, List, cond, refl, sym, ap, ◌∙◌, subst, ⊎_elim, arith}
 use mathlib.Core.Option.{Option}
 use Rattle.segment_disk.specs.Tape.{DiskState}
 use Rattle.wal_types.specs.declared.record.Record.{Record}

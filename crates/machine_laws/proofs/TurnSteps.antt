@@ -4,7 +4,7 @@ use mathlib.Core.Option.{Option, none, some}
 use Rattle.wal_types.specs.declared.record.Record.{Record}
 use Rattle.segment_disk.specs.Tape.{create_call, sync_call, write_call}
 use Rattle.wal_core.specs.declared.setup.Setup.{Setup}
-use Rattle.wal_core.specs.Words.{lock_word, mapping_turn, write_turn, word_count}
+use Rattle.wal_core.specs.Words.{lock_word, mapping_turn, write_turn, word_count, mapping_turn_number, write_turn_number, initialised_number, written_number, flushed_number, moment_number, down_number, ends_number, lock_number}
 use Rattle.wal_core.specs.Views.{HasAt, Place, Free, Locked, Loaded, Stored, StopCause, LogFull, AtSegmentStart, Stage, Away, Taken, Looked, Ready, Zeroing, Published, Hold, Idle, Turned, Out, Lent, Plain, View, working_of, mapper_of, writer_of}
 use Rattle.wal_core.specs.Locked.{AreHeld, HasTurn, IsMappingTurn, IsWriteTurn}
 use Rattle.wal_core.specs.Moves.{with_place, with_working, with_hold, with_lent, with_stage, hardened, looked, ready, lent, after_load_prev, after_store_prev, after_store_position, after_stop, after_take_lock, after_take_mapping_turn, after_take_write_turn, after_create, after_write, after_sync}
@@ -89,7 +89,7 @@ with_turn (Ready at written) a b has = refl
 with_turn (Zeroing at count) a b has = refl
 with_turn (Published at) a b has = refl
 
-single : (n pages place : ℕ) → n < 17 → n ≢ 17 + pages + place
+single : (n pages place : ℕ) → n < ends_number → n ≢ ends_number + pages + place
 single n pages place low e = omega arith
 
 module _ (setup : Setup) (words : List ℕ) (home : Option Plain) (stage : Stage) (writer : Plain)
@@ -112,12 +112,12 @@ module _ (setup : Setup) (words : List ℕ) (home : Option Plain) (stage : Stage
   mapper : HasAt mappers id (mapper_of v)
   mapper = part_at mapper_of views id v here
 
-  mapping_stays : (i n : ℕ) (w : View) → 10 ≢ i → mapper_of w ≡ mapper_of v
+  mapping_stays : (i n : ℕ) (w : View) → mapping_turn_number ≢ i → mapper_of w ≡ mapper_of v
       → IsMappingTurn (mapping_turn (set words i n)) stage (map mapper_of (set views id w))
   mapping_stays i n w apart like =
       subst (λ (x : ℕ × List (ℕ × Stage)). IsMappingTurn x.0 stage x.1)
       (λ j. (
-        sym (word_else words i n 10 apart) j,
+        sym (word_else words i n mapping_turn_number apart) j,
         sym (part_same mapper_of views id v w here like) j,
       ))
       k.mapping
@@ -131,7 +131,7 @@ module _ (setup : Setup) (words : List ℕ) (home : Option Plain) (stage : Stage
       (λ j. (sym is j, sym (part_set mapper_of views id w) j)) t
 
   -- a load by which the mapper may move
-  mapping_loads : (i n : ℕ) (w : View) (f : Stage → Stage) → 10 ≢ i → f Away ≡ Away
+  mapping_loads : (i n : ℕ) (w : View) (f : Stage → Stage) → mapping_turn_number ≢ i → f Away ≡ Away
       → ((s : Stage) → HasTurn s → HasTurn (f s))
       → mapper_of w ≡ (number, f (v.mapping).stage)
       → IsMappingTurn (mapping_turn (set words i n)) (moved (v.mapping).stage stage (f stage))
@@ -150,7 +150,7 @@ module _ (setup : Setup) (words : List ℕ) (home : Option Plain) (stage : Stage
             let goes : moved (v.mapping).stage stage (f stage) ≡ f (v.mapping).stage
             = with_turn (v.mapping).stage stage (f stage) turned ∙ ap f its in
             mapping_becomes i n (mapping_turn words) w (moved (v.mapping).stage stage (f stage))
-            (word_else words i n 10 apart)
+            (word_else words i n mapping_turn_number apart)
             (subst (λ (x : Stage × (ℕ × Stage)). IsMappingTurn (mapping_turn words) x.0
             (set mappers id x.1)) (λ j. (sym goes j, sym is j))
             (mapping_goes_on (mapping_turn words) stage mappers k.mapping id (mapper_of v) mapper
@@ -166,11 +166,11 @@ module _ (setup : Setup) (words : List ℕ) (home : Option Plain) (stage : Stage
       ]
 
   -- a step of the mapper
-  mapping_moves : (i n : ℕ) (w : View) (s next : Stage) → 10 ≢ i → (v.mapping).stage ≡ s → HasTurn s
+  mapping_moves : (i n : ℕ) (w : View) (s next : Stage) → mapping_turn_number ≢ i → (v.mapping).stage ≡ s → HasTurn s
       → HasTurn next → mapper_of w ≡ (number, next)
       → IsMappingTurn (mapping_turn (set words i n)) next (map mapper_of (set views id w))
   mapping_moves i n w s next apart same has turned is =
-      mapping_becomes i n (mapping_turn words) w next (word_else words i n 10 apart)
+      mapping_becomes i n (mapping_turn words) w next (word_else words i n mapping_turn_number apart)
       (subst (λ (x : ℕ × Stage). IsMappingTurn (mapping_turn words) next (set mappers id x))
       (sym is) (mapping_goes_on (mapping_turn words) stage mappers k.mapping id (mapper_of v) mapper
       (subst (λ (x : Stage). HasTurn x) (sym same) has) next turned))
@@ -180,11 +180,11 @@ module _ (setup : Setup) (words : List ℕ) (home : Option Plain) (stage : Stage
       (stage_behind v e (slice_index words (word_of_step v e)) stage)
       (map mapper_of (views_behind words home views id v e))
   mapping_behind load_position may = mapping_stays 0 _ _ (λ e. omega arith) refl
-  mapping_behind take_write_turn may = mapping_stays 11 _ _ (λ e. omega arith)
-      (mapper_met v (with_hold Turned v) refl (slice_index words 11) 0)
-  mapping_behind slot_out may = mapping_stays 11 _ _ (λ e. omega arith) (mapper_on_slot v home)
-  mapping_behind slot_in may = mapping_stays 11 _ _ (λ e. omega arith) refl
-  mapping_behind release_write_turn may = mapping_stays 11 _ _ (λ e. omega arith) refl
+  mapping_behind take_write_turn may = mapping_stays write_turn_number _ _ (λ e. omega arith)
+      (mapper_met v (with_hold Turned v) refl (slice_index words write_turn_number) 0)
+  mapping_behind slot_out may = mapping_stays write_turn_number _ _ (λ e. omega arith) (mapper_on_slot v home)
+  mapping_behind slot_in may = mapping_stays write_turn_number _ _ (λ e. omega arith) refl
+  mapping_behind release_write_turn may = mapping_stays write_turn_number _ _ (λ e. omega arith) refl
   mapping_behind (lock_position expected) may = mapping_stays 0 _ _ (λ e. omega arith)
       (turns_met v (with_place (Locked expected) v) (refl, refl) (slice_index words 0) expected).0
   mapping_behind load_prev may = mapping_stays 1 _ _ (λ e. omega arith)
@@ -201,54 +201,54 @@ module _ (setup : Setup) (words : List ℕ) (home : Option Plain) (stage : Stage
       (turns_by_place (after_stop AtSegmentStart) v
       (turns_on_stop AtSegmentStart v)).0
   mapping_behind (load_lock lock limit) may =
-      mapping_stays (2 + lock) _ _ (λ e. let low : lock < 8 = may.0 in omega arith) refl
+      mapping_stays (lock_number lock) _ _ (λ e. let low : lock < 8 = may.0 in omega arith) refl
   mapping_behind (take_lock lock) may =
-      mapping_stays (2 + lock) _ _ (λ e. let low : lock < 8 = may in omega arith)
-      (turns_on_take lock (slice_index words (2 + lock)) v).0
+      mapping_stays (lock_number lock) _ _ (λ e. let low : lock < 8 = may in omega arith)
+      (turns_on_take lock (slice_index words (lock_number lock)) v).0
   mapping_behind (advance lock upto) may =
-      mapping_stays (2 + lock) _ _ (λ e. let low = held_low lock may.0 in omega arith) refl
+      mapping_stays (lock_number lock) _ _ (λ e. let low = held_low lock may.0 in omega arith) refl
   mapping_behind (release lock) may =
-      mapping_stays (2 + lock) _ _ (λ e. let low = held_low lock may.0 in omega arith) refl
+      mapping_stays (lock_number lock) _ _ (λ e. let low = held_low lock may.0 in omega arith) refl
   mapping_behind (load_buffer_end buffer) may = mapping_stays _ _ _ (λ e. omega arith) refl
-  mapping_behind store_ring_word may = mapping_stays _ _ _ (single 10 _ _ (omega arith)) refl
-  mapping_behind (load_ring_word n) may = mapping_stays _ _ _ (single 10 _ _ (omega arith)) refl
-  mapping_behind load_written may = mapping_loads 13 _ _ (ready (slice_index words 13))
-      (λ e. omega arith) refl (ready_keeps (slice_index words 13)) refl
-  mapping_behind load_flushed may = mapping_stays 14 _ _ (λ e. omega arith) refl
-  mapping_behind load_moment may = mapping_stays 15 _ _ (λ e. omega arith) refl
-  mapping_behind load_down may = mapping_stays 16 _ _ (λ e. omega arith) refl
-  mapping_behind store_written may = mapping_stays 13 _ _ (λ e. omega arith) refl
-  mapping_behind store_moment may = mapping_stays 15 _ _ (λ e. omega arith) refl
-  mapping_behind store_flushed may = mapping_stays 14 _ _ (λ e. omega arith) refl
-  mapping_behind set_down may = mapping_stays 16 _ _ (λ e. omega arith) refl
+  mapping_behind store_ring_word may = mapping_stays _ _ _ (single mapping_turn_number _ _ (omega arith)) refl
+  mapping_behind (load_ring_word n) may = mapping_stays _ _ _ (single mapping_turn_number _ _ (omega arith)) refl
+  mapping_behind load_written may = mapping_loads written_number _ _ (ready (slice_index words written_number))
+      (λ e. omega arith) refl (ready_keeps (slice_index words written_number)) refl
+  mapping_behind load_flushed may = mapping_stays flushed_number _ _ (λ e. omega arith) refl
+  mapping_behind load_moment may = mapping_stays moment_number _ _ (λ e. omega arith) refl
+  mapping_behind load_down may = mapping_stays down_number _ _ (λ e. omega arith) refl
+  mapping_behind store_written may = mapping_stays written_number _ _ (λ e. omega arith) refl
+  mapping_behind store_moment may = mapping_stays moment_number _ _ (λ e. omega arith) refl
+  mapping_behind store_flushed may = mapping_stays flushed_number _ _ (λ e. omega arith) refl
+  mapping_behind set_down may = mapping_stays down_number _ _ (λ e. omega arith) refl
   mapping_behind load_async may = mapping_stays _ _ _ (λ e. omega arith) refl
   mapping_behind (raise_async expected upto) may = mapping_stays _ _ _ (λ e. omega arith) refl
   mapping_behind take_mapping_turn may =
-      let n : ℕ = value_behind v take_mapping_turn (slice_index words 10) in
-      mapping_becomes 10 n n (after_take_mapping_turn (slice_index words 10) v)
-      (stage_behind v take_mapping_turn (slice_index words 10) stage)
-      (single_set words setup wide 10 n (omega arith))
+      let n : ℕ = value_behind v take_mapping_turn (slice_index words mapping_turn_number) in
+      mapping_becomes mapping_turn_number n n (after_take_mapping_turn (slice_index words mapping_turn_number) v)
+      (stage_behind v take_mapping_turn (slice_index words mapping_turn_number) stage)
+      (single_set words setup wide mapping_turn_number n (omega arith))
       (mapping_asked (mapping_turn words) stage mappers id v k.mapping mapper)
-  mapping_behind load_initialised_end may = mapping_loads 12 _ _ (looked (slice_index words 12))
-      (λ e. omega arith) refl (looked_keeps (slice_index words 12)) refl
+  mapping_behind load_initialised_end may = mapping_loads initialised_number _ _ (looked (slice_index words initialised_number))
+      (λ e. omega arith) refl (looked_keeps (slice_index words initialised_number)) refl
   mapping_behind clear_end may = mapping_moves _ _ _ (Ready may.0 may.1)
       (Zeroing (page_mapped (v.mapping).stage) 0) (λ e. omega arith) may.2 tt tt refl
   mapping_behind zero_ring_word may = mapping_moves _ _ _ (Zeroing may.0 may.1)
       (Zeroing (page_mapped (v.mapping).stage) (words_zeroed (v.mapping).stage + 1))
-      (single 10 _ _ (omega arith)) may.2 tt tt refl
+      (single mapping_turn_number _ _ (omega arith)) may.2 tt tt refl
   mapping_behind publish_end may = mapping_moves _ _ _ (Zeroing may.0 1024)
       (Published (page_mapped (v.mapping).stage)) (λ e. omega arith) may.1 tt tt refl
-  mapping_behind publish_initialised_end may = mapping_moves 12 _ _ (Published may.0) Taken
+  mapping_behind publish_initialised_end may = mapping_moves initialised_number _ _ (Published may.0) Taken
       (λ e. omega arith) may.1 tt tt refl
-  mapping_behind release_mapping_turn may = mapping_becomes 10 0 0 (with_stage Away v) Away
-      (single_set words setup wide 10 0 (omega arith))
+  mapping_behind release_mapping_turn may = mapping_becomes mapping_turn_number 0 0 (with_stage Away v) Away
+      (single_set words setup wide mapping_turn_number 0 (omega arith))
       (mapping_released (mapping_turn words) stage mappers k.mapping id (mapper_of v) mapper
       (open_has (v.mapping).stage may))
-  mapping_behind (create segment outcome) may = mapping_stays 11 _ _ (λ e. omega arith)
+  mapping_behind (create segment outcome) may = mapping_stays write_turn_number _ _ (λ e. omega arith)
       (mapper_on_call v _ (v.writing).hold)
-  mapping_behind (write segment page upto bytes outcome) may = mapping_stays 11 _ _
+  mapping_behind (write segment page upto bytes outcome) may = mapping_stays write_turn_number _ _
       (λ e. omega arith) (mapper_on_call v _ (v.writing).hold)
-  mapping_behind (sync segment outcome) may = mapping_stays 11 _ _ (λ e. omega arith)
+  mapping_behind (sync segment outcome) may = mapping_stays write_turn_number _ _ (λ e. omega arith)
       (mapper_on_call v _ (v.writing).hold)
 
   -- ---- the turn to write
@@ -263,15 +263,15 @@ module _ (setup : Setup) (words : List ℕ) (home : Option Plain) (stage : Stage
   lent_is : (l : Lent) → (v.writing).hold ≡ Out l → l.writer ≡ writer
   lent_is l is = (k.writing.each id (number, Out l) (has_hold (Out l) is)).3
 
-  turn_loaded : write_turn (set words 11 (slice_index words 11)) ≡ write_turn words
-  turn_loaded = ap (λ (ws : List ℕ). slice_index ws 11) (word_again words 11)
+  turn_loaded : write_turn (set words write_turn_number (slice_index words write_turn_number)) ≡ write_turn words
+  turn_loaded = ap (λ (ws : List ℕ). slice_index ws write_turn_number) (word_again words write_turn_number)
 
-  writing_stays : (i n : ℕ) (w : View) → 11 ≢ i → writer_of w ≡ writer_of v
+  writing_stays : (i n : ℕ) (w : View) → write_turn_number ≢ i → writer_of w ≡ writer_of v
       → IsWriteTurn (write_turn (set words i n)) home writer (map writer_of (set views id w))
   writing_stays i n w apart like =
       subst (λ (x : ℕ × List (ℕ × Hold)). IsWriteTurn x.0 home writer x.1)
       (λ j. (
-        sym (word_else words i n 11 apart) j,
+        sym (word_else words i n write_turn_number apart) j,
         sym (part_same writer_of views id v w here like) j,
       ))
       k.writing
@@ -298,19 +298,19 @@ module _ (setup : Setup) (words : List ℕ) (home : Option Plain) (stage : Stage
       (has_hold (Out l) held_out)))
 
   -- what is kept besides the writer changes
-  writing_notes : (i n : ℕ) (f : Lent → Lent) (l : Lent) → 11 ≢ i → (v.writing).hold ≡ Out l
+  writing_notes : (i n : ℕ) (f : Lent → Lent) (l : Lent) → write_turn_number ≢ i → (v.writing).hold ≡ Out l
       → (f l).writer ≡ l.writer
       → IsWriteTurn (write_turn (set words i n)) home writer
       (map writer_of (set views id (with_hold (with_lent f (v.writing).hold) v)))
   writing_notes i n f l apart held_out keeps = writing_changes i n
-      (with_hold (with_lent f (v.writing).hold) v) l (f l) writer (word_else words i n 11 apart)
+      (with_hold (with_lent f (v.writing).hold) v) l (f l) writer (word_else words i n write_turn_number apart)
       held_out (ap (λ (h : Hold). (number, with_lent f h)) held_out) (keeps ∙ lent_is l held_out)
 
   -- a call of the device changes the writer
   writing_calls : (f : Plain → Plain) (l : Lent) → (v.writing).hold ≡ Out l
-      → IsWriteTurn (write_turn (set words 11 (slice_index words 11))) home (f writer)
+      → IsWriteTurn (write_turn (set words write_turn_number (slice_index words write_turn_number))) home (f writer)
       (map writer_of (set views id (with_call_on v f (v.writing).hold)))
-  writing_calls f l held_out = writing_changes 11 (slice_index words 11)
+  writing_calls f l held_out = writing_changes write_turn_number (slice_index words write_turn_number)
       (with_call_on v f (v.writing).hold) l (record l { writer = f l.writer }) (f writer)
       turn_loaded held_out
       (ap (λ (h : Hold). writer_of (with_call_on (with_hold h v) f h)) held_out)
@@ -321,30 +321,30 @@ module _ (setup : Setup) (words : List ℕ) (home : Option Plain) (stage : Stage
       (writer_behind v e writer) (map writer_of (views_behind words home views id v e))
   writing_behind load_position may = writing_stays 0 _ _ (λ e. omega arith) refl
   writing_behind take_write_turn may =
-      let n : ℕ = value_behind v take_write_turn (slice_index words 11) in
-      writing_becomes 11 n n (after_take_write_turn (slice_index words 11) v) home writer
-      (single_set words setup wide 11 n (omega arith))
+      let n : ℕ = value_behind v take_write_turn (slice_index words write_turn_number) in
+      writing_becomes write_turn_number n n (after_take_write_turn (slice_index words write_turn_number) v) home writer
+      (single_set words setup wide write_turn_number n (omega arith))
       (writing_asked (write_turn words) home writer writers id v k.writing
       (part_at writer_of views id v here))
   writing_behind slot_out may =
       let at_home : home ≡ some writer
       = (k.writing.each id (number, Turned) (has_hold Turned may)).2 in
       subst (λ (h : Option Plain).
-      IsWriteTurn (write_turn (set words 11 (slice_index words 11))) none writer
+      IsWriteTurn (write_turn (set words write_turn_number (slice_index words write_turn_number))) none writer
       (map writer_of (set views id (with_slot v h)))) (sym at_home)
-      (writing_becomes 11 (slice_index words 11) (write_turn words) (with_slot v (some writer)) none
+      (writing_becomes write_turn_number (slice_index words write_turn_number) (write_turn words) (with_slot v (some writer)) none
       writer turn_loaded
       (writing_slot_out (write_turn words) home writer writers k.writing id number
       (has_hold Turned may) (lent writer v) refl))
   writing_behind slot_in may =
-      subst (λ (h : Hold). IsWriteTurn (write_turn (set words 11 (slice_index words 11)))
+      subst (λ (h : Hold). IsWriteTurn (write_turn (set words write_turn_number (slice_index words write_turn_number)))
       (returned v h home) writer (map writer_of (set views id (with_hold Turned v)))) (sym may.1)
-      (writing_becomes 11 (slice_index words 11) (write_turn words) (with_hold Turned v)
+      (writing_becomes write_turn_number (slice_index words write_turn_number) (write_turn words) (with_hold Turned v)
       (some (may.0).writer) writer turn_loaded
       (writing_slot_in (write_turn words) home writer writers k.writing id number may.0
       (has_hold (Out may.0) may.1)))
-  writing_behind release_write_turn may = writing_becomes 11 0 0 (with_hold Idle v) home writer
-      (single_set words setup wide 11 0 (omega arith))
+  writing_behind release_write_turn may = writing_becomes write_turn_number 0 0 (with_hold Idle v) home writer
+      (single_set words setup wide write_turn_number 0 (omega arith))
       (writing_released (write_turn words) home writer writers k.writing id number
       (has_hold Turned may))
   writing_behind (lock_position expected) may = writing_stays 0 _ _ (λ e. omega arith)
@@ -363,40 +363,40 @@ module _ (setup : Setup) (words : List ℕ) (home : Option Plain) (stage : Stage
       (turns_by_place (after_stop AtSegmentStart) v
       (turns_on_stop AtSegmentStart v)).1
   writing_behind (load_lock lock limit) may =
-      writing_stays (2 + lock) _ _ (λ e. let low : lock < 8 = may.0 in omega arith) refl
+      writing_stays (lock_number lock) _ _ (λ e. let low : lock < 8 = may.0 in omega arith) refl
   writing_behind (take_lock lock) may =
-      writing_stays (2 + lock) _ _ (λ e. let low : lock < 8 = may in omega arith)
-      (turns_on_take lock (slice_index words (2 + lock)) v).1
+      writing_stays (lock_number lock) _ _ (λ e. let low : lock < 8 = may in omega arith)
+      (turns_on_take lock (slice_index words (lock_number lock)) v).1
   writing_behind (advance lock upto) may =
-      writing_stays (2 + lock) _ _ (λ e. let low = held_low lock may.0 in omega arith) refl
+      writing_stays (lock_number lock) _ _ (λ e. let low = held_low lock may.0 in omega arith) refl
   writing_behind (release lock) may =
-      writing_stays (2 + lock) _ _ (λ e. let low = held_low lock may.0 in omega arith) refl
+      writing_stays (lock_number lock) _ _ (λ e. let low = held_low lock may.0 in omega arith) refl
   writing_behind (load_buffer_end buffer) may = writing_stays _ _ _ (λ e. omega arith) refl
-  writing_behind store_ring_word may = writing_stays _ _ _ (single 11 _ _ (omega arith)) refl
+  writing_behind store_ring_word may = writing_stays _ _ _ (single write_turn_number _ _ (omega arith)) refl
   writing_behind (load_ring_word n) may = writing_notes _ _
       (λ (l : Lent). record l {
         staged = (n, slice_index words (word_of_step v (load_ring_word n))) ∷ l.staged;
-      }) may.0 (single 11 _ _ (omega arith)) may.1 refl
-  writing_behind load_written may = writing_stays 13 _ _ (λ e. omega arith) refl
-  writing_behind load_flushed may = writing_stays 14 _ _ (λ e. omega arith) refl
-  writing_behind load_moment may = writing_stays 15 _ _ (λ e. omega arith) refl
-  writing_behind load_down may = writing_stays 16 _ _ (λ e. omega arith) refl
-  writing_behind store_written may = writing_notes 13 _
+      }) may.0 (single write_turn_number _ _ (omega arith)) may.1 refl
+  writing_behind load_written may = writing_stays written_number _ _ (λ e. omega arith) refl
+  writing_behind load_flushed may = writing_stays flushed_number _ _ (λ e. omega arith) refl
+  writing_behind load_moment may = writing_stays moment_number _ _ (λ e. omega arith) refl
+  writing_behind load_down may = writing_stays down_number _ _ (λ e. omega arith) refl
+  writing_behind store_written may = writing_notes written_number _
       (λ (l : Lent). record l { stored = (l.writer).written }) may.0 (λ e. omega arith) may.1 refl
-  writing_behind store_moment may = writing_notes 15 _
+  writing_behind store_moment may = writing_notes moment_number _
       hardened may.0 (λ e. omega arith) may.1 refl
-  writing_behind store_flushed may = writing_stays 14 _ _ (λ e. omega arith) refl
-  writing_behind set_down may = writing_stays 16 _ _ (λ e. omega arith) refl
+  writing_behind store_flushed may = writing_stays flushed_number _ _ (λ e. omega arith) refl
+  writing_behind set_down may = writing_stays down_number _ _ (λ e. omega arith) refl
   writing_behind load_async may = writing_stays _ _ _ (λ e. omega arith) refl
   writing_behind (raise_async expected upto) may = writing_stays _ _ _ (λ e. omega arith) refl
-  writing_behind take_mapping_turn may = writing_stays 10 _ _ (λ e. omega arith)
-      (writer_met v (with_stage Taken v) refl (slice_index words 10) 0)
-  writing_behind load_initialised_end may = writing_stays 12 _ _ (λ e. omega arith) refl
+  writing_behind take_mapping_turn may = writing_stays mapping_turn_number _ _ (λ e. omega arith)
+      (writer_met v (with_stage Taken v) refl (slice_index words mapping_turn_number) 0)
+  writing_behind load_initialised_end may = writing_stays initialised_number _ _ (λ e. omega arith) refl
   writing_behind clear_end may = writing_stays _ _ _ (λ e. omega arith) refl
-  writing_behind zero_ring_word may = writing_stays _ _ _ (single 11 _ _ (omega arith)) refl
+  writing_behind zero_ring_word may = writing_stays _ _ _ (single write_turn_number _ _ (omega arith)) refl
   writing_behind publish_end may = writing_stays _ _ _ (λ e. omega arith) refl
-  writing_behind publish_initialised_end may = writing_stays 12 _ _ (λ e. omega arith) refl
-  writing_behind release_mapping_turn may = writing_stays 10 _ _ (λ e. omega arith) refl
+  writing_behind publish_initialised_end may = writing_stays initialised_number _ _ (λ e. omega arith) refl
+  writing_behind release_mapping_turn may = writing_stays mapping_turn_number _ _ (λ e. omega arith) refl
   writing_behind (create segment outcome) may = writing_calls
       (after_create segment (create_call ((v.opening).setup).segment_size segment) outcome)
       may.0.0 may.0.1

@@ -5,7 +5,7 @@ use Rattle.wal_core.specs.Views.{HasAt, Plain, Stage, Away, Taken, Looked, Ready
 use Rattle.wal_core.specs.Locked.{HasTurn}
 use Rattle.wal_core.specs.Moves.{entry_reserved, looked, ready}
 use Rattle.wal_core.specs.Steps.{StepKind, MayStep, place_at, word_of_step, load_position, take_write_turn, slot_out, slot_in, release_write_turn, lock_position, load_prev, store_prev, store_position, give_position_back, stay, load_lock, take_lock, advance, release, load_buffer_end, store_ring_word, load_ring_word, load_written, load_flushed, load_moment, load_down, store_written, store_moment, store_flushed, set_down, load_async, raise_async, take_mapping_turn, load_initialised_end, clear_end, zero_ring_word, publish_end, publish_initialised_end, release_mapping_turn, create, write, sync}
-use Rattle.wal_core.specs.Words.{down_word}
+use Rattle.wal_core.specs.Words.{down_word, initialised_number, written_number}
 use Rattle.wal_core.specs.Sound.{IsSound}
 use Rattle.wal_core.proofs.Lists.{part_at}
 use Rattle.machine_laws.specs.LocksBehind.{order_behind, stage_behind, writer_behind, moved as stage_moved}
@@ -137,10 +137,10 @@ module _ {first : DiskState} (words : List ℕ) (home : Option Plain) (views : L
   pages_hold (load_ring_word number) may = pages_left (load_ring_word number) may tt
   pages_hold load_written may = by_moved
       (λ (st : Stage). HasPages v words home views id load_written k.reach st k.memory)
-      (v.mapping).stage k.stage (ready (slice_index words 13))
+      (v.mapping).stage k.stage (ready (slice_index words written_number))
       (page.pages_behind-written_loaded v words home views id k here)
       (λ has. subst (λ (st : Stage). HasPages v words home views id load_written k.reach
-      (ready (slice_index words 13) st) k.memory) (sym (its_stage has))
+      (ready (slice_index words written_number) st) k.memory) (sym (its_stage has))
       (page.pages_behind-ready v words home views id k here (its_stage has)))
   pages_hold load_flushed may = pages_left load_flushed may tt
   pages_hold load_moment may = pages_left load_moment may tt
@@ -154,10 +154,10 @@ module _ {first : DiskState} (words : List ℕ) (home : Option Plain) (views : L
   pages_hold take_mapping_turn may = page.pages_behind-taken v words home views id k here
   pages_hold load_initialised_end may = by_moved
       (λ (st : Stage). HasPages v words home views id load_initialised_end k.reach st k.memory)
-      (v.mapping).stage k.stage (looked (slice_index words 12))
+      (v.mapping).stage k.stage (looked (slice_index words initialised_number))
       (page.pages_behind-initialised v words home views id k here)
       (λ has. subst (λ (st : Stage). HasPages v words home views id load_initialised_end k.reach
-      (looked (slice_index words 12) st) k.memory) (sym (its_stage has))
+      (looked (slice_index words initialised_number) st) k.memory) (sym (its_stage has))
       (page.pages_behind-looked v words home views id k here (its_stage has)))
   pages_hold clear_end may = page.pages_behind-cleared v words home views id k here may
   pages_hold zero_ring_word may = page.pages_behind-zeroed v words home views id k here may

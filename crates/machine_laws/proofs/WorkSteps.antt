@@ -7,7 +7,7 @@ use Rattle.wal_page.specs.Order.{Entry, end_position}
 use Rattle.byte_position.proofs.EndAddresses.{end_address_of-mono}
 use Rattle.wal_page.proofs.OrderLaws.{rooms_of_push}
 use Rattle.wal_core.specs.declared.setup.Setup.{Setup}
-use Rattle.wal_core.specs.Words.{lock_word, end_form}
+use Rattle.wal_core.specs.Words.{lock_word, end_form, mapping_turn_number, write_turn_number, initialised_number, written_number, flushed_number, moment_number, down_number, ends_number, lock_number}
 use Rattle.wal_core.specs.Views.{HasAt, Taken, Place, Free, Locked, Loaded, Stored, StopCause, LogFull, AtSegmentStart, Copy, Copying, Hold, Idle, Turned, Out, Plain, Working, Watching, View, working_of, watching_of}
 use Rattle.wal_core.specs.Locked.{AreHeld, ProgressHolds, most_told}
 use Rattle.wal_core.specs.Watched.{WatchHolds}
@@ -72,7 +72,7 @@ watch_on_take lock met v = met_cases
     ≡ watching_of v)
     met 0 (λ e. refl) (λ ne. refl)
 
-far : (pages place : ℕ) → 10 ≤ 17 + pages + place
+far : (pages place : ℕ) → mapping_turn_number ≤ ends_number + pages + place
 far pages place = omega arith
 
 module _ (setup : Setup) (order : List Entry) (words : List ℕ) (home : Option Plain)
@@ -91,7 +91,7 @@ module _ (setup : Setup) (order : List Entry) (words : List ℕ) (home : Option 
   mine = part_at working_of views id v s.here
 
   -- where a step changes no lock's word, and in its view neither its work nor its watch
-  stays : (i n : ℕ) (w : View) → (i < 2) ⊎ (10 ≤ i) → WorksAs v w
+  stays : (i n : ℕ) (w : View) → (i < 2) ⊎ (mapping_turn_number ≤ i) → WorksAs v w
       → WorksHold setup order (set words i n) (set views id w)
   stays i n w away like =
       let same = part_same working_of views id v w s.here like.0 in
@@ -156,9 +156,9 @@ module _ (setup : Setup) (order : List Entry) (words : List ℕ) (home : Option 
   take_lock_works lock low =
       let e : StepKind = take_lock lock in
       let n : ℕ = value_behind v e (lock_word words lock) in
-      let later : ℕ → ℕ = lock_word (set words (2 + lock) n) in
+      let later : ℕ → ℕ = lock_word (set words (lock_number lock) n) in
       let is : later lock ≡ n = lock_set words setup s.wide lock n low in
-      works order (set words (2 + lock) n) (after_take_lock lock (lock_word words lock) v)
+      works order (set words (lock_number lock) n) (after_take_lock lock (lock_word words lock) v)
       (watch_on_take lock (lock_word words lock) v)
       (held_asked (lock_word words) parts k.held id v.working mine v refl later lock low
       (λ j below ne. lock_else words lock n j ne) is)
@@ -172,7 +172,7 @@ module _ (setup : Setup) (order : List Entry) (words : List ℕ) (home : Option 
       (views_behind words home views id v (advance lock upto))
   advance_works lock upto may =
       let n : ℕ = upto + 1 in
-      let later : ℕ → ℕ = lock_word (set words (2 + lock) n) in
+      let later : ℕ → ℕ = lock_word (set words (lock_number lock) n) in
       let low : lock < 8 = (k.held.each id lock v.working mine may.0).0 in
       let is : later lock ≡ n = lock_set words setup s.wide lock n low in
       let up : end_form setup (v.reserving).seen ≤ end
@@ -184,7 +184,7 @@ module _ (setup : Setup) (order : List Entry) (words : List ℕ) (home : Option 
       (v.working).flight) s.setup_is may.1 in
       let least = most_told_later setup.segment_size (end_form setup (v.reserving).seen) end lock
       (v.working).flight up in
-      words_only (set words (2 + lock) n) (after_advance lock upto v) refl refl
+      words_only (set words (lock_number lock) n) (after_advance lock upto v) refl refl
       (held_told (lock_word words) parts k.held id v.working mine later lock may.0
       (λ j below ne. lock_else words lock n j ne) (λ z. let no = sym is ∙ z in omega arith))
       (told_advanced setup.segment_size end (lock_word words) parts k.told k.held id v.working mine
@@ -194,10 +194,10 @@ module _ (setup : Setup) (order : List Entry) (words : List ℕ) (home : Option 
       → WorksHold setup order (words_behind words v (release lock))
       (views_behind words home views id v (release lock))
   release_works lock may =
-      let later : ℕ → ℕ = lock_word (set words (2 + lock) 0) in
+      let later : ℕ → ℕ = lock_word (set words (lock_number lock) 0) in
       let low : lock < 8 = (k.held.each id lock v.working mine may.0).0 in
       let is : later lock ≡ 0 = lock_set words setup s.wide lock 0 low in
-      works order (set words (2 + lock) 0) (after_release lock v) refl
+      works order (set words (lock_number lock) 0) (after_release lock v) refl
       (held_released (lock_word words) parts k.held id v.working mine later lock may.0 is
       (λ j below ne. lock_else words lock 0 j ne))
       (told_released setup.segment_size end (lock_word words) parts k.told k.held id v.working mine
@@ -277,7 +277,7 @@ module _ (setup : Setup) (order : List Entry) (words : List ℕ) (home : Option 
       let same = part_same working_of views id v w s.here refl in
       let seen = part_set watching_of views id w in
       subst (λ (ws : List ℕ). WorksHold setup order ws (set views id w))
-      (sym (word_again words (2 + lock)))
+      (sym (word_again words (lock_number lock)))
       (record {
         held = subst (λ (ps : List Working). AreHeld (lock_word words) ps) (sym same) k.held;
         told = subst (λ (ps : List Working). ProgressHolds setup.segment_size end (lock_word words) ps)
@@ -296,11 +296,11 @@ module _ (setup : Setup) (order : List Entry) (words : List ℕ) (home : Option 
       → WorksHold setup (order_behind v e order) (words_behind words v e)
       (views_behind words home views id v e)
   works_behind load_position may = stays 0 _ _ (inl (omega arith)) (refl, refl)
-  works_behind take_write_turn may = stays 11 _ _ (inr (omega arith))
-      (works_met v (with_hold Turned v) (refl, refl) (slice_index words 11) 0)
-  works_behind slot_out may = stays 11 _ _ (inr (omega arith)) (works_on_slot v home)
-  works_behind slot_in may = stays 11 _ _ (inr (omega arith)) (refl, refl)
-  works_behind release_write_turn may = stays 11 _ _ (inr (omega arith)) (refl, refl)
+  works_behind take_write_turn may = stays write_turn_number _ _ (inr (omega arith))
+      (works_met v (with_hold Turned v) (refl, refl) (slice_index words write_turn_number) 0)
+  works_behind slot_out may = stays write_turn_number _ _ (inr (omega arith)) (works_on_slot v home)
+  works_behind slot_in may = stays write_turn_number _ _ (inr (omega arith)) (refl, refl)
+  works_behind release_write_turn may = stays write_turn_number _ _ (inr (omega arith)) (refl, refl)
   works_behind (lock_position expected) may = stays 0 _ _ (inl (omega arith))
       (works_met v (with_place (Locked expected) v) (refl, refl) (slice_index words 0) expected)
   works_behind load_prev may = stays 1 _ _ (inl (omega arith))
@@ -321,28 +321,28 @@ module _ (setup : Setup) (order : List Entry) (words : List ℕ) (home : Option 
   works_behind store_ring_word may = store_word_works
   works_behind (load_ring_word n) may =
       stays _ _ _ (inr (far ((v.opening).setup).ring_pages _)) (refl, refl)
-  works_behind load_written may = stays 13 _ _ (inr (omega arith)) (refl, refl)
-  works_behind load_flushed may = stays 14 _ _ (inr (omega arith)) (refl, refl)
-  works_behind load_moment may = stays 15 _ _ (inr (omega arith)) (refl, refl)
-  works_behind load_down may = stays 16 _ _ (inr (omega arith)) (refl, refl)
-  works_behind store_written may = stays 13 _ _ (inr (omega arith)) (refl, refl)
-  works_behind store_moment may = stays 15 _ _ (inr (omega arith)) (refl, refl)
-  works_behind store_flushed may = stays 14 _ _ (inr (omega arith)) (refl, refl)
-  works_behind set_down may = stays 16 _ _ (inr (omega arith)) (refl, refl)
+  works_behind load_written may = stays written_number _ _ (inr (omega arith)) (refl, refl)
+  works_behind load_flushed may = stays flushed_number _ _ (inr (omega arith)) (refl, refl)
+  works_behind load_moment may = stays moment_number _ _ (inr (omega arith)) (refl, refl)
+  works_behind load_down may = stays down_number _ _ (inr (omega arith)) (refl, refl)
+  works_behind store_written may = stays written_number _ _ (inr (omega arith)) (refl, refl)
+  works_behind store_moment may = stays moment_number _ _ (inr (omega arith)) (refl, refl)
+  works_behind store_flushed may = stays flushed_number _ _ (inr (omega arith)) (refl, refl)
+  works_behind set_down may = stays down_number _ _ (inr (omega arith)) (refl, refl)
   works_behind load_async may = stays _ _ _ (inr (omega arith)) (refl, refl)
   works_behind (raise_async expected upto) may = stays _ _ _ (inr (omega arith)) (refl, refl)
-  works_behind take_mapping_turn may = stays 10 _ _ (inr (omega arith))
-      (works_met v (with_stage Taken v) (refl, refl) (slice_index words 10) 0)
-  works_behind load_initialised_end may = stays 12 _ _ (inr (omega arith)) (refl, refl)
+  works_behind take_mapping_turn may = stays mapping_turn_number _ _ (inr (omega arith))
+      (works_met v (with_stage Taken v) (refl, refl) (slice_index words mapping_turn_number) 0)
+  works_behind load_initialised_end may = stays initialised_number _ _ (inr (omega arith)) (refl, refl)
   works_behind clear_end may = stays _ _ _ (inr (omega arith)) (refl, refl)
   works_behind zero_ring_word may =
       stays _ _ _ (inr (far ((v.opening).setup).ring_pages _)) (refl, refl)
   works_behind publish_end may = stays _ _ _ (inr (omega arith)) (refl, refl)
-  works_behind publish_initialised_end may = stays 12 _ _ (inr (omega arith)) (refl, refl)
-  works_behind release_mapping_turn may = stays 10 _ _ (inr (omega arith)) (refl, refl)
-  works_behind (create segment outcome) may = stays 11 _ _ (inr (omega arith))
+  works_behind publish_initialised_end may = stays initialised_number _ _ (inr (omega arith)) (refl, refl)
+  works_behind release_mapping_turn may = stays mapping_turn_number _ _ (inr (omega arith)) (refl, refl)
+  works_behind (create segment outcome) may = stays write_turn_number _ _ (inr (omega arith))
       (works_on_call v _ (v.writing).hold)
-  works_behind (write segment page upto bytes outcome) may = stays 11 _ _ (inr (omega arith))
+  works_behind (write segment page upto bytes outcome) may = stays write_turn_number _ _ (inr (omega arith))
       (works_on_call v _ (v.writing).hold)
-  works_behind (sync segment outcome) may = stays 11 _ _ (inr (omega arith))
+  works_behind (sync segment outcome) may = stays write_turn_number _ _ (inr (omega arith))
       (works_on_call v _ (v.writing).hold)

@@ -1,8 +1,8 @@
 //! Steps that change no entry and make no call, each law proved by a function that does nothing
-//! (PostgreSQL's xlog.c, XLogFlush). The moment (word 15) is stored behind a sync, and the flushed
-//! address (14) behind the moment, by who has the writer in hand. A pass that loads 14 and then 15
-//! is promised what it met, and one that stores both what it stored: whatever is stored meanwhile,
-//! the moment is not below the one from which on all below the address is durable.
+//! (PostgreSQL's xlog.c, XLogFlush). The moment is stored behind a sync, and the flushed address
+//! behind the moment, by who has the writer in hand. A pass that loads the flushed address and then
+//! the moment is promised what it met, and one that stores both what it stored: whatever is stored
+//! meanwhile, the moment is not below the one from which on all below the address is durable.
 
 ghost use Rattle.std.specs.Prelude.{◌≡◌, ◌≢◌, ℕ, ◌≤◌, List, [], ◌∷◌, ◌++◌, set};
 ghost use mathlib.Core.Option.{Option};

@@ -1,5 +1,5 @@
 //! Every step keeps what is said of locks, of what they tell, of those who watch them, and of the
-//! two turns (words 2 to 9, 10 and 11); each law is proved by a function that does nothing. Such a
+//! two turns; each law is proved by a function that does nothing. Such a
 //! word changes by an exchange that meets 0, and else by its holder alone: so the steps of others
 //! leave what a holder has, and what it told.
 

@@ -1,4 +1,4 @@
-//! Laws of the machine's steps on the written and flushed positions (words 13 and 14; PostgreSQL's
+//! Laws of the machine's steps on the written and flushed positions (PostgreSQL's
 //! xlog.c, LogwrtResult), each proved by a function that does nothing. In each the view has its
 //! part in them; what the step loads and stores is told by the machine itself (`value_behind`,
 //! `view_behind`, `home_behind`). Both words are stored with the writer in hand and never fall: so

@@ -3,7 +3,7 @@
 
 ghost use Rattle.std.specs.Prelude.{◌≡◌, ℕ, ◌+◌, ◌*◌, ◌<◌, List, length, set};
 ghost use Rattle.wal_core.specs.declared.setup.Setup.{Setup};
-ghost use Rattle.wal_core.specs.Words.{end_word, word_of_ring, word_count};
+ghost use Rattle.wal_core.specs.Words.{end_word, word_of_ring, word_count, ends_number};
 ghost use Rattle.wal_core.specs.Steps.{ring_place};
 ghost use Rattle.machine_laws.specs.WordsPut.{IsPut, put};
 
@@ -13,11 +13,11 @@ ghost use Rattle.machine_laws.specs.WordsPut.{IsPut, put};
 pub fn stores_change_one_value()
     ensures end { (setup : Setup) (words : List ℕ) (buffer value : ℕ)
         → length words ≡ word_count setup → buffer < setup.ring_pages
-        → IsPut (end_word words) buffer value (end_word (set words (17 + buffer) value)) }
+        → IsPut (end_word words) buffer value (end_word (set words (ends_number + buffer) value)) }
     ensures ring { (setup : Setup) (words : List ℕ) (place value : ℕ)
         → length words ≡ word_count setup → place < setup.ring_pages * 1024
         → IsPut (word_of_ring setup words) place value
-        (word_of_ring setup (set words (17 + setup.ring_pages + place) value)) }
+        (word_of_ring setup (set words (ends_number + setup.ring_pages + place) value)) }
     ensures place { (setup : Setup) (k : ℕ) → 0 < setup.ring_pages
         → ring_place setup k < setup.ring_pages * 1024 }
     ensures memory { (memory : ℕ → ℕ) (index value : ℕ)

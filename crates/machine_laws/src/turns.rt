@@ -1,4 +1,4 @@
-//! Laws of the turn to map a page and of the turn to write, words 10 and 11 (PostgreSQL's
+//! Laws of the turn to map a page and of the turn to write (PostgreSQL's
 //! WALBufMappingLock and WALWriteLock), each proved by a function that does nothing. At most one
 //! view has a turn, and it alone maps, or has the writer in hand: so who has it changes page ends
 //! and the initialised end, or calls the device and stores what it did, with nobody else between.

@@ -27,26 +27,26 @@ static LOG: [u64; 10] = [21, 22, 23, 24, 25, 26, 27, 28, 29, 30];
 static WORDS: [(usize, u64); 22] = [
     (0, BEGINNING + 41),
     (1, FIRST_ADDRESS + 40),
-    (5, FIRST_ADDRESS + 65),
-    (6, 1),
-    (10, 4),
-    (11, 4),
-    (12, FIRST_ADDRESS + 32_768),
-    (13, FIRST_ADDRESS + 16),
-    (14, FIRST_ADDRESS),
-    (15, 3),
-    (17, FIRST_ADDRESS + 8192),
-    (18, FIRST_ADDRESS + 16_384),
-    (19, FIRST_ADDRESS + 24_576),
-    (20, FIRST_ADDRESS + 32_768),
-    (21, 21),
-    (22, 22),
-    (23, 23),
-    (24, 24),
-    (25, 25),
-    (26, 26),
-    (27, 27),
-    (28, 28),
+    (32, FIRST_ADDRESS + 65),
+    (40, 1),
+    (72, 4),
+    (80, 4),
+    (88, FIRST_ADDRESS + 32_768),
+    (96, FIRST_ADDRESS + 16),
+    (104, FIRST_ADDRESS),
+    (105, 3),
+    (120, FIRST_ADDRESS + 8192),
+    (121, FIRST_ADDRESS + 16_384),
+    (122, FIRST_ADDRESS + 24_576),
+    (123, FIRST_ADDRESS + 32_768),
+    (124, 21),
+    (125, 22),
+    (126, 23),
+    (127, 24),
+    (128, 25),
+    (129, 26),
+    (130, 27),
+    (131, 28),
 ];
 
 const IDLE: PlainView = PlainView {
@@ -102,39 +102,39 @@ static BACKENDS: [BackendNow; 3] = [
 // A word that is another, and the part that is told to be wrong.
 static FAULTS: &[(usize, u64, Option<Part>)] = &[
     // The disk's moment is looked at by no check.
-    (15, 4, None),
+    (105, 4, None),
     // The position is behind the last record, and one more where it is locked.
     (0, BEGINNING + 40, Some(Part::Order)),
     (0, BEGINNING + 49, Some(Part::Order)),
     (1, 0, Some(Part::Order)),
     // A lock is taken where one holds it.
-    (2, 1, Some(Part::Locks)),
-    (6, 0, Some(Part::Locks)),
+    (8, 1, Some(Part::Locks)),
+    (40, 0, Some(Part::Locks)),
     // A turn names who has it.
-    (10, 0, Some(Part::Turns)),
-    (10, 3, Some(Part::Turns)),
-    (11, 5, Some(Part::Turns)),
+    (72, 0, Some(Part::Turns)),
+    (72, 3, Some(Part::Turns)),
+    (80, 5, Some(Part::Turns)),
     // A lock tells no word that is not copied.
-    (5, FIRST_ADDRESS + 73, Some(Part::Progress)),
-    (6, 2, Some(Part::Progress)),
+    (32, FIRST_ADDRESS + 73, Some(Part::Progress)),
+    (40, 2, Some(Part::Progress)),
     // A word of a page is its record's: one that is copied, one that is not, and one behind.
-    (28, 0, Some(Part::Ring)),
-    (29, 28, Some(Part::Ring)),
-    (29, 29, None),
-    (31, 31, Some(Part::Ring)),
+    (131, 0, Some(Part::Ring)),
+    (132, 28, Some(Part::Ring)),
+    (132, 29, None),
+    (134, 31, Some(Part::Ring)),
     // A page is in its own buffer.
-    (18, 0, Some(Part::Pages)),
-    (18, FIRST_ADDRESS + 24_576, Some(Part::Pages)),
-    (12, FIRST_ADDRESS + 24_576, Some(Part::Pages)),
+    (121, 0, Some(Part::Pages)),
+    (121, FIRST_ADDRESS + 24_576, Some(Part::Pages)),
+    (88, FIRST_ADDRESS + 24_576, Some(Part::Pages)),
     // Nothing is written that is not copied, or flushed that is not written.
-    (13, FIRST_ADDRESS + 72, Some(Part::Positions)),
-    (14, FIRST_ADDRESS + 24, Some(Part::Positions)),
-    (14, 0, Some(Part::Positions)),
+    (96, FIRST_ADDRESS + 72, Some(Part::Positions)),
+    (104, FIRST_ADDRESS + 24, Some(Part::Positions)),
+    (104, 0, Some(Part::Positions)),
 ];
 
 // These words, but for one that is another.
 fn words_with(alloc: Global, number: usize, word: u64) -> Result<Vec<u64>, AllocError> {
-    let mut words = vec![in alloc; 0; 17 + 4 + 4096]?;
+    let mut words = vec![in alloc; 0; 120 + 4 + 4096]?;
     for (number, word) in &WORDS {
         put(&mut words, *number, *word);
     }

@@ -33,7 +33,7 @@ pub struct Planned {
 }
 
 impl Planned {
-    pub fn body(self, alloc: Global) -> Result<Body, Fail>
+    pub fn body(self, alloc: Global) -> Result<Body<'static>, Fail>
         ensures { IfOk result (λ body. is_assembled_switch body ≡ false) }
     {
         let record = Record {

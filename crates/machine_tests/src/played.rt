@@ -6,6 +6,10 @@ ghost use Rattle.machine_core.specs.Lines.{InsertsNoSwitch};
 
 use machine_core::{Core, PlainPlace, PlainView, Script, Turn, Word};
 use machine_words::is_setup;
+use machine_words::layout::{
+    BUFFER_ENDS, DOWN, FLUSHED, INITIALISED_END, LAST_START, LOCKS, MAPPING_TURN, MOMENT, POSITION,
+    WRITE_TURN, WRITTEN, number_of_lock,
+};
 use segment_disk::{MemDisk, Memory, Pick};
 use std::alloc::{AllocError, Global};
 use std::marker::Model;
@@ -100,27 +104,22 @@ impl Played {
         Ok(words)
     }
 
-    /// The words that are no part of the ring, by their numbers, which are the lowest.
-    pub fn words_outside_the_ring(&self) -> [u64; 17] {
-        [
-            self.core.word(Word::Position),
-            self.core.word(Word::LastStart),
-            self.core.word(Word::Lock(0)),
-            self.core.word(Word::Lock(1)),
-            self.core.word(Word::Lock(2)),
-            self.core.word(Word::Lock(3)),
-            self.core.word(Word::Lock(4)),
-            self.core.word(Word::Lock(5)),
-            self.core.word(Word::Lock(6)),
-            self.core.word(Word::Lock(7)),
-            self.core.word(Word::MappingTurn),
-            self.core.word(Word::WriteTurn),
-            self.core.word(Word::InitialisedEnd),
-            self.core.word(Word::Written),
-            self.core.word(Word::Flushed),
-            self.core.word(Word::Moment),
-            self.core.word(Word::Down),
-        ]
+    /// The words before the ring's, by their numbers.
+    pub fn words_outside_the_ring(&self) -> [u64; BUFFER_ENDS] {
+        let mut words = [0; BUFFER_ENDS];
+        words[POSITION] = self.core.word(Word::Position);
+        words[LAST_START] = self.core.word(Word::LastStart);
+        for lock in 0..LOCKS {
+            words[number_of_lock(lock)] = self.core.word(Word::Lock(lock));
+        }
+        words[MAPPING_TURN] = self.core.word(Word::MappingTurn);
+        words[WRITE_TURN] = self.core.word(Word::WriteTurn);
+        words[INITIALISED_END] = self.core.word(Word::InitialisedEnd);
+        words[WRITTEN] = self.core.word(Word::Written);
+        words[FLUSHED] = self.core.word(Word::Flushed);
+        words[MOMENT] = self.core.word(Word::Moment);
+        words[DOWN] = self.core.word(Word::Down);
+        words
     }
 
     pub fn crash(&self, alloc: Global, pick: Pick) -> Result<MemDisk, Memory> {

@@ -2,7 +2,7 @@
 use Rattle.std.specs.Prelude.{ℕ, ◌+◌, ◌-◌, ◌%◌, Bool, true, false, List, set, max, ◌==◌, nat_le, if◌then◌else◌}
 use Rattle.byte_position.specs.Position.{position_of}
 use Rattle.wal_core.specs.declared.setup.Setup.{Setup}
-use Rattle.wal_core.specs.Words.{end_form, flushed_word, lock_word, position_word}
+use Rattle.wal_core.specs.Words.{end_form, flushed_word, lock_word, position_word, write_turn_number}
 use Rattle.machine_turns.specs.declared.doing.PlainDoing.TheVariants.{Looks, LoadsPosition, LoadsFlushed, LoadsMoment, Visits, TakesTurn, LoadsDown, TakesOut, GivesWriteTurn}
 use Rattle.machine_turns.specs.declared.doing.PlainNext.{PlainNext}
 use Rattle.machine_turns.specs.declared.doing.PlainNext.TheVariants.{GoesOn, Answers}
@@ -55,7 +55,7 @@ module _ (setup : Setup) (words : List ℕ) (view : PlainView) where
   -- back
   abbrev pub at_takes_turn : PlainPurpose → Left
   at_takes_turn purpose = left_going_on TakeWriteTurn (record view { hold = Turned })
-      (set words 11 (view.number + 1)) (LoadsDown purpose)
+      (set words write_turn_number (view.number + 1)) (LoadsDown purpose)
 
   abbrev pub at_loads_down : PlainPurpose → Left
   at_loads_down purpose = left_going_on LoadDown view words (TakesOut purpose)
@@ -69,5 +69,5 @@ module _ (setup : Setup) (words : List ℕ) (view : PlainView) where
   at_gives_write_turn purpose failed = record {
     made = record { event = ReleaseWriteTurn; next = behind_writing purpose failed };
     view = record view { hold = Idle };
-    words = set words 11 0;
+    words = set words write_turn_number 0;
   }

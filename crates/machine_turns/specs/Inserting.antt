@@ -2,7 +2,7 @@
 use Rattle.std.specs.Prelude.{ℕ, ◌+◌, ◌-◌, ◌/◌, ◌%◌, Bool, true, false, ◌&&◌, not, List, set, min, ◌==◌, nat_le, if◌then◌else◌}
 use Rattle.byte_position.specs.Position.{address_of, end_address_of}
 use Rattle.wal_core.specs.declared.setup.Setup.{Setup}
-use Rattle.wal_core.specs.Words.{end_word, lock_word, log_limit, position_word, prev_word}
+use Rattle.wal_core.specs.Words.{end_word, lock_word, log_limit, position_word, prev_word, ends_number, lock_number}
 use Rattle.wal_core.specs.Steps.{ring_place}
 use Rattle.machine_turns.specs.declared.doing.PlainDoing.TheVariants.{Begins, Tries, Reserves, Looks, Copies, Maps, Releases, FlushBegins}
 use Rattle.machine_turns.specs.declared.doing.PlainNext.{PlainNext}
@@ -78,7 +78,8 @@ module _ (setup : Setup) (words : List ℕ) (view : PlainView) where
   at_tries taken =
       let lock = lock_to_try taken in
       let met = lock_word words lock in
-      if met == 0 then left_going_on (TakeLock lock) view (set words (2 + lock) 1) (Reserves lock)
+      if met == 0
+      then left_going_on (TakeLock lock) view (set words (lock_number lock) 1) (Reserves lock)
       else left_going_on (LoadLock lock) (watched lock 0 met view) words
       (if taken + 1 == 8 then Begins else Tries (taken + 1))
 
@@ -115,7 +116,7 @@ module _ (setup : Setup) (words : List ℕ) (view : PlainView) where
   at_copies lock word =
       let flight = with_one_more view.flight in
       left_going_on StoreRingWord (record view { flight = flight })
-      (set words (17 + setup.ring_pages + ring_place setup (next_in view.flight / 8)) word)
+      (set words (ends_number + setup.ring_pages + ring_place setup (next_in view.flight / 8)) word)
       (if has_no_word_left flight then Releases lock false
       else (if next_in flight % 8192 == 0 then Looks lock else Copies lock))
 
@@ -130,5 +131,5 @@ module _ (setup : Setup) (words : List ℕ) (view : PlainView) where
   at_releases lock full commits = record {
     made = record { event = ReleaseLock lock; next = behind_release full commits };
     view = record view { flight = Landed };
-    words = set words (2 + lock) 0;
+    words = set words (lock_number lock) 0;
   }

@@ -7,7 +7,7 @@ use Rattle.wal_page.specs.Order.{assembled_room_at}
 use Rattle.wal_page.specs.Placed.{entry_word}
 use Rattle.wal_core.specs.declared.setup.Setup.{Setup}
 use Rattle.machine_words.specs.Numbers.{WordsState}
-use Rattle.wal_core.specs.Words.{down_word, lock_word, mapping_turn, position_word, write_turn}
+use Rattle.wal_core.specs.Words.{down_word, lock_word, mapping_turn, position_word, write_turn, mapping_turn_number, write_turn_number, written_number, lock_number}
 use Rattle.machine_turns.specs.declared.doing.PlainDoing.{PlainDoing}
 use Rattle.machine_turns.specs.declared.doing.PlainDoing.TheVariants as doings
 use Rattle.machine_turns.specs.declared.doing.Made.{Made}
@@ -73,10 +73,11 @@ abbrev pub word_awaited : List ℕ → PlainView → PlainDoing → Option ℕ
 word_awaited words view (doings.Reserves lock) =
     waits_if (is_free view.place && not (position_word words % 2 == 0)) 0
 word_awaited words view (doings.Maps lock) =
-    waits_if (is_away view.stage && not (mapping_turn words == 0)) 10
-word_awaited words view (doings.TakesTurn purpose) = waits_if (not (write_turn words == 0)) 11
+    waits_if (is_away view.stage && not (mapping_turn words == 0)) mapping_turn_number
+word_awaited words view (doings.TakesTurn purpose) =
+    waits_if (not (write_turn words == 0)) write_turn_number
 word_awaited words view (doings.Visits purpose lock) =
-    waits_if (holds_back (asked_by purpose view) (lock_word words lock)) (2 + lock)
+    waits_if (holds_back (asked_by purpose view) (lock_word words lock)) (lock_number lock)
 word_awaited words view other = None
 
 -- whether the step itself looks at the down word
@@ -287,7 +288,7 @@ IsLowStage (stages.Published at) = at < 2 ^ 60
 pub record IsLow (words : List ℕ) (view : PlainView) : Type 0 where
   pub number : view.number < 65536
   pub position : position_word words < 2 ^ 59
-  pub written : slice_index words 13 < 2 ^ 60
+  pub written : slice_index words written_number < 2 ^ 60
   pub place : IsLowPlace view.place
   pub seen : view.seen < 2 ^ 60
   pub next : next_in view.flight < 2 ^ 60

@@ -4,7 +4,7 @@ use mathlib.Core.Option.{Option, none, some}
 use Rattle.byte_position.specs.Geometry.{pages_of}
 use Rattle.byte_position.specs.Position.{position_of}
 use Rattle.wal_core.specs.declared.setup.Setup.{Setup}
-use Rattle.wal_core.specs.Words.{word_of_ring}
+use Rattle.wal_core.specs.Words.{word_of_ring, written_number, flushed_number, moment_number, down_number}
 use Rattle.wal_core.specs.Steps.{ring_place}
 use Rattle.machine_turns.specs.declared.doing.PlainDoing.{PlainDoing}
 use Rattle.machine_turns.specs.declared.doing.PlainDoing.TheVariants.{LoadsPage, Creates, Writes, SyncsFull, SyncsLast, StoresWritten, StoresMoment, StoresFlushed, SetsDown, PutsBack}
@@ -121,17 +121,18 @@ module _ (setup : Setup) (words : List ℕ) (view : PlainView) (writer : WriterS
   -- what was done is stored: written, moment and flushed; or that the disk has failed
   abbrev pub at_stores_written : PlainPurpose → Left
   at_stores_written purpose =
-      left_going_on StoreWritten view (set words 13 written) (behind_written_word purpose)
+      left_going_on StoreWritten view (set words written_number written)
+      (behind_written_word purpose)
 
   abbrev pub at_stores_moment : Left
   at_stores_moment =
-      left_going_on StoreMoment view (set words 15 (writer.plain).moment) StoresFlushed
+      left_going_on StoreMoment view (set words moment_number (writer.plain).moment) StoresFlushed
 
   abbrev pub at_stores_flushed : Left
   at_stores_flushed = left_going_on StoreFlushed
       (seen_too (position_of setup.segment_size written) view)
-      (set words 14 written) (PutsBack Line false)
+      (set words flushed_number written) (PutsBack Line false)
 
   abbrev pub at_sets_down : PlainPurpose → Left
   at_sets_down purpose = left_going_on SetDown view
-      (set words 16 (number_or_0 (writer.plain).fault)) (PutsBack purpose true)
+      (set words down_number (number_or_0 (writer.plain).fault)) (PutsBack purpose true)

@@ -1,9 +1,9 @@
 //! The turns of a flush but for those with the writer in hand (PostgreSQL's xlog.c, XLogFlush,
 //! WaitXLogInsertionsToFinish). In order: down, the position, the flushed address; where that
 //! suffices the moment, and the line is answered. Else the eight locks are visited, the turn to
-//! write (word 11) is taken, and down is loaded again, since nobody else sets it while the turn is
-//! had. Behind the writing the writer is put back, and then the turn. The end has to be seen before
-//! the locks: a record that is reserved between would be missed otherwise.
+//! write is taken, and down is loaded again, since nobody else sets it while the turn is had.
+//! Behind the writing the writer is put back, and then the turn. The end has to be seen before the
+//! locks: a record that is reserved between would be missed otherwise.
 
 ghost use Rattle.std.specs.Prelude.{◌≡◌, ◌<◌, ◌^◌};
 ghost use Rattle.machine_turns.specs.Left.{Leaves};

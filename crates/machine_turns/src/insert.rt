@@ -266,7 +266,10 @@ impl PlainFlight {
         requires { HasNextWord shape.now (line_behind copied) self.now }
         ensures { result ≡ word_to_copy shape.now (line_behind copied.entry) self.now }
     {
-        match copied.and_then(|line| line.body()) {
+        let Some(line) = copied else {
+            return 0;
+        };
+        match line.body() {
             Some(body) => self.word_of(shape, body),
             None => 0,
         }

@@ -5,7 +5,7 @@
 //! looks at that word or would wait: what the backend holds then stays with it.
 
 ghost use Rattle.std.specs.Prelude.{◌≡◌, ◌+◌, ◌%◌, ◌<◌, ◌^◌, ◌&&◌, ◌||◌, ◌==◌, not, length, slice_get, is_some, option_map, Some, IfSome};
-ghost use Rattle.wal_core.specs.Words.{lock_word, mapping_turn, position_word};
+ghost use Rattle.wal_core.specs.Words.{lock_word, mapping_turn, position_word, mapping_turn_number, lock_number};
 ghost use Rattle.machine_words.specs.Numbers.{IsWord, number_of_word};
 ghost use Rattle.machine_turns.specs.Writer.{KeepsDisk, state_of};
 ghost use Rattle.machine_turns.specs.Lanes.{IsLockAwaited, IsOfFlush, LeavesLane, MayPlay, asked_by, finds_full, holds_back, is_away, is_free, lane_answered, lane_behind, loads_down, played, stepped, waits_if, word_awaited};
@@ -258,7 +258,8 @@ impl PlainView {
     // Another backend has the turn to map.
     fn mapping_turn_awaited(&self, words: &MachineWords) -> Option<Word>
         ensures number { option_map (number_of_word words.now.pages) result
-            ≡ waits_if (is_away self.now.stage && not (mapping_turn words.now.words == 0)) 10 }
+            ≡ waits_if (is_away self.now.stage && not (mapping_turn words.now.words == 0))
+            mapping_turn_number }
         ensures there { IfSome result (IsWord words.now.pages) }
     {
         let is_away = matches!(self.stage, PlainStage::Away);
@@ -270,7 +271,7 @@ impl PlainView {
         requires { lock < 8 }
         ensures number { option_map (number_of_word words.now.pages) result
             ≡ waits_if (holds_back (asked_by purpose self.now) (lock_word words.now.words lock))
-            (2 + lock) }
+            (lock_number lock) }
         ensures there { IfSome result (IsWord words.now.pages) }
     {
         let asked = match purpose {

@@ -1,11 +1,12 @@
 //! The turns that map a page, and those before pages are written for it (PostgreSQL's xlog.c,
 //! AdvanceXLInsertBuffer). A backend that needs a page maps the one at the initialised end, with
-//! the turn to map (word 10): it loads that end and the written address, clears the buffer's end
-//! word, zeroes the words, stores the new end, and then the initialised end (12). Where its own
-//! page is mapped already, or the page that the buffer holds is not written, it gives the turn back
-//! before anything is changed. In the latter case it tells its progress under its lock, which would
-//! hold its own watch back else, and writes pages first.
+//! the turn to map: it loads that end and the written address, clears the buffer's end word, zeroes
+//! the words, stores the new end, and then the initialised end. Where its own page is mapped
+//! already, or the page that the buffer holds is not written, it gives the turn back before
+//! anything is changed. In the latter case it tells its progress under its lock, which would hold
+//! its own watch back else, and writes pages first.
 
+ghost use Rattle.wal_core.specs.Words.{written_number};
 ghost use Rattle.std.specs.Prelude.{◌≡◌, ◌+◌, ◌*◌, ◌/◌, ◌%◌, ◌<◌, ◌≤◌, ◌^◌, slice_index};
 ghost use Rattle.machine_turns.specs.Left.{Leaves, next_in};
 ghost use Rattle.machine_turns.specs.Mapping.{at_gives_turn, at_maps, at_tells, behind_turn, behind_written};
@@ -27,7 +28,7 @@ impl PlainView {
         requires number { self.old.number < 65536 }
         requires stage { IsLowStage self.old.stage }
         requires next { next_in self.old.flight < 2 ^ 60 }
-        requires written { slice_index words.old.words 13 < 2 ^ 60 }
+        requires written { slice_index words.old.words written_number < 2 ^ 60 }
         ensures { Leaves result self.new words.old words.new
             (at_maps shape.now words.old.words self.old lock) }
     {

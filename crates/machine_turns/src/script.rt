@@ -12,16 +12,16 @@ use std::marker::Model;
 #[derive(Debug, Drop)]
 pub enum PlainLine {
     /// Insert this record.
-    Insert(Body),
+    Insert(Body<'static>),
     /// Insert this commit's record, then flush to its end.
-    Commit(Body),
+    Commit(Body<'static>),
     /// Flush to the end of the backend's last record, or to the log's start where it has none.
     Flush,
 }
 
 impl PlainLine {
     /// The record that it inserts.
-    pub(crate) fn body(&self) -> Option<&Body>
+    pub(crate) fn body(&self) -> Option<&Body<'static>>
         ensures { option_map (λ body. body.now) result ≡ body_of self.now }
     {
         match self {

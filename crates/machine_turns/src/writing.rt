@@ -1,10 +1,10 @@
 //! The turns with the writer in hand: page by page the words are loaded, the segment is made where
 //! it is new, the page is written, and a segment that is full is synced (PostgreSQL's xlog.c,
 //! XLogWrite, XLogFileInit, issue_xlog_fsync). All of it goes up to the address below which all is
-//! known to be copied. A flush then syncs the segment under way, and stores what is written (word
-//! 13), the moment (15) and the flushed address (14), in this order; an insert that needs a buffer
-//! stores 13 alone. Behind a call that failed, down (16) is set and no further call made. Nobody
-//! else calls the device, or stores into these words, while the writer is in hand.
+//! known to be copied. A flush then syncs the segment under way, and stores what is written, the
+//! moment and the flushed address, in this order; an insert that needs a buffer stores what is
+//! written alone. Behind a call that failed, down is set and no further call made. Nobody else
+//! calls the device, or stores into these words, while the writer is in hand.
 
 ghost use Rattle.std.specs.Prelude.{◌≡◌, ◌<◌, if◌then◌else◌};
 ghost use Rattle.machine_turns.specs.Left.{Leaves};

@@ -3,7 +3,7 @@ use Rattle.std.specs.Prelude.{◌≡◌, ℕ, ◌+◌, ◌*◌, ◌/◌, ◌%◌
 use Rattle.byte_position.specs.Position.{first_position}
 use Rattle.record_spelling.specs.Spelling.{word_at}
 use Rattle.wal_page.specs.Order.{prev_of}
-use Rattle.wal_core.specs.Words.{Opening, position_word, prev_word, initialised_word, written_word, flushed_word, moment_word, down_word, end_word, found_position, found_end}
+use Rattle.wal_core.specs.Words.{Opening, position_word, prev_word, initialised_word, written_word, flushed_word, moment_word, down_word, end_word, found_position, found_end, initialised_number, ends_number}
 use Rattle.wal_core.specs.Paged.{HoldsPage}
 use Rattle.wal_core.specs.Ringed.{log_word_of}
 use Rattle.machine_words.specs.declared.first.LogEnd.{LogEnd}
@@ -20,10 +20,10 @@ page_place pages address = address / 8192 % pages * 1024
 -- is held. The ring, of so many pages, holds the page in which the log ends and those behind, in
 -- whichever buffers they lie: the words of that page below the log's end, and else zeros
 pub record GoOnBehind (pages moment : ℕ) (end : LogEnd) (page words : List ℕ) : Type 0 where
-  pub wide : length words ≡ 17 + pages + pages * 1024 + 1
+  pub wide : length words ≡ ends_number + pages + pages * 1024 + 1
   pub position : position_word words ≡ end.position
   pub last_start : prev_word words ≡ end.last_start
-  pub zeros : (n : ℕ) → 2 ≤ n → n < 12 → slice_index words n ≡ 0
+  pub zeros : (n : ℕ) → 2 ≤ n → n < initialised_number → slice_index words n ≡ 0
   pub initialised : initialised_word words ≡ (end.address / 8192 + pages) * 8192
   pub written : written_word words ≡ end.address
   pub flushed : flushed_word words ≡ end.address
@@ -32,12 +32,12 @@ pub record GoOnBehind (pages moment : ℕ) (end : LogEnd) (page words : List ℕ
   pub ends : (b : ℕ) → b < pages → HoldsPage pages (end.address / 8192)
       (end.address / 8192 + pages) b (end_word words b)
   pub kept : (j : ℕ) → j < words_below end.address
-      → slice_index words (17 + pages + (page_place pages end.address + j)) ≡ word_at page j
+      → slice_index words (ends_number + pages + (page_place pages end.address + j)) ≡ word_at page j
   pub before : (k : ℕ) → k < page_place pages end.address
-      → slice_index words (17 + pages + k) ≡ 0
+      → slice_index words (ends_number + pages + k) ≡ 0
   pub behind : (k : ℕ) → page_place pages end.address + words_below end.address ≤ k
-      → k < pages * 1024 → slice_index words (17 + pages + k) ≡ 0
-  pub async_is : slice_index words (17 + pages + pages * 1024) ≡ end.address
+      → k < pages * 1024 → slice_index words (ends_number + pages + k) ≡ 0
+  pub async_is : slice_index words (ends_number + pages + pages * 1024) ≡ end.address
 
 -- where a log ends that holds nothing
 abbrev pub first_end : ℕ → LogEnd

@@ -1,4 +1,5 @@
 -- The numbers of the words that all share.
+use Rattle.wal_core.specs.Words.{mapping_turn_number, write_turn_number, initialised_number, written_number, flushed_number, moment_number, down_number, ends_number, lock_number}
 use Rattle.std.specs.Prelude.{ℕ, ◌+◌, ◌*◌, ◌<◌, List, slice_index}
 use Rattle.machine_words.specs.declared.word.Word.{Word}
 use Rattle.machine_words.specs.declared.word.Word.TheVariants.{Position, LastStart, Lock, MappingTurn, WriteTurn, InitialisedEnd, Written, Flushed, Moment, Down, BufferEnd, Ring, Async}
@@ -12,17 +13,17 @@ pub record WordsState : Type 0 where
 abbrev pub number_of_word : ℕ → Word → ℕ
 number_of_word pages Position = 0
 number_of_word pages LastStart = 1
-number_of_word pages (Lock lock) = 2 + lock
-number_of_word pages MappingTurn = 10
-number_of_word pages WriteTurn = 11
-number_of_word pages InitialisedEnd = 12
-number_of_word pages Written = 13
-number_of_word pages Flushed = 14
-number_of_word pages Moment = 15
-number_of_word pages Down = 16
-number_of_word pages (BufferEnd buffer) = 17 + buffer
-number_of_word pages (Ring place) = 17 + pages + place
-number_of_word pages Async = 17 + pages + pages * 1024
+number_of_word pages (Lock lock) = lock_number lock
+number_of_word pages MappingTurn = mapping_turn_number
+number_of_word pages WriteTurn = write_turn_number
+number_of_word pages InitialisedEnd = initialised_number
+number_of_word pages Written = written_number
+number_of_word pages Flushed = flushed_number
+number_of_word pages Moment = moment_number
+number_of_word pages Down = down_number
+number_of_word pages (BufferEnd buffer) = ends_number + buffer
+number_of_word pages (Ring place) = ends_number + pages + place
+number_of_word pages Async = ends_number + pages + pages * 1024
 
 -- the word of a name
 abbrev pub word_named : ℕ → List ℕ → Word → ℕ

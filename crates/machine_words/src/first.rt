@@ -4,6 +4,7 @@ ghost use Rattle.std.specs.Prelude.{◌≡◌, ℕ, ◌+◌, ◌*◌, ◌/◌, �
 ghost use Rattle.byte_position.specs.Geometry.{IsSegmentSize};
 ghost use Rattle.byte_position.specs.Position.{first_position};
 ghost use Rattle.record_spelling.specs.Spelling.{word_at};
+ghost use Rattle.wal_core.specs.Words.{ends_number};
 ghost use Rattle.wal_core.specs.Paged.{HoldsPage};
 ghost use Rattle.machine_words.specs.FirstWords.{GoOnBehind, first_end};
 
@@ -49,7 +50,7 @@ pub(crate) fn set_first_words(
     requires some { 1 ≤ ring_pages }
     requires few { ring_pages ≤ 64 }
     requires low { end.address < 2 ^ 44 }
-    requires wide { length words.old ≡ 17 + ring_pages + ring_pages * 1024 + 1 }
+    requires wide { length words.old ≡ ends_number + ring_pages + ring_pages * 1024 + 1 }
     requires blank { (n : ℕ) → slice_index words.old n ≡ 0 }
     ensures { GoOnBehind ring_pages moment end page.now words.new }
 {
@@ -85,13 +86,13 @@ fn usable_bytes(segment_size: u64) -> u64
 // The buffers hold the pages from one on, each in its own.
 fn hold_pages(words: &mut [u64], pages: usize, first: u64)
     requires few { pages ≤ 64 }
-    requires wide { 17 + pages ≤ length words.old }
+    requires wide { ends_number + pages ≤ length words.old }
     requires low { first < 2 ^ 32 }
     ensures length { length words.new ≡ length words.old }
     ensures ends { (b : ℕ) → b < pages
-        → HoldsPage pages first (first + pages) b (slice_index words.new (17 + b)) }
-    ensures below { (n : ℕ) → n < 17 → slice_index words.new n ≡ slice_index words.old n }
-    ensures above { (n : ℕ) → 17 + pages ≤ n
+        → HoldsPage pages first (first + pages) b (slice_index words.new (ends_number + b)) }
+    ensures below { (n : ℕ) → n < ends_number → slice_index words.new n ≡ slice_index words.old n }
+    ensures above { (n : ℕ) → ends_number + pages ≤ n
         → slice_index words.new n ≡ slice_index words.old n }
 {
     for buffer in 0..pages {

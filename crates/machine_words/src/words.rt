@@ -8,8 +8,8 @@ ghost use Rattle.machine_words.specs.Numbers.{IsWord, number_of_word, word_named
 
 use crate::first::{LogEnd, set_first_words};
 use crate::layout::{
-    BUFFER_ENDS, DOWN, FIRST_LOCK, FLUSHED, INITIALISED_END, LAST_START, MAPPING_TURN, MOMENT,
-    POSITION, WRITE_TURN, WRITTEN, async_number,
+    BUFFER_ENDS, DOWN, FLUSHED, INITIALISED_END, LAST_START, MAPPING_TURN, MOMENT, POSITION,
+    WRITE_TURN, WRITTEN, async_number, number_of_lock,
 };
 use crate::word::Word;
 use byte_position::PAGE_SIZE;
@@ -27,6 +27,7 @@ pub struct MachineWords {
 
 impl Model for MachineWords {
     ghost use Rattle.std.specs.Prelude.{◌≡◌, ◌+◌, ◌*◌, ◌≤◌, length};
+    ghost use Rattle.wal_core.specs.Words.{ends_number};
     ghost use Rattle.machine_words.specs.Numbers.{WordsState};
 
     ghost Value = { WordsState };
@@ -34,7 +35,7 @@ impl Model for MachineWords {
     ghost view = { λ w. record { pages = w.pages; words = w.words.items } };
 
     ghost invariant = { λ w.
-        (w.pages ≤ 64) × (length w.words.items ≡ 17 + w.pages + w.pages * 1024 + 1) };
+        (w.pages ≤ 64) × (length w.words.items ≡ ends_number + w.pages + w.pages * 1024 + 1) };
 }
 
 impl MachineWords {
@@ -114,7 +115,7 @@ impl MachineWords {
         match word {
             Word::Position => POSITION,
             Word::LastStart => LAST_START,
-            Word::Lock(lock) => FIRST_LOCK + lock as usize,
+            Word::Lock(lock) => number_of_lock(lock),
             Word::MappingTurn => MAPPING_TURN,
             Word::WriteTurn => WRITE_TURN,
             Word::InitialisedEnd => INITIALISED_END,

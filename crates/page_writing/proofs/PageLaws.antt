@@ -9,19 +9,13 @@ use Rattle.wal_core.specs.Steps.{IsPageLoaded, IsToBeWritten, ring_number, ring_
 use Rattle.wal_core.specs.Views.{Hold, IsLoadedLast, Plain, View}
 use Rattle.wal_core.specs.declared.setup.Setup.{Setup}
 use Rattle.wal_rule.specs.declared.seated.SeatedPass.{SeatedPass}
+use Rattle.std.specs.Borrow.{Bor}
+use Rattle.wal_rule.specs.declared.table.LogTable.{LogTable}
 use Rattle.wal_rule.specs.declared.writer.LogWriter.{LogWriter}
 use Rattle.wal_rule.specs.SeatedPasses.{HasView, hand_of, view_of}
+use Rattle.page_writing.specs.Loaded.{IsFrontLoaded, staged_in}
 use Rattle.page_writing.specs.InHand.{HasHand, Loads, hand_view, known_copied, lent_in, writer_in}
 use Rattle.page_writing.proofs.HandLaws.{has_lent, hold_is}
-
-abbrev pub staged_in : View → List (ℕ × ℕ)
-staged_in v = (lent_in (v.writing).hold).staged
-
--- the first words of a page were loaded, and are these bytes
-abbrev pub IsFrontLoaded : (count page : ℕ) → List ℕ → List (ℕ × ℕ) → Type 0
-IsFrontLoaded count page bytes staged = (n : ℕ) → n < count
-    → (word : ℕ) × IsLoadedLast (page * 1024 + n) word staged
-    × (word_of bytes n ≡ to_le_bytes w64 word)
 
 -- one word more
 module _ (n page word : ℕ) (old new : List ℕ) (staged : List (ℕ × ℕ))
@@ -54,6 +48,11 @@ place_again shape setup same page first is n place at =
     ∙ ap (λ (k : ℕ). ring_number setup (ring_place setup (k + n))) (sym is)
 
 -- ---- passes of which only what is loaded has changed
+
+-- the table of a pass is the one that was taken out of it
+pub same_table : {D : Type 0} (p q : SeatedPass D) → q.table ≡ p.table
+    → (p.table).now ≡ (q.table).now
+same_table {D} p q is = sym (ap (λ (t : Bor (LogTable D)). t.now) is)
 
 module _ {D : Type 0} where
   abbrev pub HasLoaded : List (ℕ × ℕ) → (old new : SeatedPass D) → Type 0
@@ -113,6 +112,22 @@ module _ {D : Type 0} where
             (hold_is (view_of p) (has_lent tape moment faults p hand));
       };
       hand = hand;
+    }
+
+    -- what was loaded behind the first loads
+    pub rows_on : (a b c : SeatedPass D) → Loads tape moment faults (staged_in (view_of b)) a b
+        → Loads tape moment faults (staged_in (view_of c)) b c
+        → Loads tape moment faults (staged_in (view_of c)) a c
+    rows_on a b c before load = record {
+      view = record {
+        same_table = (load.view).same_table ∙ (before.view).same_table;
+        me_is = (load.view).me_is
+            ∙ ap (λ (m : View × List (ℕ × LogWriter D)). (
+              hand_view (writer_in (view_at m)) (staged_in (view_of c)) (view_at m),
+              m.1,
+            )) (before.view).me_is;
+      };
+      hand = load.hand;
     }
 
     module _ (a b c : SeatedPass D) (n page k word : ℕ) (old new : List ℕ)

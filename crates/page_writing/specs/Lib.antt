@@ -1,2 +1,3 @@
 pub mod InHand
+pub mod Loaded
 pub mod Written

@@ -39,7 +39,6 @@ struct Headers<'a> {
 
 #[tactic(auto, unfolding(crate::specs::Reading::headers_of))]
 // `bytes` are those behind the record's header.
-#[inline(always)]
 fn read_headers<'a>(alloc: Global, bytes: &'a [u8]) -> Result<Headers<'a>, RecErr>
     requires { length bytes.now + 24 < 2 ^ 64 }
     ensures exact { GivesAs headers_said result (headers_of (start_of_headers bytes.now)) }
@@ -72,7 +71,6 @@ fn u32_at(bytes: &[u8], at: usize) -> u32
     u32::from_le_bytes([bytes[at], bytes[at + 1], bytes[at + 2], bytes[at + 3]])
 }
 
-#[inline(always)]
 fn record_of(
     alloc: Global,
     mut spare: Vec<u8>,
@@ -98,7 +96,6 @@ fn record_of(
 }
 
 #[tactic(auto, unfolding(crate::specs::Reading::items_of))]
-#[inline(always)]
 fn read_items(alloc: Global, spare: Vec<u8>, bytes: &[u8]) -> Result<Record, RecErr>
     requires { 24 ≤ length bytes.now }
     ensures { GivesReading result (items_of bytes.now) }
@@ -109,7 +106,6 @@ fn read_items(alloc: Global, spare: Vec<u8>, bytes: &[u8]) -> Result<Record, Rec
 }
 
 #[tactic(auto, unfolding(crate::specs::Reading::reading_of))]
-#[inline(always)]
 fn reading(alloc: Global, spare: Vec<u8>, bytes: &[u8]) -> Result<Record, RecErr>
     ensures { GivesReading result (reading_of bytes.now) }
 {
@@ -142,7 +138,6 @@ pub fn decode(alloc: Global, bytes: &[u8]) -> Result<Record, RecErr>
 
 /// `decode`, with the main data put into a vector that the caller has, whatever it held: so one
 /// whose room is large enough spares taking memory.
-#[inline(always)]
 pub fn decode_into(alloc: Global, spare: Vec<u8>, bytes: &[u8]) -> Result<Record, RecErr>
     // As of `decode`, whatever the vector held.
     ensures spelled { IfOk result (λ r. Spells bytes.now r) }

@@ -1,6 +1,7 @@
 pub mod Bytes
 pub mod Words
 mod WordRuns
+pub mod PlainRecords
 pub mod RightBlocks
 pub mod BlockSteps
 pub mod Acceptance

@@ -3,6 +3,7 @@ use Rattle.std.specs.Prelude.{ℕ, ◌+◌, ◌/◌, ◌%◌, ◌^◌, ◌<◌, 
 use Rattle.wal_types.specs.declared.record.Record.{Record}
 use Rattle.wal_types.specs.declared.record.Block.{Block}
 use Rattle.wal_types.specs.declared.record.Image.{Image}
+use Rattle.wal_types.specs.declared.record.Xid.{Xid}
 use Rattle.record_spelling.specs.Layout.{data_page_size, first_free_manager, last_block_id, last_fork, last_free_manager, longest_content}
 
 -- whether no manager has this number
@@ -27,6 +28,18 @@ switch_record = record {
   top_xid = None;
   blocks = [];
   main = [];
+}
+
+-- a record that has main data alone
+abbrev pub plain_record : Xid → ℕ → ℕ → List ℕ → Record
+plain_record xid rmid info main = record {
+  xid = xid;
+  rmid = rmid;
+  info = info;
+  origin = None;
+  top_xid = None;
+  blocks = [];
+  main = main;
 }
 
 -- whether an image, where there is one, is that of a page; a hole is not at the page's start

@@ -21,7 +21,7 @@ use Rattle.wal_types.specs.declared.record.Image.{Image}
 use Rattle.wal_types.specs.declared.record.Rel.{Rel}
 use Rattle.wal_types.specs.declared.record.Xid.{Xid}
 use Rattle.record_spelling.specs.Layout.{long_main_tag, longest_record, origin_tag, record_header_size, short_main_tag, top_xid_tag}
-use Rattle.record_spelling.specs.Record.{IsWellFormed, Fits, are_right_blocks, ends_segment, is_free_manager, switch_record}
+use Rattle.record_spelling.specs.Record.{IsWellFormed, Fits, are_right_blocks, ends_segment, is_free_manager, plain_record, switch_record}
 
 -- a bit of a flag byte
 abbrev pub flag : Bool → ℕ → ℕ
@@ -102,6 +102,10 @@ after_header r =
     else main_header (nat_lt (length r.main) 256) (length r.main))
     ++ flat_map block_payload r.blocks
     ++ r.main
+
+-- the same of a record that has main data alone, whatever its header says
+abbrev pub plain_after_header : List ℕ → List ℕ
+plain_after_header main = after_header (plain_record (record { 0 = 0 }) 0 0 main)
 
 -- a record as it is ready to be written: all of its spelling but what depends on its place
 pub record Assembled : Type 0 where

@@ -12,6 +12,7 @@ use std::alloc::{AllocError, Global};
 use wal_types::{Record, Xid};
 
 // How many bytes stand behind the header.
+#[inline]
 pub(crate) fn after_header_len(r: &Record) -> usize
     requires { IsTrue (are_right_blocks 0 r.now.blocks) }
     ensures length { result ≡ length (after_header r.now) }
@@ -28,21 +29,33 @@ pub(crate) fn after_header_len(r: &Record) -> usize
     blocks_len(r.blocks.as_slice()) + origin + top_xid + main_header + main
 }
 
-// What stands behind the header.
+// What stands behind the header, in a vector of its own.
 pub(crate) fn after_header(alloc: Global, r: &Record) -> Result<Vec<u8>, AllocError>
     requires blocks { IsTrue (are_right_blocks 0 r.now.blocks) }
     requires short { length r.now.main < 2 ^ 32 }
     ensures ok { IfOk result (λ v. v.items ≡ after_header r.now) }
     ensures fits { OnOk result (FitsAfterHeader r.now) }
 {
-    let mut after_header = Vec::with_capacity(alloc, after_header_len(r))?;
-    put_block_headers(&mut after_header, r.blocks.as_slice())?;
-    put_origin(&mut after_header, r.origin)?;
-    put_top_xid(&mut after_header, r.top_xid)?;
-    put_main_header(&mut after_header, r.main.as_slice())?;
-    put_payloads(&mut after_header, r.blocks.as_slice())?;
-    put_bytes(&mut after_header, r.main.as_slice())?;
+    let mut after_header = Vec::new(alloc);
+    spell_after_header(&mut after_header, r)?;
     Ok(after_header)
+}
+
+// The same in a vector that is there, in place of what it held.
+pub(crate) fn spell_after_header(room: &mut Vec<u8>, r: &Record) -> Result<(), AllocError>
+    requires blocks { IsTrue (are_right_blocks 0 r.now.blocks) }
+    requires short { length r.now.main < 2 ^ 32 }
+    ensures ok { OnOk result (room.new.items ≡ after_header r.now) }
+    ensures fits { OnOk result (FitsAfterHeader r.now) }
+{
+    room.clear();
+    room.reserve(after_header_len(r))?;
+    put_block_headers(room, r.blocks.as_slice())?;
+    put_origin(room, r.origin)?;
+    put_top_xid(room, r.top_xid)?;
+    put_main_header(room, r.main.as_slice())?;
+    put_payloads(room, r.blocks.as_slice())?;
+    put_bytes(room, r.main.as_slice())
 }
 
 fn put_origin(out: &mut Vec<u8>, origin: Option<u16>) -> Result<(), AllocError>
@@ -67,7 +80,8 @@ fn put_top_xid(out: &mut Vec<u8>, top_xid: Option<Xid>) -> Result<(), AllocError
     Ok(())
 }
 
-fn put_main_header(out: &mut Vec<u8>, main: &[u8]) -> Result<(), AllocError>
+#[inline(always)]
+pub(crate) fn put_main_header(out: &mut Vec<u8>, main: &[u8]) -> Result<(), AllocError>
     requires { length main.now < 2 ^ 32 }
     ensures { OnOk result (out.new.items ≡ out.old.items ++ (if length main.now == 0 then []
         else main_header (nat_lt (length main.now) 256) (length main.now))) }

@@ -1,54 +1,59 @@
 //! A record made ready to be written (PostgreSQL's XLogRecordAssemble of xloginsert.c).
 
 ghost use Rattle.std.specs.Prelude.{◌≡◌, ℕ, ◌+◌, ◌*◌, ◌^◌, ◌<◌, ◌≤◌, [], ◌∷◌, ◌++◌, false, length, take, slice_index, All, None, IfOk, OnOk, IfErr};
+ghost use Rattle.std.specs.Cow.{cow_slice_items};
 ghost use Rattle.std.specs.Int.{w32, w64, from_le_bytes, to_le_bytes};
 ghost use Rattle.wal_types.specs.declared.record.Record.{Record};
+ghost use Rattle.record_spelling.specs.Fitting.{FitsAfterHeader};
 ghost use Rattle.record_spelling.specs.Record.{switch_record};
 ghost use Rattle.record_spelling.specs.Refusal.{RefusesToAssemble, refusal_of};
-ghost use Rattle.record_spelling.specs.Spelling.{AssembledFits, IsWritable, RecordOf, assembled, assembled_of, assembled_room, assembled_size, crc_of, filled, is_assembled_switch, word_at};
+ghost use Rattle.record_spelling.specs.Spelling.{AssembledFits, IsWritable, RecordOf, after_header, assembled, assembled_of, assembled_room, assembled_size, crc_of, filled, is_assembled_switch, word_at};
 
-use crate::assembly::after_header;
+use crate::assembly::{after_header, spell_after_header};
 use crate::fault::BodyErr;
 use crate::layout::{HEADER_LEN, SWITCH_INFO, XLOG_RMID};
 use crate::refusing::refusal;
 use crate::segment_switch::ends_segment;
+use bumpalo::Bump;
 use std::alloc::Global;
+use std::borrow::CowSlice;
 use std::marker::Model;
 use wal_crc32c::Crc;
 use wal_types::{Lsn, Record, Xid};
 
 /// A record ready to be written: all of its spelling but what depends on its place. At most
-/// 1,048,576 bytes.
+/// 1,048,576 bytes, which are the body's own or lie in an arena.
 #[derive(Debug, Drop)]
-pub struct Body {
+pub struct Body<'a> {
     xid: Xid,
     rmid: u8,
     info: u8,
-    after_header: Vec<u8>,
+    after_header: CowSlice<'a, u8>,
     /// The CRC with zeros for the start of the record before, which is known only at its place.
     crc: Crc,
 }
 
-impl Model for Body {
+impl<'a> Model for Body<'a> {
     ghost use Rattle.std.specs.Prelude.{◌≡◌, ◌++◌};
+    ghost use Rattle.std.specs.Cow.{cow_slice_items};
     ghost use Rattle.wal_crc32c.specs.Crc32c.{HasFed};
     ghost use Rattle.record_spelling.specs.Spelling.{Assembled, AssembledFits, RecordOf, assembled_of, header_front};
 
     ghost Value = { Assembled };
 
-    ghost view = { λ b. assembled_of b.xid.0 b.rmid b.info b.after_header.items };
+    ghost view = { λ b. assembled_of b.xid.0 b.rmid b.info (cow_slice_items b.after_header) };
 
     ghost invariant = { λ b.
-        let value = assembled_of b.xid.0 b.rmid b.info b.after_header.items in
-        HasFed b.crc (b.after_header.items ++ header_front value 0)
+        let value = assembled_of b.xid.0 b.rmid b.info (cow_slice_items b.after_header) in
+        HasFed b.crc (cow_slice_items b.after_header ++ header_front value 0)
         × AssembledFits value
         × RecordOf value };
 }
 
-impl Body {
-    /// Makes a record ready. Where several reasons forbid it, the error is the first of BadRmgr,
-    /// Switch, BadBlock and TooLong.
-    pub fn assemble(alloc: Global, r: &Record) -> Result<Body, BodyErr>
+impl<'a> Body<'a> {
+    /// Makes a record ready, with bytes of its own. Where several reasons forbid it, the error is
+    /// the first of BadRmgr, Switch, BadBlock and TooLong.
+    pub fn assemble(alloc: Global, r: &Record) -> Result<Body<'a>, BodyErr>
         ensures ok { IfOk result (λ body. (body ≡ assembled r.now) × IsWritable r.now) }
         ensures inserted { IfOk result (λ body. is_assembled_switch body ≡ false) }
         ensures not_refused { OnOk result (refusal_of r.now ≡ None) }
@@ -57,7 +62,47 @@ impl Body {
         if let Some(refusal) = refusal(r) {
             return Err(refusal);
         }
-        let after_header = after_header(alloc, r)?;
+        let bytes = after_header(alloc, r)?;
+        Ok(Body::of_record(r, CowSlice::Owned(bytes)))
+    }
+
+    /// The same with its bytes in an arena. They are spelled in the room, which holds none that
+    /// matter, and is there for the next record.
+    pub fn assemble_in(bump: &'a Bump, room: &mut Vec<u8>, r: &Record) -> Result<Body<'a>, BodyErr>
+        ensures ok { IfOk result (λ body. (body ≡ assembled r.now) × IsWritable r.now) }
+        ensures inserted { IfOk result (λ body. is_assembled_switch body ≡ false) }
+        ensures not_refused { OnOk result (refusal_of r.now ≡ None) }
+        ensures which { IfErr result (λ e. RefusesToAssemble e r.now) }
+    {
+        if let Some(refusal) = refusal(r) {
+            return Err(refusal);
+        }
+        spell_after_header(room, r)?;
+        let bytes = bump.try_alloc_slice_copy(room)?;
+        Ok(Body::of_record(r, CowSlice::Borrowed(bytes)))
+    }
+
+    /// The record that ends its segment (PostgreSQL's RequestXLogSwitch): of no transaction, and
+    /// with no data. It takes no memory, though a body has an allocator.
+    pub fn switch(alloc: Global) -> Body<'a>
+        ensures { result ≡ assembled switch_record }
+    {
+        Body::of_parts(
+            Xid(0),
+            XLOG_RMID,
+            SWITCH_INFO,
+            CowSlice::Owned(Vec::new(alloc)),
+        )
+    }
+
+    // The body of a record that was not refused, of the bytes behind its header.
+    fn of_record(r: &Record, bytes: CowSlice<'a, u8>) -> Body<'a>
+        requires accepted { refusal_of r.now ≡ None }
+        requires bytes { cow_slice_items bytes ≡ after_header r.now }
+        requires fits { FitsAfterHeader r.now }
+        ensures ok { (result ≡ assembled r.now) × IsWritable r.now }
+        ensures inserted { is_assembled_switch result ≡ false }
+    {
         let Record {
             xid,
             rmid,
@@ -65,30 +110,23 @@ impl Body {
             ..
         } = *r;
         header_fits(xid, rmid, info);
-        Ok(Body::of_parts(xid, rmid, info, after_header))
+        Body::of_parts(xid, rmid, info, bytes)
     }
 
-    /// The record that ends its segment (PostgreSQL's RequestXLogSwitch): of no transaction, and
-    /// with no data. It takes no memory, though a body has an allocator.
-    pub fn switch(alloc: Global) -> Body
-        ensures { result ≡ assembled switch_record }
+    #[inline]
+    pub(crate) fn of_parts(xid: Xid, rmid: u8, info: u8, bytes: CowSlice<'a, u8>) -> Body<'a>
+        requires { RecordOf (assembled_of xid.0 rmid info (cow_slice_items bytes)) }
+        ensures { result ≡ assembled_of xid.0 rmid info (cow_slice_items bytes.entry) }
     {
-        Body::of_parts(Xid(0), XLOG_RMID, SWITCH_INFO, Vec::new(alloc))
-    }
-
-    fn of_parts(xid: Xid, rmid: u8, info: u8, after_header: Vec<u8>) -> Body
-        requires { RecordOf (assembled_of xid.0 rmid info after_header.items) }
-        ensures { result ≡ assembled_of xid.0 rmid info after_header.items }
-    {
-        let size = (HEADER_LEN + after_header.len()) as u32;
+        let size = (HEADER_LEN + bytes.len()) as u32;
         let mut crc = Crc::new();
-        crc.update(&after_header);
+        crc.update(bytes.as_slice());
         crc.update_round_gap(size_and_xid(size, xid), info_and_manager(info, rmid));
         Body {
             xid,
             rmid,
             info,
-            after_header,
+            after_header: bytes,
             crc,
         }
     }
@@ -137,7 +175,7 @@ impl Body {
         if n < 3 {
             self.header_word(prev, n)
         } else {
-            first_word(&self.after_header[(n as usize - 3) * 8..])
+            first_word(&self.after_header()[(n as usize - 3) * 8..])
         }
     }
 
@@ -190,7 +228,7 @@ impl Body {
         ensures bytes { result.now ≡ self.now.after_header }
         ensures ready { AssembledFits self.now }
     {
-        &self.after_header
+        self.after_header.as_slice()
     }
 
     // The CRC runs over what stands behind the header, and then over the header's first 20 bytes,
@@ -222,7 +260,7 @@ fn info_and_manager(info: u8, rmid: u8) -> u32
 }
 
 // The numbers of a value of the program fit their fields.
-fn header_fits(xid: Xid, rmid: u8, info: u8)
+pub(crate) fn header_fits(xid: Xid, rmid: u8, info: u8)
     ensures { (xid.0 < 2 ^ 32) × (rmid < 256) × (info < 256) }
 {}
 

@@ -8,6 +8,7 @@ mod fault;
 pub mod laws;
 pub mod layout;
 mod manager;
+mod plain;
 mod putting;
 mod refusing;
 mod segment_switch;

@@ -8,7 +8,7 @@ ghost use Rattle.record_spelling.specs.Spelling.{AssembledFits, assembled_room, 
 use crate::body::{Body, first_word};
 use wal_types::Lsn;
 
-impl Body {
+impl<'a> Body<'a> {
     /// Puts the record's words from the n-th on, as many as there are places, as they are written
     /// behind a record that starts at `prev`: each as `word` answers it.
     #[inline(always)]

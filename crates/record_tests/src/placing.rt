@@ -26,7 +26,7 @@ pub(crate) fn smallest() -> Geometry
 }
 
 /// A record in segment 1, behind others of so many words.
-pub(crate) fn placed<'a>(body: &'a Body, words: u16, prev: Lsn) -> Placed<'a>
+pub(crate) fn placed<'a>(body: &'a Body<'a>, words: u16, prev: Lsn) -> Placed<'a>
     ensures { result.start ≡ FIRST + 8 * words }
 {
     let _room = body.room();

@@ -50,7 +50,7 @@ pub struct Reserved<'a> {
 #[inline(always)]
 pub fn try_reserve<'a, 'p, D: Disk>(
     seated: &mut SeatedPass<'p, D>,
-    body: &'a Body,
+    body: &'a Body<'a>,
     lock: u32,
 ) -> Result<Reserved<'a>, ReserveErr>
     requires inserted { is_assembled_switch body.now ≡ false }
@@ -86,7 +86,7 @@ pub fn try_reserve<'a, 'p, D: Disk>(
 pub(crate) fn reserve_locked<'a, 'p, D: Disk>(
     seated: &mut SeatedPass<'p, D>,
     geometry: Geometry,
-    body: &'a Body,
+    body: &'a Body<'a>,
     locked: LockedAt,
     room: u64,
 ) -> Result<Reserved<'a>, u64>

@@ -32,7 +32,7 @@ pub enum SwitchTry<'a> {
 /// as `try_reserve`. The locks stay held at each exit.
 pub fn try_reserve_switch<'a, 'p, D: Disk>(
     seated: &mut SeatedPass<'p, D>,
-    body: &'a Body,
+    body: &'a Body<'a>,
 ) -> Result<SwitchTry<'a>, ReserveErr>
     requires switch { body.now ≡ assembled switch_record }
     // The pass holds all insertion locks, copies nothing, and has not locked the position.

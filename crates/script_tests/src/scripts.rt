@@ -1,5 +1,6 @@
 //! What is read of scripts: of one backend, of a run, of a replay, and of a schedule alone.
 
+use bumpalo::Bump;
 use replay_schedule::Item;
 use std::process::Abort;
 use std::test::Fail;
@@ -40,7 +41,8 @@ fn a_script_of_one_backend_is_read(rt: HostRuntime) -> Result<(), Fail> {
 
 #[test]
 fn the_script_of_a_run_is_read(rt: HostRuntime) -> Result<(), Fail> {
-    let backends = parse_run(rt.alloc(), b"C 1 0\nW\nB\nC 2 0", None)?;
+    let arena = Bump::new(rt.alloc());
+    let backends = parse_run(rt.alloc(), &arena, b"C 1 0\nW\nB\nC 2 0", None)?;
     assert_eq!(rt; backends.len(), 2);
     has_lines(&rt, &backends[0], &[(1, b'C'), (2, b'W')]);
     has_lines(&rt, &backends[1], &[(4, b'C')]);
@@ -53,7 +55,8 @@ fn a_segment_switch_has_no_field_and_is_of_runs_alone(rt: HostRuntime) {
         line: 2,
         fault: ScriptFault::Count,
     }));
-    assert!(rt; parse_run(rt.alloc(), b"W\nW 1", None).map(|_| ()) == count);
+    let arena = Bump::new(rt.alloc());
+    assert!(rt; parse_run(rt.alloc(), &arena, b"W\nW 1", None).map(|_| ()) == count);
     let word = Err(ParseError::Refused(Refusal {
         line: 2,
         fault: ScriptFault::Word,
@@ -63,7 +66,8 @@ fn a_segment_switch_has_no_field_and_is_of_runs_alone(rt: HostRuntime) {
 
 #[test]
 fn a_writer_has_its_lines_behind_those_of_a_run(rt: HostRuntime) -> Result<(), Fail> {
-    let backends = parse_run(rt.alloc(), b"A 1 0\nL", Some(3))?;
+    let arena = Bump::new(rt.alloc());
+    let backends = parse_run(rt.alloc(), &arena, b"A 1 0\nL", Some(3))?;
     assert_eq!(rt; backends.len(), 2);
     has_lines(&rt, &backends[0], &[(1, b'A'), (2, b'L')]);
     has_lines(&rt, &backends[1], &[(1, b'L'), (2, b'L'), (3, b'L')]);

@@ -2,6 +2,7 @@
 
 ghost use Rattle.std.specs.Prelude.{◌≡◌};
 
+use bumpalo::Bump;
 use byte_position::Geometry;
 use generated_lines::generate;
 use record_spelling::Body;
@@ -49,7 +50,8 @@ impl Log {
         if script.len() > 1000 {
             return Err(Fail::from("a short script"));
         }
-        match parse_run(alloc, script, None) {
+        let arena = Bump::new(alloc);
+        match parse_run(alloc, &arena, script, None) {
             Ok(backends) => Log::of(alloc, &backends),
             Err(_) => Err(Fail::from("a script that is read")),
         }

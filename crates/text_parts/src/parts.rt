@@ -23,6 +23,14 @@ impl<'a> Model for Parts<'a> {
 }
 
 impl<'a> Parts<'a> {
+    /// Whether no part is left.
+    #[inline]
+    pub fn is_done(&self) -> bool
+        ensures { result ≡ (length self.now == 0) }
+    {
+        self.rest.is_none()
+    }
+
     /// All parts of a text: one more than it has separators.
     pub fn of(text: &'a [u8], separator: u8) -> Parts<'a>
         ensures { result ≡ slice_split (λ c. c == separator) text.now }
@@ -43,14 +51,36 @@ impl<'a> Iterator for Parts<'a> {
 
     ghost remaining = { item_count (λ parts. parts) };
 
+    #[inline(always)]
     fn next(&mut self) -> Option<&'a [u8]> {
-        let (part, rest) = cut(self.rest?, self.separator);
+        let (part, rest) = cut_short(self.rest?, self.separator);
         self.rest = rest;
         Some(part)
     }
 }
 
+// The same as `cut`, quicker where the first part has one byte or two.
+#[inline(always)]
+fn cut_short(text: &[u8], separator: u8) -> (&[u8], Option<&[u8]>)
+    ensures parts { slice_split (λ c. c == separator) text.now
+        ≡ result.0.now ∷ parts_left separator result.1 }
+{
+    match text {
+        [one, two, behind @ ..] if *one != separator => {
+            if *two == separator {
+                return (&text[..1], Some(behind));
+            }
+            match behind {
+                [three, rest @ ..] if *three == separator => (&text[..2], Some(rest)),
+                _ => cut(text, separator),
+            }
+        }
+        _ => cut(text, separator),
+    }
+}
+
 /// The first part, and what stands behind its separator where it has one.
+#[inline(always)]
 pub fn cut(text: &[u8], separator: u8) -> (&[u8], Option<&[u8]>)
     ensures parts { slice_split (λ c. c == separator) text.now
         ≡ result.0.now ∷ parts_left separator result.1 }

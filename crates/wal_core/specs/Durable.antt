@@ -1,12 +1,12 @@
 -- What a crash leaves at any moment since the opening, and what it leaves from a moment on that a
 -- pass was told (PostgreSQL's xlog.c, XLogFlush). On a disk on which a log may begin (`IfSuited`)
 -- it leaves 0 or the log's word at each place, since nothing else is ever written. Who has the
--- writer in hand syncs, stores the disk's moment (word 15) then, and behind it the flushed address
--- (14): from that moment on all below that address is there, and a later write of the same page
--- leaves it so. Who loads 14 and then 15 meets that moment or a later one: so a promise is kept,
--- whoever else stores meanwhile. No call follows a fault, and no promise that was made is taken
--- back by one. What was found at the opening is durable from the opening on, promised or not. The
--- down word (16) is set once, by one pass: its number stays with the view that took the pass in.
+-- writer in hand syncs, stores the disk's moment then, and behind it the flushed address: from that
+-- moment on all below that address is there, and a later write of the same page leaves it so. Who
+-- loads the flushed address and then the moment meets that moment or a later one: so a promise is
+-- kept, whoever else stores meanwhile. No call follows a fault, and no promise that was made is
+-- taken back by one. What was found at the opening is durable from the opening on, promised or not.
+-- Down is set once, by one pass: its number stays with the view that took the pass in.
 use Rattle.std.specs.Prelude.{◌≡◌, ◌≢◌, ◌⊎◌, ℕ, ◌+◌, ◌*◌, ◌<◌, ◌≤◌, All, List, [], ◌∷◌, drop, length, slice_get, take, IfSome, IsSomeAnd, Some, ◌==◌, if◌then◌else◌}
 use mathlib.Core.Option.{Option, none, some}
 use Rattle.segment_disk.specs.declared.disk.Call.{Call}

@@ -6,7 +6,7 @@
 use Rattle.std.specs.Prelude.{◌≡◌, ℕ, ◌+◌, ◌*◌, ◌/◌, ◌%◌, ◌<◌, ◌≤◌, All, List, length, slice_index, IfSome, None}
 use mathlib.Core.Option.{none}
 use Rattle.wal_page.specs.Order.{IsChained, prev_of}
-use Rattle.wal_core.specs.Words.{Opening, position_word, prev_word, initialised_word, written_word, flushed_word, moment_word, down_word, async_word, end_word, word_of_ring, word_count, log_limit, found_position, found_end}
+use Rattle.wal_core.specs.Words.{Opening, position_word, prev_word, initialised_word, written_word, flushed_word, moment_word, down_word, async_word, end_word, initialised_number, word_of_ring, word_count, log_limit, found_position, found_end}
 use Rattle.wal_core.specs.Views.{Plain, View}
 use Rattle.wal_core.specs.Moves.{fresh_view}
 use Rattle.wal_core.specs.Paged.{HoldsPage}
@@ -32,7 +32,7 @@ pub record AreFirstWords (opening : Opening) (words : List ℕ) : Type 0 where
   pub wide : length words ≡ word_count opening.setup
   pub position : position_word words ≡ found_position opening
   pub prev : prev_word words ≡ prev_of (opening.setup).segment_size 0 opening.found
-  pub zeros : (n : ℕ) → 2 ≤ n → n < 12 → slice_index words n ≡ 0
+  pub zeros : (n : ℕ) → 2 ≤ n → n < initialised_number → slice_index words n ≡ 0
   pub initialised : initialised_word words
       ≡ (found_end opening / 8192 + (opening.setup).ring_pages) * 8192
   pub written : written_word words ≡ found_end opening

@@ -1,5 +1,5 @@
 -- Up to where the log is reserved, copied, written and durable (PostgreSQL's xlog.c, LogwrtResult):
--- what is flushed (word 14) is written (13), what is written the writer has written, and that is
+-- what is flushed is written, what is written the writer has written, and that is
 -- copied and reserved. Both words are stored by who has the writer in hand, and neither falls: so
 -- what a pass has loaded stays a lower bound, and a page that ends at or below what its mapper has
 -- loaded as written may be given up. At home the writer stands where the written word says, unless

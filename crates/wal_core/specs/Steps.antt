@@ -18,7 +18,7 @@ use Rattle.wal_page.specs.EntryWords.{address_of_word, words_owned}
 use Rattle.wal_page.specs.Order.{room_at}
 use Rattle.wal_page.specs.Placed.{entry_word}
 use Rattle.wal_core.specs.declared.setup.Setup.{Setup}
-use Rattle.wal_core.specs.Words.{async_number, end_form, log_limit}
+use Rattle.wal_core.specs.Words.{async_number, down_number, end_form, ends_number, flushed_number, initialised_number, lock_number, log_limit, mapping_turn_number, moment_number, write_turn_number, written_number}
 use Rattle.wal_core.specs.Views.{HasAt, Place, Free, Locked, Loaded, Stored, StopCause, LogFull, AtSegmentStart, Copy, Flight, Landed, Copying, AreSomeOf, Stage, Taken, Looked, Ready, Zeroing, Published, Plain, IsLoadedLast, Lent, Hold, Idle, Turned, Out, Away, View}
 use Rattle.wal_core.specs.Failed.{KnowsOfFault}
 use Rattle.wal_core.specs.Locked.{most_told}
@@ -149,10 +149,10 @@ buffer_of setup at = at / 8192 % setup.ring_pages
 
 -- the end word of a buffer, and the word at a place of the ring
 abbrev pub end_number : Setup → ℕ → ℕ
-end_number setup buffer = 17 + buffer
+end_number setup buffer = ends_number + buffer
 
 abbrev pub ring_number : Setup → ℕ → ℕ
-ring_number setup place = 17 + setup.ring_pages + place
+ring_number setup place = ends_number + setup.ring_pages + place
 
 -- the address of the page that a mapper is about
 abbrev pub page_mapped : Stage → ℕ
@@ -186,45 +186,45 @@ module _ (v : View) where
 
   abbrev pub word_of_step : StepKind → ℕ
   word_of_step load_position = 0
-  word_of_step take_write_turn = 11
-  word_of_step slot_out = 11
-  word_of_step slot_in = 11
-  word_of_step release_write_turn = 11
+  word_of_step take_write_turn = write_turn_number
+  word_of_step slot_out = write_turn_number
+  word_of_step slot_in = write_turn_number
+  word_of_step release_write_turn = write_turn_number
   word_of_step (lock_position expected) = 0
   word_of_step load_prev = 1
   word_of_step store_prev = 1
   word_of_step (store_position locks value) = 0
   word_of_step (give_position_back value) = 0
   word_of_step stay = 0
-  word_of_step (load_lock lock limit) = 2 + lock
-  word_of_step (take_lock lock) = 2 + lock
-  word_of_step (advance lock upto) = 2 + lock
-  word_of_step (release lock) = 2 + lock
+  word_of_step (load_lock lock limit) = lock_number lock
+  word_of_step (take_lock lock) = lock_number lock
+  word_of_step (advance lock upto) = lock_number lock
+  word_of_step (release lock) = lock_number lock
   word_of_step (load_buffer_end buffer) = end_number setup_of buffer
   word_of_step store_ring_word =
       ring_number setup_of (ring_place setup_of (number_of_next setup_of (v.working).flight))
   word_of_step (load_ring_word k) = ring_number setup_of (ring_place setup_of k)
-  word_of_step load_written = 13
-  word_of_step load_flushed = 14
-  word_of_step load_moment = 15
-  word_of_step load_down = 16
-  word_of_step store_written = 13
-  word_of_step store_moment = 15
-  word_of_step store_flushed = 14
-  word_of_step set_down = 16
+  word_of_step load_written = written_number
+  word_of_step load_flushed = flushed_number
+  word_of_step load_moment = moment_number
+  word_of_step load_down = down_number
+  word_of_step store_written = written_number
+  word_of_step store_moment = moment_number
+  word_of_step store_flushed = flushed_number
+  word_of_step set_down = down_number
   word_of_step load_async = async_number setup_of
   word_of_step (raise_async expected upto) = async_number setup_of
-  word_of_step take_mapping_turn = 10
-  word_of_step load_initialised_end = 12
+  word_of_step take_mapping_turn = mapping_turn_number
+  word_of_step load_initialised_end = initialised_number
   word_of_step clear_end = end_number setup_of (buffer_of setup_of (page_mapped stage_of))
   word_of_step zero_ring_word = ring_number setup_of
       (buffer_of setup_of (page_mapped stage_of) * 1024 + words_zeroed stage_of)
   word_of_step publish_end = end_number setup_of (buffer_of setup_of (page_mapped stage_of))
-  word_of_step publish_initialised_end = 12
-  word_of_step release_mapping_turn = 10
-  word_of_step (create segment outcome) = 11
-  word_of_step (write segment page upto bytes outcome) = 11
-  word_of_step (sync segment outcome) = 11
+  word_of_step publish_initialised_end = initialised_number
+  word_of_step release_mapping_turn = mapping_turn_number
+  word_of_step (create segment outcome) = write_turn_number
+  word_of_step (write segment page upto bytes outcome) = write_turn_number
+  word_of_step (sync segment outcome) = write_turn_number
 
   -- ---- the value of that word behind the step, where the number met is `met`: an exchange stores
   -- only where it meets what it expects

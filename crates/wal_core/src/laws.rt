@@ -4,7 +4,7 @@
 
 ghost use Rattle.std.specs.Prelude.{◌≡◌, ◌≢◌, ◌⊎◌, ℕ, ◌+◌, ◌*◌, ◌<◌, ◌≤◌, List, [], ◌∷◌, ◌++◌, length, map, set, slice_index};
 ghost use Rattle.wal_core.specs.declared.setup.Setup.{Setup};
-ghost use Rattle.wal_core.specs.Words.{end_word, lock_word, word_of_ring, word_count};
+ghost use Rattle.wal_core.specs.Words.{end_word, ends_number, lock_number, lock_word, mapping_turn_number, word_count, word_of_ring};
 ghost use Rattle.wal_core.specs.Views.{Flight, HasAt, View, reserving_of};
 ghost use Rattle.wal_core.specs.Moves.{with_working};
 
@@ -25,23 +25,23 @@ pub fn parts_change_with_their_view()
 pub fn words_are_set_one_at_a_time()
     ensures again { (words : List ℕ) (i : ℕ) → set words i (slice_index words i) ≡ words }
     ensures single { (setup : Setup) (words : List ℕ) (i n : ℕ) → length words ≡ word_count setup
-        → i < 17 → slice_index (set words i n) i ≡ n }
+        → i < ends_number → slice_index (set words i n) i ≡ n }
     ensures other { (words : List ℕ) (i n j : ℕ) → j ≢ i
         → slice_index (set words i n) j ≡ slice_index words j }
     ensures lock { (setup : Setup) (words : List ℕ) (lock n : ℕ)
         → length words ≡ word_count setup → lock < 8
-        → lock_word (set words (2 + lock) n) lock ≡ n }
-    ensures other_locks { (words : List ℕ) (i n lock : ℕ) → (i < 2) ⊎ (10 ≤ i) → lock < 8
+        → lock_word (set words (lock_number lock) n) lock ≡ n }
+    ensures other_locks { (words : List ℕ) (i n lock : ℕ) → (i < 2) ⊎ (mapping_turn_number ≤ i) → lock < 8
         → lock_word (set words i n) lock ≡ lock_word words lock }
     ensures end { (setup : Setup) (words : List ℕ) (buffer n : ℕ)
         → length words ≡ word_count setup → buffer < setup.ring_pages
-        → end_word (set words (17 + buffer) n) buffer ≡ n }
+        → end_word (set words (ends_number + buffer) n) buffer ≡ n }
     ensures ends_behind { (setup : Setup) (words : List ℕ) (place n b : ℕ) → b < setup.ring_pages
-        → end_word (set words (17 + setup.ring_pages + place) n) b ≡ end_word words b }
+        → end_word (set words (ends_number + setup.ring_pages + place) n) b ≡ end_word words b }
     ensures ring { (setup : Setup) (words : List ℕ) (place n : ℕ)
         → length words ≡ word_count setup → place < setup.ring_pages * 1024
-        → word_of_ring setup (set words (17 + setup.ring_pages + place) n) place ≡ n }
-    ensures ring_before { (setup : Setup) (words : List ℕ) (i n : ℕ) → i < 17 + setup.ring_pages
+        → word_of_ring setup (set words (ends_number + setup.ring_pages + place) n) place ≡ n }
+    ensures ring_before { (setup : Setup) (words : List ℕ) (i n : ℕ) → i < ends_number + setup.ring_pages
         → word_of_ring setup (set words i n) ≡ word_of_ring setup words }
     ensures wide { (setup : Setup) (words : List ℕ) (i n : ℕ) → length words ≡ word_count setup
         → length (set words i n) ≡ word_count setup }

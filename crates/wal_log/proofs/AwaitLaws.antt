@@ -3,19 +3,20 @@
 use Rattle.std.proofs.Common.{◌≡◌, ℕ, ◌≤◌, max, List, refl, sym, ap, ◌∙◌, subst, arith}
 use Rattle.std.proofs.Math.Nat.{le-max_left}
 use Rattle.wal_core.specs.Moves.{unlocked, with_seen}
-use Rattle.wal_core.specs.Steps.{IsResting, load_position}
+use Rattle.wal_core.specs.Steps.{IsResting, load_flushed, load_position}
 use Rattle.wal_core.specs.Views.{View}
 use Rattle.wal_rule.specs.declared.seated.SeatedPass.{SeatedPass}
 use Rattle.wal_rule.specs.declared.writer.LogWriter.{LogWriter}
-use Rattle.wal_rule.specs.SeatedPasses.{HasView, Steps, hand_of, view_of}
+use Rattle.wal_rule.specs.SeatedPasses.{HasView, StandsAtRest, Steps, view_of}
 use Rattle.insert_locks.specs.Watching.{with_sight}
 use Rattle.word_ring.specs.Ring.{confirmed_view}
 use Rattle.wal_log.specs.declared.fault.Fault.{Fault}
 use Rattle.wal_log.specs.declared.fault.Fault.TheVariants.{Disk, Down}
 use Rattle.wal_log.specs.Downs.{FindsDown, KnowsNoFault}
 use Rattle.wal_log.specs.PassLogs.{log_of_pass}
-use Rattle.wal_log.specs.Standing.{KeepsPass, KeepsWork, SeesMore, StaysAtWork}
-use Rattle.wal_log.proofs.Keeping.{both_up, further_work, meets_since, same_work}
+use Rattle.wal_log.specs.Standing.{ComesToRest, KeepsPass, KeepsWork, SeesMore, StaysAtWork}
+use Rattle.wal_log.proofs.FlushLaws.{flushed_work}
+use Rattle.wal_log.proofs.Keeping.{both_up, further_work, meets_since, rested_on, same_work}
 use Rattle.wal_log.proofs.Seated.{further_seated, hand_is, seat_stays, view_is}
 use Rattle.wal_log.proofs.Trying.{HasTriedOn, rests_again}
 
@@ -85,6 +86,36 @@ looked_again old now paused new looked pause same up end met = record {
       (end_stays end paused new met);
   log = ap (λ (w : View). log_of_pass w) (view_is met) ∙ same ∙ looked.log;
   up = subst KnowsNoFault (sym (view_is met)) (record { met = up.met; set = up.set });
+}
+
+-- one look more, at the flushed address
+pub looked_at_flushed : {D : Type 0} → (old now new : SeatedPass D) (flushed : ℕ)
+    → HasLooked old now → Steps load_flushed flushed now new → HasLooked old new
+looked_at_flushed old now new flushed looked load =
+    let is = view_is load in record {
+      stays = worked_on old now new looked.stays (record {
+        stays = seat_stays load;
+        work = flushed_work flushed (view_of now) (view_of new) is;
+        hold = ap (λ (w : View). w.writing.hold) is;
+      });
+      log = ap (λ (w : View). log_of_pass w) is ∙ looked.log;
+      up = subst KnowsNoFault (sym is) (record {
+        met = (looked.up).met;
+        set = (looked.up).set;
+      });
+    }
+
+-- a pass at rest that stayed at its work is at rest
+pub rests_at_work : {D : Type 0} → (a b : SeatedPass D) → StandsAtRest a → StaysAtWork a b
+    → ComesToRest a b
+rests_at_work a b rests stays = record {
+  same_table = (stays.stays).same_table;
+  keeps = (stays.work).pass;
+  rests = record {
+    rests = rested_on (view_of a) (view_of b) stays.work
+        (stays.hold ∙ (rests.rests).hold) rests.rests;
+    empty = (stays.stays).same_hand ∙ rests.empty;
+  };
 }
 
 -- the down value was met behind looks

@@ -1,6 +1,6 @@
 -- A copy under locks: its next word lies far below the last address, and each step leaves a copy
 -- under them.
-use Rattle.std.proofs.Common.{◌≡◌, ℕ, ◌+◌, ◌*◌, ◌%◌, ◌^◌, ◌<◌, ◌≤◌, Contains, List, ◌∷◌, map, refl, sym, ap, ◌∙◌, subst, arith}
+use Rattle.std.proofs.Common.{◌≡◌, ℕ, ◌+◌, ◌*◌, ◌%◌, ◌^◌, ◌<◌, ◌≤◌, Contains, List, ◌∷◌, map, max, refl, sym, ap, ◌∙◌, subst, arith}
 use Rattle.std.proofs.Math.Logic.{∥∥₁_elim}
 use Rattle.std.specs.Coded.{Coded-set, coded_ℕ, le_prop}
 use Rattle.atomic_table.proofs.Lists.{at_map}
@@ -23,7 +23,7 @@ use Rattle.wal_rule.specs.Stepping.{Stands}
 use Rattle.insert_locks.specs.Holding.{HasTold}
 use Rattle.word_ring.specs.Copied.{CopiesPage, IsRestOf, copied_view, further, rest_of}
 use Rattle.word_ring.specs.Mapped.{IsOldPageUnwritten}
-use Rattle.word_ring.specs.Ring.{end_of_page}
+use Rattle.word_ring.specs.Ring.{confirmed_view, end_of_page}
 use Rattle.wal_rule.specs.declared.seated.SeatedPass.{SeatedPass}
 use Rattle.wal_rule.specs.SeatedPasses.{HasView, StaysSeated, setup_of, view_of}
 use Rattle.wal_log.specs.Copying.{CopyGoesOn, IsSamePlace, IsToldUnderAll, MapsPage, mapped_view}
@@ -330,6 +330,21 @@ page_stays p q a b c most count maps k =
     (subst (λ (s : PlacedState).
     StaysCopying (setup_of a) p s (view_of b) (copied_view count (view_of b)))
     (sym k.placed_is) (copied_stays (setup_of a) p (view_of b) count)))
+
+-- the end of some page was met, and so many words were copied
+pub there_stays : {D : Type 0} → (p q : PlacedState) (a b : SeatedPass D) (met count : ℕ)
+    → HasView (copied_view count (confirmed_view met (view_of a))) a b
+    → q ≡ record p { next = p.next + 8 * count }
+    → StaysCopying (setup_of a) p q (view_of a) (view_of b)
+there_stays p q a b met count has is =
+    let v : View = view_of a in
+    let setup : Setup = setup_of a in
+    let w : View = confirmed_view met v in
+    subst (λ (x : View). StaysCopying setup p q v x) (sym (view_is has))
+    (subst (λ (r : PlacedState). StaysCopying setup p r v (copied_view count w)) (sym is)
+    (stays_on setup p p (record p { next = p.next + 8 * count }) v w (copied_view count w)
+    (mapped_stays setup p v (max v.mapping.confirmed met) v.writing.written)
+    (copied_stays setup p w count)))
 
 -- a pass as it was, and one that has told how far its copy is
 pub goes_on_itself : {D : Type 0} → (a : SeatedPass D) → GoesOnSeated a a

@@ -16,6 +16,7 @@ pub mod NextWord
 pub mod Opens
 pub mod PageLaws
 pub mod Reopens
+mod RoomLaws
 pub mod Passing
 pub mod Plain
 pub mod Trying

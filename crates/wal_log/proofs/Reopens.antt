@@ -11,14 +11,14 @@ use Rattle.record_spelling.specs.Spelling.{word_at}
 use Rattle.segment_disk.specs.Tape.{Tape}
 use Rattle.wal_page.specs.Order.{Entry, IsChained, end_position}
 use Rattle.flush_core.specs.Planned.{IsPlanOf}
-use Rattle.flush_core.specs.Settled.{HasNotSettled, HasSettled}
+use Rattle.flush_core.specs.Settled.{HasSettled}
 use Rattle.flush_core.specs.declared.planning.SettlePlan.{SettlePlan}
 use Rattle.found_log.specs.declared.finding.FoundLog.{FoundLog}
 use Rattle.wal_core.specs.declared.setup.Setup.{Setup}
 use Rattle.wal_core.specs.Opened.{AreFirstWords, IsOpenable}
 use Rattle.wal_core.specs.Paged.{HoldsPage}
 use Rattle.wal_core.specs.Sound.{IsSetup}
-use Rattle.wal_core.specs.Words.{Opening, found_end, log_limit}
+use Rattle.wal_core.specs.Words.{Opening, found_end, log_limit, initialised_number, written_number, flushed_number, moment_number, down_number, ends_number}
 use Rattle.machine_words.specs.declared.first.LogEnd.{LogEnd}
 use Rattle.machine_words.specs.FirstWords.{IsEndOf, IsLastPage}
 use Rattle.wal_rule.specs.Founded.{found_log_opening}
@@ -65,15 +65,15 @@ module _ (setup : Setup) (valid : IsSetup setup) (log : FoundLog) (is : IsFoundW
 
 module _ (opening : Opening) (words : List ℕ) (first : AreFirstWords (record opening { moment = 0 }) words) where
   abbrev stored : List ℕ
-  stored = set words 15 opening.moment
+  stored = set words moment_number opening.moment
 
-  same_word : (n : ℕ) → (n ≡ 15 → ⊥) → slice_index stored n ≡ slice_index words n
-  same_word n other = get_or-set_other words 15 n opening.moment 0 other
+  same_word : (n : ℕ) → (n ≡ moment_number → ⊥) → slice_index stored n ≡ slice_index words n
+  same_word n other = get_or-set_other words moment_number n opening.moment 0 other
 
-  above : (n : ℕ) → 17 ≤ n → slice_index stored n ≡ slice_index words n
+  above : (n : ℕ) → ends_number ≤ n → slice_index stored n ≡ slice_index words n
   above n high = same_word n (λ e. absurd (omega (arith, e, high)))
 
-  below : (n : ℕ) → n < 15 → slice_index stored n ≡ slice_index words n
+  below : (n : ℕ) → n < moment_number → slice_index stored n ≡ slice_index words n
   below n low = same_word n (λ e. absurd (omega (arith, e, low)))
 
   abbrev pages : ℕ
@@ -81,18 +81,18 @@ module _ (opening : Opening) (words : List ℕ) (first : AreFirstWords (record o
 
   pub moment_stored : AreFirstWords opening stored
   moment_stored = record {
-    wide = length-set words 15 opening.moment ∙ first.wide;
+    wide = length-set words moment_number opening.moment ∙ first.wide;
     position = below 0 (omega arith) ∙ first.position;
     prev = below 1 (omega arith) ∙ first.prev;
     zeros = λ n low high. below n (omega (arith, high)) ∙ first.zeros n low high;
-    initialised = below 12 (omega arith) ∙ first.initialised;
-    written = below 13 (omega arith) ∙ first.written;
-    flushed = below 14 (omega arith) ∙ first.flushed;
-    moment = get_or-set_same words 15 opening.moment 0 (omega (arith, first.wide));
-    down = same_word 16 (λ e. absurd (omega (arith, e))) ∙ first.down;
-    async = above (17 + pages + pages * 1024) (omega arith) ∙ first.async;
-    ends = λ b less. subst (HoldsPage pages (found_end opening / 8192) (found_end opening / 8192 + pages) b) (sym (above (17 + b) (omega arith))) (first.ends b less);
-    ring = λ page j from to within. above (17 + pages + (page % pages * 1024 + j)) (omega arith) ∙ first.ring page j from to within;
+    initialised = below initialised_number (omega arith) ∙ first.initialised;
+    written = below written_number (omega arith) ∙ first.written;
+    flushed = below flushed_number (omega arith) ∙ first.flushed;
+    moment = get_or-set_same words moment_number opening.moment 0 (omega (arith, first.wide));
+    down = same_word down_number (λ e. absurd (omega (arith, e))) ∙ first.down;
+    async = above (ends_number + pages + pages * 1024) (omega arith) ∙ first.async;
+    ends = λ b less. subst (HoldsPage pages (found_end opening / 8192) (found_end opening / 8192 + pages) b) (sym (above (ends_number + b) (omega arith))) (first.ends b less);
+    ring = λ page j from to within. above (ends_number + pages + (page % pages * 1024 + j)) (omega arith) ∙ first.ring page j from to within;
   }
 
 -- ---- a log is opened behind the one that was found
@@ -145,7 +145,7 @@ module _ (setup : Setup) (valid : IsSetup setup) (log : FoundLog) (is : IsFoundW
   fixed_size = sym (ap (λ (o : Opening). (o.setup).segment_size) opening_is)
 
   -- the words are those of its moment
-  pub fixed_words : (words : List ℕ) → ((o : Opening) → IsOpenedBehind setup log 0 o → AreFirstWords o words) → AreFirstWords opening (set words 15 opening.moment)
+  pub fixed_words : (words : List ℕ) → ((o : Opening) → IsOpenedBehind setup log 0 o → AreFirstWords o words) → AreFirstWords opening (set words moment_number opening.moment)
   fixed_words words first = moment_stored opening words (first (record opening { moment = 0 }) (record {
     setup_is = ap (λ (o : Opening). o.setup) opening_is;
     moment_is = refl;
@@ -165,8 +165,3 @@ module _ (setup : Setup) (valid : IsSetup setup) (log : FoundLog) (is : IsFoundW
       subst (λ (size : ℕ). HasSettled size log.spelled.end.0 log.made old new m0 m1) (sym fixed_size)
       (subst (λ (end : ℕ). HasSettled (opening.setup).segment_size end log.made old new m0 m1) (sym fixed_end)
       (subst (λ (made : ℕ). HasSettled (opening.setup).segment_size (found_end opening) made old new m0 m1) (sym fixed_made) settled))
-
-  pub fixed_stopped : (old new : Option Tape) (m0 m1 : ℕ) → HasNotSettled (opening.setup).segment_size (found_end opening) old new m0 m1 → HasNotSettled setup.segment_size log.spelled.end.0 old new m0 m1
-  fixed_stopped old new m0 m1 stopped =
-      subst (λ (size : ℕ). HasNotSettled size log.spelled.end.0 old new m0 m1) (sym fixed_size)
-      (subst (λ (end : ℕ). HasNotSettled (opening.setup).segment_size end old new m0 m1) (sym fixed_end) stopped)

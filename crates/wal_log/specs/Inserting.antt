@@ -76,7 +76,7 @@ RefusesInsert setup body old new (Down faults None) =
 RefusesInsert setup body old new (Down faults (Some start)) =
     IsStarted setup body old new start.0 × MeetsDown faults old new
 
--- a record that starts here was not copied whole
+-- what an insert tells whose record starts here and which met a failed disk
 abbrev pub insert_err_of_fault : Lsn → Fault → InsertErr
 insert_err_of_fault start (faults.Disk n) = Disk n start
 insert_err_of_fault start (faults.Down n) = Down n (Some start)

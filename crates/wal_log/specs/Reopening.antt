@@ -5,7 +5,7 @@ use Rattle.segment_disk.specs.Cause.{Rose}
 use Rattle.segment_disk.specs.Tape.{IsUncalled, Tape}
 use Rattle.flush_core.specs.Settled.{HasNotSettled, HasSettled}
 use Rattle.wal_page.specs.Order.{Entry, end_position}
-use Rattle.found_log.specs.Found.{FindsLog, HasBegunToSettle, IsFound, RefusesLog}
+use Rattle.found_log.specs.Found.{HasBegunToSettle, IsFound, RefusesLog}
 use Rattle.found_log.specs.Spelled.{EndsSpelled, Reaches, spelled_entries}
 use Rattle.found_log.specs.declared.fault.FindFault.{FindFault}
 use Rattle.found_log.specs.declared.fault.FindFault.TheVariants as finding

@@ -1,10 +1,9 @@
 // A record's place is reserved under an insertion lock, by one try (PostgreSQL's xlog.c,
 // XLogInsertRecord, WALInsertLockAcquire, ReserveXLogInsertLocation). The pass comes with nothing
-// held. In this order: down (word 16) is loaded, a lock (2 to 9) is taken, the position (0) is
-// locked, and stored behind the record. The lock is taken before the position moves, so that a
-// watch that sees the record reserved finds it held until all is copied. It stays held with the
-// record in flight under it. A try that reserves nothing releases it: the caller waits with
-// nothing held.
+// held. In this order: down is loaded, a lock is taken, the position is locked, and stored behind
+// the record. The lock is taken before the position moves, so that a watch that sees the record
+// reserved finds it held until all is copied. It stays held with the record in flight under it. A
+// try that reserves nothing releases it: the caller waits with nothing held.
 ghost use Rattle.std.specs.Prelude.{◌≡◌, false, [], ◌∷◌, IsErrOf};
 ghost use Rattle.record_spelling.specs.Spelling.{is_assembled_switch};
 ghost use Rattle.wal_rule.specs.Downs.{KnowsDown};
@@ -50,7 +49,7 @@ pub enum TryErr {
 #[inline(always)]
 pub(crate) fn try_begin<'p, 'a, D: Disk>(
     seated: &mut SeatedPass<'p, D>,
-    body: &'a Body,
+    body: &'a Body<'a>,
 ) -> Result<Begun<'a>, TryErr>
     requires rests { StandsAtRest seated.old }
     requires inserted { is_assembled_switch body.now ≡ false }
@@ -81,7 +80,7 @@ pub(crate) fn try_begin<'p, 'a, D: Disk>(
 fn reserve_under<'p, 'a, D: Disk>(
     seated: &mut SeatedPass<'p, D>,
     lock: u32,
-    body: &'a Body,
+    body: &'a Body<'a>,
 ) -> Result<Begun<'a>, TryErr>
     requires holds { HoldsLocks (lock ∷ []) seated.old }
     requires up { KnowsNoFault (view_of seated.old) }

@@ -1,10 +1,10 @@
 // The log is flushed behind commits that were answered already (PostgreSQL's xlog.c,
-// XLogBackgroundFlush, as its WAL writer calls it). The down value is loaded (word 16), then the
-// flushed address (14), the async address (the last word), and the position (0) behind that: so
-// what is answered is seen reserved. Whole pages come first: where the page that holds the reserved
-// end starts above the flushed address, the log is flushed up to that start, else up to the async
-// address, also in the midst of a page. Where neither is above, nothing is to be done, and no
-// device call is made. No clock drives it: who calls it says how soon a commit becomes durable.
+// XLogBackgroundFlush, as its WAL writer calls it). The down value is loaded, then the flushed
+// address, the async address (the last word), and the position behind that: so what is answered is
+// seen reserved. Whole pages come first: where the page that holds the reserved end starts above
+// the flushed address, the log is flushed up to that start, else up to the async address, also in
+// the midst of a page. Where neither is above, nothing is to be done, and no device call is made.
+// No clock drives it: who calls it says how soon a commit becomes durable.
 ghost use Rattle.std.specs.Prelude.{◌≡◌};
 ghost use Rattle.wal_rule.specs.Downs.{KnowsDown};
 ghost use Rattle.wal_rule.specs.Passes.{view_of_pass};

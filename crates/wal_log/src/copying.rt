@@ -6,7 +6,7 @@
 // page to be replaced is not written. Where words are left it tells its progress under its locks,
 // which PostgreSQL does before it maps any page (WALInsertLockUpdateInsertingAt): a lock that tells
 // nothing holds every watcher back, also one that would write that page. An insert goes on from
-// there: it loads down (word 16) before it pauses.
+// there: it loads down before it pauses.
 ghost use Rattle.std.specs.Prelude.{◌≡◌, ◌<◌, ◌≤◌, ◌^◌, MatchResult};
 ghost use Rattle.insert_locks.specs.Holding.{locks_of};
 ghost use Rattle.wal_core.specs.Views.{Away};
@@ -28,7 +28,7 @@ use std::sync::Wait;
 use wal_page::Placed;
 use wal_rule::SeatedPass;
 use wal_types::Lsn;
-use word_ring::{MapTry, Presence, confirm, copy_page, map_ahead, try_map};
+use word_ring::{MapTry, Presence, confirm, copy_page, copy_present, map_ahead, try_map};
 
 // How many pages are mapped behind one that was needed, as far as their buffers are free: so most
 // copies find their page, and need no turn.
@@ -86,6 +86,55 @@ pub(crate) fn copy_whole<'p, 'a, D: Disk, R: Wait>(
     requires up { KnowsNoFault (view_of seated.old) }
     // However it ends, the record stays in flight under the locks; at Ok no word of it is left.
     // Else the disk failed in this call or before: the caller may give the copy up.
+    ensures copies { CopiesAlone (locks_of held) placed.new seated.new }
+    ensures ends { MatchResult result
+        (λ _. (placed.new.next ≡ placed_end placed.old) × KnowsNoFault (view_of seated.new))
+        (λ e. MeetsFault (view_of seated.old) (view_of seated.new) e) }
+    ensures copies_on { CopyGoesOn placed.old placed.new seated.old seated.new }
+{
+    copy_there(seated, end, placed);
+    if placed.next_lsn().0 < end.0 {
+        copy_rest(rt, seated, held, end, placed)
+    } else {
+        Ok(())
+    }
+}
+
+// Copies the words that are left, page by page, as long as their pages are in their buffers, which
+// are all words of most records. The last one ends at `end`. What is done else stands in functions
+// of its own, so that those inserts make no room for it.
+#[inline(always)]
+fn copy_there<'p, 'a, D: Disk>(seated: &mut SeatedPass<'p, D>, end: Lsn, placed: &mut Placed<'a>)
+    // The pass copies this record under locks, and does so still behind it.
+    requires copies { (locks : _) × CopiesAlone locks placed.old seated.old }
+    requires end { end.0 ≡ placed_end placed.old }
+    ensures copies { (locks : _) → CopiesAlone locks placed.old seated.old
+        → CopiesAlone locks placed.new seated.new }
+    ensures within { placed.new.next ≤ placed_end placed.old }
+    ensures up { KnowsNoFault (view_of seated.old) → KnowsNoFault (view_of seated.new) }
+    ensures copies_on { CopyGoesOn placed.old placed.new seated.old seated.new }
+{
+    'pages: while placed.next_lsn().0 < end.0 {
+        let next = placed.next_lsn().0;
+        if copy_present(seated, placed, next, end.0, u32::MAX) == 0 {
+            return;
+        }
+    }
+}
+
+// Copies the words that are left, and waits for pages that are not in their buffers. It leaves what
+// `copy_whole` leaves.
+#[inline(never)]
+fn copy_rest<'p, 'a, D: Disk, R: Wait>(
+    rt: &R,
+    seated: &mut SeatedPass<'p, D>,
+    held: Held,
+    end: Lsn,
+    placed: &mut Placed<'a>,
+) -> Result<(), Fault>
+    requires copies { CopiesAlone (locks_of held) placed.old seated.old }
+    requires end { end.0 ≡ placed_end placed.old }
+    requires up { KnowsNoFault (view_of seated.old) }
     ensures copies { CopiesAlone (locks_of held) placed.new seated.new }
     ensures ends { MatchResult result
         (λ _. (placed.new.next ≡ placed_end placed.old) × KnowsNoFault (view_of seated.new))

@@ -1,11 +1,10 @@
 // The log is flushed up to an address (PostgreSQL's xlog.c, XLogFlush). The pass holds nothing
-// before it and behind it. A try loads down (word 16), the reserved end (0) and the flushed address
-// (14), and if that suffices the moment (15). Else it watches the locks, and with the turn to write
-// it loads down and the flushed address again. If another flush has passed the address meanwhile,
-// the moment is loaded, and no device call is made. Else it writes what the watch told, stores that
-// as written (13), syncs, and stores the moment, then the flushed address. Since the moment is
-// stored before that address and loaded behind it, who finds an address flushed is told no moment
-// that is too early.
+// before it and behind it. A try loads down, the reserved end and the flushed address, and if that
+// suffices the moment. Else it watches the locks, and with the turn to write it loads down and the
+// flushed address again. If another flush has passed the address meanwhile, the moment is loaded,
+// and no device call is made. Else it writes what the watch told, stores that as written, syncs,
+// and stores the moment, then the flushed address. Since the moment is stored before that address
+// and loaded behind it, who finds an address flushed is told no moment that is too early.
 // PostgreSQL waits at locks and turn (WaitXLogInsertionsToFinish, LWLockAcquireOrWait). Here a try
 // ends there, and the next one begins anew.
 ghost use Rattle.std.specs.Prelude.{◌≡◌, ◌<◌, ◌≤◌, MatchOption, MatchResult};
@@ -36,6 +35,10 @@ use segment_disk::Disk;
 use std::sync::Wait;
 use wal_rule::{Pass, SeatedPass};
 use wal_types::{Hard, Lsn};
+
+// How often the flushed address is looked at before the turn is tried again, which also an insert
+// may have that makes room.
+const LOOKS: u32 = 64;
 
 /// Why one try of a flush told nothing. It looks in this order: whether the disk has failed before,
 /// whether the address is reserved, whether it is flushed already, at the locks, at the turn; with
@@ -154,16 +157,42 @@ pub(crate) fn flush_on<'p, D: Disk, R: Wait>(
     ensures rests { ComesToRest seated.old seated.new }
 {
     let mut patience = Patience::new();
+    let mut flushed = 0;
     for _ in rt.forever() {
         match try_flush(seated, upto) {
             Ok(hard) => return Ok(hard),
             Err(TryFlushErr::Fault(fault)) => return Err(FlushErr::from(fault)),
             Err(TryFlushErr::Unreserved { end }) => return Err(FlushErr::Unreserved { end }),
             Err(TryFlushErr::Behind { .. }) => patience.pause(rt),
-            Err(TryFlushErr::Turn { .. }) => patience.pause(rt),
+            Err(TryFlushErr::Turn { .. }) => await_flush(rt, seated, &mut flushed, &mut patience),
         }
     }
     unreachable!()
+}
+
+// Looks at the flushed address until it is another one than was known, but so many times at most,
+// and pauses behind each look: who has the turn to write is mostly in the midst of a sync. A try
+// loads ten words more than a look, and takes the turn's word from who has it.
+fn await_flush<'p, D: Disk, R: Wait>(
+    rt: &R,
+    seated: &mut SeatedPass<'p, D>,
+    known: &mut u64,
+    patience: &mut Patience,
+)
+    requires up { KnowsNoFault (view_of seated.old) }
+    // It has what it had, with its log, and knows of no failed disk.
+    ensures up { KnowsNoFault (view_of seated.new) }
+    ensures log { log_of_pass (view_of seated.new) ≡ log_of_pass (view_of seated.old) }
+    ensures stays { StaysAtWork seated.old seated.new }
+{
+    for _look in 0..LOOKS {
+        let flushed = seated.load_flushed();
+        if flushed != *known {
+            *known = flushed;
+            return;
+        }
+        patience.pause(rt);
+    }
 }
 
 // One try, which does not wait. At Ok the pass was promised what is told; else its log is as it

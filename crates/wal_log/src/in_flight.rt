@@ -37,7 +37,7 @@ impl<D: Disk> Wal<D> {
     pub fn try_begin<'a>(
         &self,
         mut pass: Pass,
-        body: &'a Body,
+        body: &'a Body<'a>,
     ) -> Result<Inflight<'a>, (TryErr, Pass)>
         requires pass { IsPassOfLog self.now pass }
         // A segment switch is no record to insert: it closes its segment under all locks.

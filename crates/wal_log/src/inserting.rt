@@ -16,7 +16,7 @@ ghost use Rattle.wal_log.specs.declared.inserting.InsertErr.TheVariants.{Down};
 
 use crate::beginning::{Begun, TryErr, try_begin};
 use crate::fault::Fault;
-use crate::landing::land;
+use crate::landing::land_and_make_room;
 use crate::wal::Wal;
 use crossbeam_utils::Backoff;
 use insert_locks::Held;
@@ -36,14 +36,15 @@ const LOOKS: u32 = 20;
 pub enum InsertErr {
     /// The log has fewer bytes left than the record takes up: how many.
     Full { free: u64 },
-    /// A device call failed in this call: the disk's count of faults then.
+    /// A device call failed in this call, for the room that the record needed or for room ahead of
+    /// it: the disk's count of faults then.
     Disk { faults: u64, start: Lsn },
     /// The disk has failed before: its count of faults then.
     Down { faults: u64, start: Option<Lsn> },
 }
 
 impl InsertErr {
-    // Why a record that starts here was not copied whole.
+    // What an insert tells whose record starts here and which met a failed disk.
     fn at(start: Lsn, fault: Fault) -> InsertErr
         ensures { result ≡ insert_err_of_fault start fault }
     {
@@ -60,7 +61,8 @@ impl InsertErr {
 impl<D: Disk> Wal<D> {
     /// Puts a record behind all that is reserved, and copies it. It is not durable before a flush.
     /// It waits for a free insertion lock and, where a page's buffer is wanted, for the page that
-    /// it holds to be written, which it does itself.
+    /// it holds to be written, which it does itself. Behind a record that came to a further page it
+    /// makes room half a ring ahead, and tells a fault of the disk that it meets there.
     pub fn insert<R: Wait>(
         &self,
         rt: &R,
@@ -105,7 +107,7 @@ pub(crate) fn insert_on<'p, D: Disk, R: Wait>(
 {
     let mut begun = begin(rt, seated, body)?;
     let held = Held::One(begun.lock);
-    match land(rt, seated, held, begun.end, &mut begun.placed) {
+    match land_and_make_room(rt, seated, held, begun.end, &mut begun.placed) {
         Ok(()) => Ok(Receipt {
             start: begun.start,
             end: begun.end,
@@ -119,7 +121,7 @@ pub(crate) fn insert_on<'p, D: Disk, R: Wait>(
 fn begin<'p, 'a, D: Disk, R: Wait>(
     rt: &R,
     seated: &mut SeatedPass<'p, D>,
-    body: &'a Body,
+    body: &'a Body<'a>,
 ) -> Result<Begun<'a>, InsertErr>
     requires rests { StandsAtRest seated.old }
     requires inserted { is_assembled_switch body.now ≡ false }

@@ -14,6 +14,8 @@ ghost use Rattle.wal_log.specs.Whole.{CopiesWhole};
 
 use crate::copying::copy_whole;
 use crate::fault::Fault;
+use crate::room::make_room;
+use byte_position::PAGE_SIZE;
 use insert_locks::{Held, release};
 use segment_disk::Disk;
 use std::sync::Wait;
@@ -56,4 +58,34 @@ pub(crate) fn land<'p, 'a, D: Disk, R: Wait>(
             Err(fault)
         }
     }
+}
+
+// The same of a record under its one lock; and behind it makes room ahead, if the record came to a
+// further page.
+#[inline(always)]
+pub(crate) fn land_and_make_room<'p, 'a, D: Disk, R: Wait>(
+    rt: &R,
+    seated: &mut SeatedPass<'p, D>,
+    held: Held,
+    end: Lsn,
+    placed: &mut Placed<'a>,
+) -> Result<(), Fault>
+    requires copies { CopiesAlone (locks_of held) placed.old seated.old }
+    requires end { end.0 ≡ placed_end placed.old }
+    requires up { KnowsNoFault (view_of seated.old) }
+    // Each word of the entry that was in flight was copied. Or the disk failed, in this call or
+    // before, perhaps once all words were copied.
+    ensures lands { (e : _) → entry_in_flight (view_of seated.old) ≡ some e
+        → MatchResult result (λ _. CopiesWhole (view_of seated.old) (view_of seated.new) e
+        × KnowsNoFault (view_of seated.new))
+        (λ fault. MeetsFault (view_of seated.old) (view_of seated.new) fault) }
+    ensures log { log_of_pass (view_of seated.new) ≡ log_of_pass (view_of seated.old) }
+    ensures rests { ComesToRest seated.old seated.new }
+{
+    let page = placed.next_lsn().0 / PAGE_SIZE;
+    land(rt, seated, held, end, placed)?;
+    if page < end.0 / PAGE_SIZE {
+        make_room(seated, page)?;
+    }
+    Ok(())
 }

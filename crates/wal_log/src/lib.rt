@@ -26,6 +26,7 @@ mod opening;
 mod patience;
 mod promised;
 mod reopening;
+mod room;
 pub mod shared_numbers;
 mod splitting;
 mod switching;

@@ -1,7 +1,7 @@
 // How far the log is durable is told, without a flush (PostgreSQL's xlog.c, GetFlushRecPtr). The
-// flushed address (word 14) is loaded, and then the moment (15): the moment of an address is stored
-// before it, and only later ones behind it, so no moment is told that is too early. No other word
-// is loaded: also where the disk has failed, what was durable before is so still.
+// flushed address is loaded, and then the moment: the moment of an address is stored before it, and
+// only later ones behind it, so no moment is told that is too early. No other word is loaded: also
+// where the disk has failed, what was durable before is so still.
 ghost use Rattle.wal_rule.specs.Passes.{view_of_pass};
 ghost use Rattle.wal_rule.specs.SeatedPasses.{StandsAtRest, view_of};
 ghost use Rattle.wal_log.specs.Flushing.{TellsHard};

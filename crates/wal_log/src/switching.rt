@@ -236,7 +236,7 @@ fn switch_under<'p, D: Disk, R: Wait>(
 fn reserve<'p, 'a, D: Disk, R: Wait>(
     rt: &R,
     seated: &mut SeatedPass<'p, D>,
-    body: &'a Body,
+    body: &'a Body<'a>,
 ) -> Result<SwitchTry<'a>, SwitchErr>
     requires switch { body.now ≡ assembled switch_record }
     requires has { HasLocks every_lock (view_of seated.old) }

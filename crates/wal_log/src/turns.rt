@@ -1,10 +1,10 @@
 // The turn to write, with the writer: taken, given back, and given back with the disk failed
-// (PostgreSQL's xlog.c, WALWriteLock). The turn (word 11) is taken by one exchange, down (16) is
-// loaded, and only then the writer is taken out of its slot. Until it is put back nobody else calls
-// the device, or stores the written (13) or flushed address (14), the moment (15) or down: so a
-// down of 0 that is loaded with the turn had stays 0 unless this pass sets it. The writer goes back
-// first, then the turn's word becomes 0. Before that all that it has written is stored as written,
-// or its fault as down: so who takes the turn next finds no fault that was not told.
+// (PostgreSQL's xlog.c, WALWriteLock). The turn is taken by one exchange, down is loaded, and only
+// then the writer is taken out of its slot. Until it is put back nobody else calls the device, or
+// stores the written or flushed address, the moment or down: so a down of 0 that is loaded with the
+// turn had stays 0 unless this pass sets it. The writer goes back first, then the turn's word
+// becomes 0. Before that all that it has written is stored as written, or its fault as down: so who
+// takes the turn next finds no fault that was not told.
 ghost use Rattle.std.specs.Prelude.{◌≡◌, [], MatchResult};
 ghost use mathlib.Core.Option.{some};
 ghost use Rattle.page_writing.specs.InHand.{HasHand, IsReady, known_copied, writer_in};

@@ -1,10 +1,10 @@
 // What is known to be copied is written out, with the writer in hand (PostgreSQL's xlog.c,
-// XLogWrite), and stored as written (word 13), so that its pages may be replaced. This is not
-// durable yet and nobody is told so: a sync and two stores come behind it, in a flush alone.
-// An insert that needs the buffer of a page not written (AdvanceXLInsertBuffer) comes here with its
-// insertion locks held and its record in flight. In this order: it tells its progress under its
-// locks, which would hold its own watch back else; it watches; it takes the turn to write and the
-// writer; it writes, stores what is written, and gives writer and turn back.
+// XLogWrite), and stored as written, so that its pages may be replaced. This is not durable yet and
+// nobody is told so: a sync and two stores come behind it, in a flush alone. An insert that needs
+// the buffer of a page not written (AdvanceXLInsertBuffer) comes here with its insertion locks held
+// and its record in flight. In this order: it tells its progress under its locks, which would hold
+// its own watch back else; it watches; it takes the turn to write and the writer; it writes, stores
+// what is written, and gives writer and turn back.
 ghost use Rattle.std.specs.Prelude.{◌≡◌, ◌≤◌, MatchResult};
 ghost use Rattle.insert_locks.specs.Holding.{HasTold, locks_of};
 ghost use Rattle.page_writing.specs.InHand.{IsReady, known_copied, writer_in};
@@ -131,6 +131,23 @@ pub(crate) fn write_early<'p, 'a, D: Disk>(
         (λ e. TellsWriteErr (view_of seated.old) (view_of seated.new) e) }
 {
     tell_progress(seated, held, placed);
+    write_copied(seated, upto)
+}
+
+// Writes all that is copied, where that reaches an address and the turn to write is free. The locks
+// are watched before the turn is taken: what the watch told stays true.
+pub(crate) fn write_copied<'p, D: Disk>(
+    seated: &mut SeatedPass<'p, D>,
+    upto: u64,
+) -> Result<(), WriteErr>
+    requires rests { HasNoTurn seated.old }
+    requires up { KnowsNoFault (view_of seated.old) }
+    // Locks, copy and log are as they were, and it has no turn behind it, however it ends.
+    ensures adds_nothing { AddsNothing seated.old seated.new }
+    ensures rests { HasNoTurn seated.new }
+    ensures ends { MatchResult result (λ _. KnowsNoFault (view_of seated.new))
+        (λ e. TellsWriteErr (view_of seated.old) (view_of seated.new) e) }
+{
     let known = match watch(seated, upto) {
         Watched::Finished { upto } => upto,
         Watched::Behind { lock, word } => return Err(WriteErr::Behind { lock, word }),

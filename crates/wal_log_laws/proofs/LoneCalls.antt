@@ -5,7 +5,7 @@ use Rattle.wal_types.specs.declared.answers.Hard.{Hard}
 use Rattle.record_spelling.specs.Spelling.{Assembled}
 use Rattle.wal_page.specs.Placed.{PlacedState}
 use Rattle.wal_core.specs.declared.setup.Setup.{Setup}
-use Rattle.wal_core.specs.Words.{Opening}
+use Rattle.wal_core.specs.Words.{Opening, lock_number}
 use Rattle.wal_core.specs.Failed.{KnowsOfFault}
 use Rattle.wal_core.specs.Locked.{HasTurn, HasWriteTurn}
 use Rattle.wal_core.specs.Moves.{with_told}
@@ -70,7 +70,7 @@ holds_none locks lock none has =
 
 -- a lock that it does not hold is free
 lock_free : (v : View) → IsLonePass v → KnowsNoFault v → (v.working).locks ≡ [] → (lock : ℕ)
-    → lock < 8 → (s : Stands v) → slice_index s.words (2 + lock) ≢ 0 → ⊥
+    → lock < 8 → (s : Stands v) → slice_index s.words (lock_number lock) ≢ 0 → ⊥
 lock_free v alone up none lock low s taken =
     holds_none (v.working).locks lock none
     ((held_in v alone s).locks (no_fault v up) lock low taken)

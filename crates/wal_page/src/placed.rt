@@ -30,7 +30,7 @@ use wal_types::Lsn;
 pub struct Placed<'a> {
     geometry: Geometry,
     sysid: u64,
-    body: &'a Body,
+    body: &'a Body<'a>,
     // The byte position at which the record starts, and how many bytes of the log it takes up.
     start: u64,
     room: u64,
@@ -63,7 +63,13 @@ impl<'a> Placed<'a> {
     /// A record that starts at a byte position, behind one that starts at `prev` (0 where there is
     /// none).
     #[inline(always)]
-    pub fn new(geometry: Geometry, sysid: u64, body: &'a Body, start: u64, prev: Lsn) -> Placed<'a>
+    pub fn new(
+        geometry: Geometry,
+        sysid: u64,
+        body: &'a Body<'a>,
+        start: u64,
+        prev: Lsn,
+    ) -> Placed<'a>
         requires whole { start % 8 ≡ 0 }
         requires within { start + assembled_room_at geometry start body.now < 2 ^ 60 }
         ensures { result ≡ record {
@@ -86,7 +92,7 @@ impl<'a> Placed<'a> {
     pub fn reserved(
         geometry: Geometry,
         sysid: u64,
-        body: &'a Body,
+        body: &'a Body<'a>,
         start: u64,
         room: u64,
         prev: Lsn,
@@ -122,7 +128,7 @@ impl<'a> Placed<'a> {
     pub fn at(
         geometry: Geometry,
         sysid: u64,
-        body: &'a Body,
+        body: &'a Body<'a>,
         start: u64,
         prev: Lsn,
         next: Lsn,

@@ -27,7 +27,6 @@ use wal_types::Lsn;
 /// The next record at or behind `start`, and where the one behind it stands: from a place, or
 /// where reading has not begun from where it begins. `end` is where reading ends, if it is given.
 /// The record's main data is put into `spare`.
-#[inline(always)]
 pub(crate) fn next_given<D: Disk>(
     alloc: Global,
     spare: Vec<u8>,
@@ -62,7 +61,6 @@ pub(crate) fn next_given<D: Disk>(
 }
 
 // Records before `start` are read and checked as any other, and passed over.
-#[inline(always)]
 fn read_given<D: Disk>(
     alloc: Global,
     spare: Vec<u8>,

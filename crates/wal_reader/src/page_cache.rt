@@ -41,7 +41,6 @@ impl PageCache {
     /// Holds a page from now on, where the log has it. A page that is held already is not read
     /// again, and one that ends above address 2^60 counts as not there. Once a read has failed
     /// nothing is held.
-    #[inline(always)]
     pub(crate) fn load<D: Disk>(&mut self, disk: &mut D, page: u64) -> Result<bool, Failed>
         // At true the page asked for is held, as the disk has it.
         ensures held { IfOk result (λ there. IsTrue there → self.new.number ≡ Some page) }

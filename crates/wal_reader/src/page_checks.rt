@@ -28,7 +28,9 @@ pub(crate) fn header_len(geometry: Geometry, page: u64) -> u32
     ensures value { result ≡ header_size geometry page }
     ensures valid { IsSegmentSize geometry }
 {
-    if page % (geometry.segment_size() / PAGE_SIZE) == 0 {
+    // That the size is valid rests on its own call.
+    let _size = geometry.segment_size();
+    if page % u64::from(geometry.pages()) == 0 {
         LONG_HEADER_LEN as u32
     } else {
         SHORT_HEADER_LEN as u32
@@ -36,7 +38,6 @@ pub(crate) fn header_len(geometry: Geometry, page: u64) -> u32
 }
 
 /// The checks of the page that is held, each told at the page's address.
-#[inline(always)]
 pub(crate) fn check_held(cache: &PageCache, page: u64, timeline: u32) -> Result<PageInfo, Answer>
     requires { page < 2 ^ 47 }
     ensures checks { Passes

@@ -31,7 +31,6 @@ impl RecordExtent {
     /// The byte position at which the next record starts, where this one has the value that was
     /// read.
     #[tactic(auto, unfolding(crate::specs::Decodes::next_position))]
-    #[inline(always)]
     pub(crate) fn next_position(self, geometry: Geometry, value: &Record) -> u64
         requires start { self.at.position < 2 ^ 60 }
         requires some { 0 < self.total }
@@ -47,7 +46,6 @@ impl RecordExtent {
 
     /// The end form of the byte position behind it. On the page that it starts on, this is as far
     /// behind its first byte's address as the position is behind its own.
-    #[inline(always)]
     pub(crate) fn end(self, geometry: Geometry, start: Lsn, next: u64) -> Lsn
         requires start { start.0 ≡ address_of geometry self.at.position }
         requires low { start.0 < 2 ^ 60 }

@@ -42,7 +42,6 @@ use wal_types::Lsn;
 /// in its place. Where an end was given, nothing at or above it is read. Whatever size a record
 /// claims, the room takes no more of it than what pages have that passed their checks. The record's
 /// main data is put into `spare`.
-#[inline(always)]
 pub(crate) fn read_record<D: Disk>(
     alloc: Global,
     spare: Vec<u8>,
@@ -76,11 +75,12 @@ pub(crate) fn read_record<D: Disk>(
     }
     let cursor = open_page(&mut buffers.cache, disk, at)?;
     let extent = claimed(&buffers.cache, cursor, at, end)?;
-    let opened = Gathering { extent, cursor };
     if extent.total <= PAGE_LEN - cursor.offset {
-        read_in_page(alloc, spare, &buffers.cache, opened)
+        read_in_page(alloc, spare, &buffers.cache, Gathering { extent, cursor })
     } else {
-        read_over_pages(alloc, spare, buffers, disk, opened)
+        // Told anew, so that the room of this call's answer is not that of the other's.
+        let read = read_over_pages(alloc, spare, buffers, disk, Gathering { extent, cursor })?;
+        Ok(read)
     }
 }
 

@@ -10,7 +10,7 @@ use Rattle.atomic_table.proofs.Lists.{at_map, set_again, set_else, set_here}
 use Rattle.wal_core.proofs.Lists.{at_below}
 use Rattle.wal_core.proofs.WordLists.{word_again}
 use Rattle.segment_disk.specs.Tape.{DiskState, Tape}
-use Rattle.wal_core.specs.Words.{Opening, write_turn}
+use Rattle.wal_core.specs.Words.{Opening, write_turn, write_turn_number}
 use Rattle.wal_core.specs.Views.{Hold, Plain, Turned, View, writer_of, Lent}
 use Rattle.wal_core.specs.Locked.{StandsTo}
 use Rattle.wal_core.specs.Moves.{after_join, orphan_of, spent, split_off, after_split, without_work}
@@ -244,11 +244,11 @@ module _ {D : Type 0} (tape : D → Rattle.std.specs.Prelude.Option Tape) (momen
         stands.2
 
     pub goes_out : MayStep me.0 slot_out → (told : Rattle.std.specs.Prelude.Option Tape) → told ≡ began
-        → (of : Opening) → of ≡ opening → Allows Held slots id me 11 (λ n. n)
+        → (of : Opening) → of ≡ opening → Allows Held slots id me write_turn_number (λ n. n)
         (λ r n. (w : LogWriter D) × IsOutOf tape moment faults told of r w me n × Stands n.0)
     goes_out may told told_is of of_is s k _ here _ =
         let one = k.one in
-        let met : ℕ = slice_index s.words 11 in
+        let met : ℕ = slice_index s.words write_turn_number in
         let turned : (me.0).writing.hold ≡ Turned = may in
         let found = is_home s.homes (k.sound).writer (at_home turned s k here) in
         let p : Plain = slot_plain tape moment found.0 in
@@ -282,11 +282,11 @@ module _ {D : Type 0} (tape : D → Rattle.std.specs.Prelude.Option Tape) (momen
 
     pub comes_in : (l : Lent) (w : LogWriter D)
         → HasInHand tape moment faults began opening me l w → MayStep me.0 slot_in
-        → Allows Held slots id me 11 (λ n. n)
+        → Allows Held slots id me write_turn_number (λ n. n)
         (λ r n. (n ≡ (view_behind me.0 slot_in r none, [])) × Stands n.0)
     comes_in l w has may s k _ here _ =
         let one = k.one in
-        let met : ℕ = slice_index s.words 11 in
+        let met : ℕ = slice_index s.words write_turn_number in
         let home : Option Plain = home_of tape moment faults s.homes in
         let v : View = view_behind me.0 slot_in met none in
         let returned_is : returned mine (me.0).writing.hold home
@@ -296,7 +296,7 @@ module _ {D : Type 0} (tape : D → Rattle.std.specs.Prelude.Option Tape) (momen
         let kept = stepped slot_in may s k here
         (home_of tape moment faults (set s.homes 0 (some w))) v
         (home_some s.homes w k.one ∙ sym returned_is) refl in
-        let back : IsRuled tape moment faults opening began (set s.words 11 met)
+        let back : IsRuled tape moment faults opening began (set s.words write_turn_number met)
         (set s.homes 0 (some w)) (set s.views id v) = record {
           one = length-set s.homes 0 (some w) ∙ k.one;
           of_log = λ x at. subst (λ (y : LogWriter D). IsOfLog tape faults began opening y)
@@ -309,7 +309,7 @@ module _ {D : Type 0} (tape : D → Rattle.std.specs.Prelude.Option Tape) (momen
           gives,
           tt,
           subst (λ (c : List (ℕ × LogWriter D)). IsRuled tape moment faults opening began
-              (set s.words 11 met) (put_back s.homes c) (set s.views id v)) (sym has.slot) back,
+              (set s.words write_turn_number met) (put_back s.homes c) (set s.views id v)) (sym has.slot) back,
           (
             ap (λ (c : List (ℕ × LogWriter D)). (v, rest c)) has.slot,
             stands_in s k here _ _ v refl back.sound,

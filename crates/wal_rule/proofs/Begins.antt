@@ -4,7 +4,7 @@ use mathlib.Core.Option.{Option, none, some, some-injective, some-ne-none}
 use lib.ListN.{get_elem?}
 use Rattle.atomic_table.specs.Table.{State, Me, Allows, Final, Seen, gives, rest, takes}
 use Rattle.segment_disk.specs.Tape.{IsUncalled, Tape}
-use Rattle.wal_core.specs.Words.{Opening}
+use Rattle.wal_core.specs.Words.{Opening, write_turn_number}
 use Rattle.wal_core.specs.Views.{Idle, Turned, Out, Hold, Plain, View}
 use Rattle.wal_core.specs.Opened.{AreFirstWords, IsFirstWriter, IsOpenable, first_view}
 use Rattle.wal_core.proofs.WordLists.{word_again}
@@ -85,8 +85,8 @@ module _ {D : Type 0} (tape : D → Rattle.std.specs.Prelude.Option Tape) (momen
 
   -- what a load leaves of the words
   loaded_words : (s : State (LogWriter D) View) → Begun s
-      → AreFirstWords opening (set s.words 11 (slice_index s.words 11))
-  loaded_words s b = subst (AreFirstWords opening) (sym (word_again s.words 11)) b.words_are
+      → AreFirstWords opening (set s.words write_turn_number (slice_index s.words write_turn_number))
+  loaded_words s b = subst (AreFirstWords opening) (sym (word_again s.words write_turn_number)) b.words_are
 
   module _ (slots id : ℕ) where
     -- what a step tells that takes the writer out
@@ -96,7 +96,7 @@ module _ {D : Type 0} (tape : D → Rattle.std.specs.Prelude.Option Tape) (momen
         × IsTold old.0 w × (new ≡ (reading_view (old.0).opening, (0, w) ∷ []))
 
     goes_out : (writer : Plain) (count : ℕ)
-        → Allows Whole slots id (waiting_view opening writer count, []) 11 (λ n. n)
+        → Allows Whole slots id (waiting_view opening writer count, []) write_turn_number (λ n. n)
         (λ r n. TakesOut began (waiting_view opening writer count, []) n)
     goes_out writer count s h _ here _ =
         let waits : View = waiting_view opening writer count in
@@ -121,11 +121,11 @@ module _ {D : Type 0} (tape : D → Rattle.std.specs.Prelude.Option Tape) (momen
     module _ (me : Me (LogWriter D) View) (writer : Plain) (count : ℕ)
         (is : me ≡ (waiting_view opening writer count, []))
         (told : Rattle.std.specs.Prelude.Option Tape) (told_is : told ≡ began) where
-      pub takes_out : Allows Whole slots id me 11 (λ n. n) (λ r n. TakesOut told me n)
+      pub takes_out : Allows Whole slots id me write_turn_number (λ n. n) (λ r n. TakesOut told me n)
       takes_out = subst
-          (λ (t : Rattle.std.specs.Prelude.Option Tape). Allows Whole slots id me 11 (λ n. n)
+          (λ (t : Rattle.std.specs.Prelude.Option Tape). Allows Whole slots id me write_turn_number (λ n. n)
           (λ r n. TakesOut t me n)) (sym told_is)
-          (subst (λ (m : Me (LogWriter D) View). Allows Whole slots id m 11 (λ n. n)
+          (subst (λ (m : Me (LogWriter D) View). Allows Whole slots id m write_turn_number (λ n. n)
           (λ r n. TakesOut began m n)) (sym is) (goes_out writer count))
 
       -- the writer that it took out
@@ -180,11 +180,11 @@ module _ {D : Type 0} (tape : D → Rattle.std.specs.Prelude.Option Tape) (momen
 
       begins_with : IsUncalledWriter tape moment opening began w → IsOpenable opening
           → faults (slot_disk w) ≡ opening.faults
-          → Allows Whole slots id in_hand 11 (λ n. n)
+          → Allows Whole slots id in_hand write_turn_number (λ n. n)
           (λ r n. (n ≡ (first_view opening, [])) × Stands n.0)
       begins_with uncalled new up s h _ here _ =
           let b = reads s h here in
-          let words : List ℕ = set s.words 11 (slice_index s.words 11) in
+          let words : List ℕ = set s.words write_turn_number (slice_index s.words write_turn_number) in
           let first : View = first_view opening in
           let k = begun uncalled new up words (loaded_words s b) in (
             first,
@@ -201,10 +201,10 @@ module _ {D : Type 0} (tape : D → Rattle.std.specs.Prelude.Option Tape) (momen
       pub begins : (me : Me (LogWriter D) View) → me ≡ in_hand
           → IsUncalledWriter tape moment opening began w → IsOpenable opening
           → faults (slot_disk w) ≡ opening.faults
-          → Allows Whole slots id me 11 (λ n. n)
+          → Allows Whole slots id me write_turn_number (λ n. n)
           (λ r n. (n ≡ (first_view (me.0).opening, [])) × Stands n.0)
       begins me is uncalled new up = subst (λ (m : Me (LogWriter D) View).
-          Allows Whole slots id m 11 (λ n. n)
+          Allows Whole slots id m write_turn_number (λ n. n)
           (λ r n. (n ≡ (first_view (m.0).opening, [])) × Stands n.0)) (sym is)
           (begins_with uncalled new up)
 
@@ -214,7 +214,7 @@ module _ {D : Type 0} (tape : D → Rattle.std.specs.Prelude.Option Tape) (momen
           ≡ (waiting_view (old.0).opening (slot_plain tape moment x) (faults (slot_disk x)), [])
 
       comes_back : IsUnbegunWriter tape opening began w
-          → Allows Whole slots id in_hand 11 (λ n. n) (λ r n. Waits in_hand n)
+          → Allows Whole slots id in_hand write_turn_number (λ n. n) (λ r n. Waits in_hand n)
       comes_back ours s h _ here _ =
           let b = reads s h here in
           let waiting : View =
@@ -236,9 +236,9 @@ module _ {D : Type 0} (tape : D → Rattle.std.specs.Prelude.Option Tape) (momen
 
       pub waits_again : (me : Me (LogWriter D) View) → me ≡ in_hand
           → IsUnbegunWriter tape opening began w
-          → Allows Whole slots id me 11 (λ n. n) (λ r n. Waits me n)
+          → Allows Whole slots id me write_turn_number (λ n. n) (λ r n. Waits me n)
       waits_again me is ours = subst (λ (m : Me (LogWriter D) View).
-          Allows Whole slots id m 11 (λ n. n) (λ r n. Waits m n)) (sym is) (comes_back ours)
+          Allows Whole slots id m write_turn_number (λ n. n) (λ r n. Waits m n)) (sym is) (comes_back ours)
 
   -- a seat has the writer in hand
   pub has_out : (me : Me (LogWriter D) View) (w : LogWriter D)

@@ -9,7 +9,7 @@ use Rattle.segment_disk.specs.declared.disk.Call.{Call}
 use Rattle.segment_disk.specs.Cause.{Rose}
 use Rattle.segment_disk.specs.Tape.{DiskState, Tape, create_call, failed_call, sync_call, write_call}
 use Rattle.flush_core.specs.declared.writer.DiskFault.{DiskFault}
-use Rattle.wal_core.specs.Words.{Opening}
+use Rattle.wal_core.specs.Words.{Opening, write_turn_number}
 use Rattle.wal_core.specs.Views.{Hold, Idle, Lent, Out, Plain, Turned, View}
 use Rattle.wal_core.specs.Suited.{tape_from}
 use Rattle.wal_core.specs.Moves.{one_call_more, Done, Failed, CallOutcome, is_counted, is_done, with_hold, with_outcome}
@@ -244,7 +244,7 @@ may_call v (syncs segment) outcome may fault = (may.0, fault)
 -- ---- the step
 
 word_called : (v : View) (call : DeviceCall) (outcome : CallOutcome)
-    → word_of_step v (step_of_call call outcome) ≡ 11
+    → word_of_step v (step_of_call call outcome) ≡ write_turn_number
 word_called v (creates segment) outcome = refl
 word_called v (writes segment page upto bytes) outcome = refl
 word_called v (syncs segment) outcome = refl
@@ -399,7 +399,7 @@ module _ {D : Type 0} (tape : D → Rattle.std.specs.Prelude.Option Tape) (momen
 
     pub catches_up : (slots id : ℕ) → ((me.0).reserving).live ≡ true
         → MayStep me.0 (step_of_call call Done) → (told_began : Rattle.std.specs.Prelude.Option Tape) → told_began ≡ began
-        → (of : Opening) → of ≡ opening → Allows Held slots id me 11 (λ n. n)
+        → (of : Opening) → of ≡ opening → Allows Held slots id me write_turn_number (λ n. n)
         (λ r n. DeviceCallEnds tape moment faults told_began of call result me.0 n × Stands n.0)
     catches_up slots id live may told_began began_is of of_is s k _ here _ =
         let v : View = me.0 in
@@ -413,7 +413,7 @@ module _ {D : Type 0} (tape : D → Rattle.std.specs.Prelude.Option Tape) (momen
         (stepped tape moment faults opening began slots id me live made
         (may_made may) s k here home told (home_called v call (called.ends).outcome home)
         (told_view (slice_index s.words word) home)) in
-        let left : SoundAndRises first opening (set s.words 11 (slice_index s.words 11)) home
+        let left : SoundAndRises first opening (set s.words write_turn_number (slice_index s.words write_turn_number)) home
         after = subst (λ (i : ℕ).
         SoundAndRises first opening (set s.words i (slice_index s.words i)) home
         after) (word_called v call (called.ends).outcome) kept in (

@@ -1,11 +1,11 @@
 // Calls of the device, each one step of the table, by the pass that has the writer in hand
 // (PostgreSQL's xlog.c, XLogFileInit, XLogWrite, issue_xlog_fsync, with WALWriteLock held). Others
-// step meanwhile, and no word changes by it: the load of the turn's word (11) behind each call is
-// the step by which the view is told of it. What a call rests on (`may`) is asked of one that is
-// done: the writer has met no fault; a segment is made while none waits for a sync, and before its
-// first page is written; a page's words were loaded, and are copied as far as it is written.
-// However the call ends, the writer stays in hand; behind a fault it keeps the disk's count, and
-// its view lets no further call be made: down is to be set, and the writer put back.
+// step meanwhile, and no word changes by it: the load of the turn's word behind each call is the
+// step by which the view is told of it. What a call rests on (`may`) is asked of one that is done:
+// the writer has met no fault; a segment is made while none waits for a sync, and before its first
+// page is written; a page's words were loaded, and are copied as far as it is written. However the
+// call ends, the writer stays in hand; behind a fault it keeps the disk's count, and its view lets
+// no further call be made: down is to be set, and the writer put back.
 ghost use Rattle.std.specs.Prelude.{◌≡◌};
 ghost use Rattle.wal_core.specs.Moves.{Done};
 ghost use Rattle.wal_core.specs.Steps.{create, sync, write, MayStep};

@@ -1,5 +1,5 @@
 //! What passes know of a disk that has failed: one count of faults, which who met the fault stored
-//! in the down word (16) for all others.
+//! in the down word for all others.
 
 ghost use Rattle.std.specs.Prelude.{◌≡◌, ℕ};
 ghost use Rattle.segment_disk.specs.Cause.{Rose};

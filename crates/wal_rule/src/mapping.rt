@@ -1,11 +1,11 @@
 // The turn to map a page, and its steps (PostgreSQL's xlog.c, AdvanceXLInsertBuffer, which holds
-// WALBufMappingLock). Who has the turn (word 10) loads the initialised end (word 12), which is
-// where the new page begins, and then the written address (word 13, `load_written`). Only where the
-// page that the buffer holds ends at or below it, that page's end word is cleared; then the
-// buffer's words are zeroed, the new page's end word is stored, and behind it the initialised end.
-// So no word is lost that is not written, and nobody stores into the buffer while its end word is
-// 0. Before the end word is cleared the turn may be given back, and behind the last store, but not
-// between. As each step (quiet.rt) these are made by a seated pass whose view lets it step.
+// WALBufMappingLock). Who has the turn loads the initialised end, which is where the new page
+// begins, and then the written address (`load_written`). Only where the page that the buffer holds
+// ends at or below it, that page's end word is cleared; then the buffer's words are zeroed, the new
+// page's end word is stored, and behind it the initialised end. So no word is lost that is not
+// written, and nobody stores into the buffer while its end word is 0. Before the end word is
+// cleared the turn may be given back, and behind the last store, but not between. As each step
+// (quiet.rt) these are made by a seated pass whose view lets it step.
 ghost use Rattle.std.specs.Prelude.{◌≡◌, ◌<◌};
 ghost use Rattle.wal_core.specs.Steps.{clear_end, load_initialised_end, publish_end, publish_initialised_end, release_mapping_turn, take_mapping_turn, zero_ring_word, MayStep, value_behind, word_of_step};
 ghost use Rattle.wal_rule.specs.Stepping.{Meets};
@@ -14,6 +14,7 @@ ghost use Rattle.wal_rule.specs.SeatedPasses.{Steps, view_of};
 use crate::plays::OfKind;
 use crate::quiet::NO_OPERANDS;
 use crate::seated::SeatedPass;
+use crate::table::LogTable;
 use machine_words::layout::{INITIALISED_END, MAPPING_TURN};
 use segment_disk::Disk;
 
@@ -96,7 +97,19 @@ impl<'a, D: Disk> SeatedPass<'a, D> {
         requires may { MayStep (view_of self.old) zero_ring_word }
         ensures steps { Steps zero_ring_word 0 self.old self.new }
     {
-        self.stores::<ZeroesRingWord>(place, 0, NO_OPERANDS);
+        self.zero_ring_word_at(self.table, place);
+    }
+
+    /// The same, where the caller has taken the pass's table out of it: so a run of stores looks it
+    /// up once.
+    #[inline(always)]
+    pub fn zero_ring_word_at(&mut self, table: &LogTable<D>, place: usize)
+        requires table { table.now ≡ self.old.table.now }
+        requires place { place ≡ word_of_step (view_of self.old) zero_ring_word }
+        requires may { MayStep (view_of self.old) zero_ring_word }
+        ensures steps { Steps zero_ring_word 0 self.old self.new }
+    {
+        self.stores_at::<ZeroesRingWord>(table, place, 0, NO_OPERANDS);
     }
 
     /// Stores the page's end, by the number of its buffer's end word: from now on the page is

@@ -1,12 +1,12 @@
 // How far the log is reserved, written, durable and answered, and whether its disk has failed
-// (PostgreSQL's xlog.c, LogwrtResult, asyncXactLSN): words 0, 13 to 16 and the last one. Each pass
-// may load them. Only who has the writer in hand stores 13 to 16: what is written (13); behind a
-// sync the disk's moment (15); behind both the flushed address (14). Who loads 14 and then 15 is
-// promised that all below the one is durable from the other on: its moment was stored before it,
-// and one that is stored meanwhile is later, so nothing is promised too early. Down (16) is set by
-// who met the fault, to the disk's count, and stays. The last word tells up to where commits are
-// answered that may not be durable: anybody raises it, to what it has seen reserved at most. As
-// each step (quiet.rt) these are made by a seated pass whose view lets it step.
+// (PostgreSQL's xlog.c, LogwrtResult, asyncXactLSN). Each pass may load these words. Only who has
+// the writer in hand stores what is written; behind a sync the disk's moment; behind both the
+// flushed address. Who loads the flushed address and then the moment is promised that all below the
+// one is durable from the other on: its moment was stored before it, and one that is stored
+// meanwhile is later, so nothing is promised too early. Down is set by who met the fault, to the
+// disk's count, and stays. The last word tells up to where commits are answered that may not be
+// durable: anybody raises it, to what it has seen reserved at most. As each step (quiet.rt) these
+// are made by a seated pass whose view lets it step.
 ghost use Rattle.std.specs.Prelude.{◌≡◌, ◌≢◌, ℕ, ◌<◌, ◌≤◌, ◌^◌, All};
 ghost use Rattle.segment_disk.specs.Cause.{Rose};
 ghost use Rattle.wal_core.specs.Moves.{unlocked};

@@ -13,6 +13,7 @@ ghost use Rattle.wal_rule.specs.SeatedPasses.{Steps, view_of};
 
 use crate::plays::{Finds, OfKind, Quietly};
 use crate::seated::SeatedPass;
+use crate::table::LogTable;
 use segment_disk::Disk;
 
 /// The operands of a step's kind, by which its call picks the kind for the proof; nothing else
@@ -39,10 +40,28 @@ impl<'a, D: Disk> SeatedPass<'a, D> {
         ensures steps { Steps K.kind result self.old self.new }
         ensures met { Meets (view_of self.old) K.kind result }
     {
-        self.table
-            .table
-            .shared
-            .load::<Finds<K>>(&mut self.seat, word)
+        self.loads_at::<K>(self.table, word, operands)
+    }
+
+    // The same, where the caller has taken the table out of the pass: so a run of steps looks it up
+    // once.
+    #[inline(always)]
+    pub(crate) fn loads_at<K: OfKind>(
+        &mut self,
+        table: &LogTable<D>,
+        word: usize,
+        operands: Operands,
+    ) -> u64
+        requires table { table.now ≡ self.old.table.now }
+        requires quiet { IsQuiet K.kind }
+        requires word { word ≡ word_of_step (view_of self.old) K.kind }
+        requires there { word < self.old.table.now.table.shared.table_id.words }
+        requires may { MayStep (view_of self.old) K.kind }
+        requires loads { (met : ℕ) → met ≡ value_behind (view_of self.old) K.kind met }
+        ensures steps { Steps K.kind result self.old self.new }
+        ensures met { Meets (view_of self.old) K.kind result }
+    {
+        table.table.shared.load::<Finds<K>>(&mut self.seat, word)
     }
 
     // A step of a kind that stores a word, whatever it held.
@@ -57,7 +76,30 @@ impl<'a, D: Disk> SeatedPass<'a, D> {
             (view_of self.old) K.kind other none }
         ensures steps { Steps K.kind 0 self.old self.new }
     {
-        self.table
+        self.stores_at::<K>(self.table, word, value, operands);
+    }
+
+    // The same, where the caller has taken the table out of the pass.
+    #[inline(always)]
+    pub(crate) fn stores_at<K: OfKind>(
+        &mut self,
+        table: &LogTable<D>,
+        word: usize,
+        value: u64,
+        operands: Operands,
+    )
+        requires table { table.now ≡ self.old.table.now }
+        requires quiet { IsQuiet K.kind }
+        requires word { word ≡ word_of_step (view_of self.old) K.kind }
+        requires there { word < self.old.table.now.table.shared.table_id.words }
+        requires may { MayStep (view_of self.old) K.kind }
+        requires stores { (met : ℕ) → value ≡ value_behind (view_of self.old) K.kind met }
+        requires meets_none { (met other : ℕ)
+            → view_behind (view_of self.old) K.kind met none ≡ view_behind
+            (view_of self.old) K.kind other none }
+        ensures steps { Steps K.kind 0 self.old self.new }
+    {
+        table
             .table
             .shared
             .store::<Quietly<K>>(&mut self.seat, word, value)

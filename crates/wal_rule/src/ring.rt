@@ -14,6 +14,7 @@ ghost use Rattle.wal_rule.specs.SeatedPasses.{Steps, view_of};
 use crate::plays::OfKind;
 use crate::quiet::{NO_OPERANDS, Operands};
 use crate::seated::SeatedPass;
+use crate::table::LogTable;
 use machine_words::layout::BUFFER_ENDS;
 use segment_disk::Disk;
 use std::marker::Brand;
@@ -44,7 +45,20 @@ impl<'a, D: Disk> SeatedPass<'a, D> {
         requires value { word ≡ value_behind (view_of self.old) store_ring_word 0 }
         ensures steps { Steps store_ring_word 0 self.old self.new }
     {
-        self.stores::<StoresRingWord>(place, word, NO_OPERANDS);
+        self.store_ring_word_at(self.table, place, word);
+    }
+
+    /// The same, where the caller has taken the pass's table out of it: so a run of stores looks it
+    /// up once.
+    #[inline(always)]
+    pub fn store_ring_word_at(&mut self, table: &LogTable<D>, place: usize, word: u64)
+        requires table { table.now ≡ self.old.table.now }
+        requires place { place ≡ word_of_step (view_of self.old) store_ring_word }
+        requires may { MayStep (view_of self.old) store_ring_word }
+        requires value { word ≡ value_behind (view_of self.old) store_ring_word 0 }
+        ensures steps { Steps store_ring_word 0 self.old self.new }
+    {
+        self.stores_at::<StoresRingWord>(table, place, word, NO_OPERANDS);
     }
 
     /// Loads the log's k-th word for a write, from its place in the ring. The pass has the writer
@@ -54,7 +68,18 @@ impl<'a, D: Disk> SeatedPass<'a, D> {
         requires may { MayStep (view_of self.old) (load_ring_word k) }
         ensures steps { Steps (load_ring_word k) result self.old self.new }
     {
-        self.loads::<Brand>(place, one(k))
+        self.load_ring_word_at(self.table, k, place)
+    }
+
+    /// The same, where the caller has taken the pass's table out of it.
+    #[inline(always)]
+    pub fn load_ring_word_at(&mut self, table: &LogTable<D>, k: u64, place: usize) -> u64
+        requires table { table.now ≡ self.old.table.now }
+        requires place { place ≡ word_of_step (view_of self.old) (load_ring_word k) }
+        requires may { MayStep (view_of self.old) (load_ring_word k) }
+        ensures steps { Steps (load_ring_word k) result self.old self.new }
+    {
+        self.loads_at::<Brand>(table, place, one(k))
     }
 }
 

@@ -1,10 +1,10 @@
 // The turn to write, and the writer in its slot (PostgreSQL's xlog.c, WALWriteLock). Who meets 0 in
-// the turn's word (11) has the turn, and nobody else; it may take the writer out of its slot. Only
-// with the writer in hand the device is called, and written, moment, flushed and down are stored:
-// so the device's calls come one after another. The writer goes back once its written address is
-// stored, or, behind a fault, once down is set: so whoever takes it next finds in the words how far
-// it came. Then the turn is given back. As each step (quiet.rt) these are made by a seated pass
-// whose view lets it step.
+// the turn's word has the turn, and nobody else; it may take the writer out of its slot. Only with
+// the writer in hand the device is called, and written, moment, flushed and down are stored: so the
+// device's calls come one after another. The writer goes back once its written address is stored,
+// or, behind a fault, once down is set: so whoever takes it next finds in the words how far it
+// came. Then the turn is given back. As each step (quiet.rt) these are made by a seated pass whose
+// view lets it step.
 ghost use Rattle.std.specs.Prelude.{◌≡◌, ◌≢◌, ℕ, true, false, []};
 ghost use mathlib.Core.Option.{none};
 ghost use Rattle.wal_core.specs.Steps.{release_write_turn, slot_in, slot_out, take_write_turn, view_behind, MayStep};

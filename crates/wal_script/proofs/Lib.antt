@@ -2,6 +2,7 @@ pub mod BlockLists
 pub mod Cuts
 pub mod Fits
 pub mod FittingBlocks
+pub mod Inserts
 pub mod Pairs
 pub mod ReplayLaws
 pub mod Replays

@@ -8,6 +8,11 @@ abbrev pub behind : List ℕ → Option (List ℕ) → Option (List ℕ)
 behind front None = None
 behind front (Some bytes) = Some (front ++ bytes)
 
+-- nothing stands in front
+pub behind-nil : (rest : Option (List ℕ)) → behind [] rest ≡ rest
+behind-nil None = refl
+behind-nil (Some bytes) = refl
+
 -- a byte that was read joins those in front
 pub behind-push : (front : List ℕ) (byte : ℕ) (rest : Option (List ℕ)) → behind front (onto (Some byte) rest) ≡ behind (front ++ byte ∷ []) rest
 behind-push front byte None = refl

@@ -2,6 +2,7 @@
 use Rattle.std.specs.Prelude.{ℕ, ◌+◌, ◌-◌, ◌^◌, List, [], ◌∷◌, length, take, Option, Some, None, Result, Ok, Err, count_by, codes, ◌==◌, nat_lt, if◌then◌else◌, option_and_then}
 use Rattle.std.specs.Int.{w64, to_le_bytes}
 use Rattle.wal_types.specs.declared.record.Record.{Record}
+use Rattle.wal_types.specs.declared.record.Xid.{Xid}
 use Rattle.record_spelling.specs.declared.fault.BodyErr.{BodyErr}
 use Rattle.record_spelling.specs.declared.fault.BodyErr.TheVariants as causes
 use Rattle.record_spelling.specs.Refusal.{refusal_of}
@@ -37,6 +38,24 @@ unless (Some fault) x = Err fault
 abbrev pub accepted : Record → Result Record ScriptFault
 accepted r = unless (option_and_then assembly_fault (refusal_of r)) r
 
+-- the record of a header and main data, with the blocks that fields spell
+abbrev pub record_with : Xid → ℕ → ℕ → List ℕ → List (List ℕ) → Result Record ScriptFault
+record_with xid manager info main fields = do
+  blocks ← references_from 0 fields
+  Ok (record {
+    xid = xid;
+    rmid = manager;
+    info = info;
+    origin = None;
+    top_xid = None;
+    blocks = blocks;
+    main = main;
+  })
+
+-- the same, if it can be assembled
+abbrev pub insert_with : Xid → ℕ → ℕ → List ℕ → List (List ℕ) → Result Record ScriptFault
+insert_with xid manager info main fields = record_with xid manager info main fields >>= accepted
+
 -- the record that the fields behind `I` spell: a transaction's number, a manager, its info, the
 -- main data, and any block references
 abbrev pub record_spelled : List (List ℕ) → Result Record ScriptFault
@@ -45,16 +64,7 @@ record_spelled fields = do
   manager ← next_as (number_of 255) faults.Number xid.rest
   info ← next_as byte_spelled faults.Hex manager.rest
   main ← next_as data_of faults.Hex info.rest
-  blocks ← references_from 0 main.rest
-  Ok (record {
-    xid = record { 0 = xid.value };
-    rmid = manager.value;
-    info = info.value;
-    origin = None;
-    top_xid = None;
-    blocks = blocks;
-    main = main.value;
-  })
+  record_with (record { 0 = xid.value }) manager.value info.value main.value main.rest
 
 -- the fields behind `I`, whose record can be assembled
 abbrev pub insert_of : List (List ℕ) → Result Record ScriptFault

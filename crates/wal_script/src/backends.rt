@@ -10,6 +10,8 @@ use crate::fields::no_more;
 use crate::line::{Action, Line, ScriptFault};
 use crate::line_error::LineError;
 use crate::parser::{ParseError, SCRIPT_LIMIT, action_by};
+use crate::rooms::Rooms;
+use bumpalo::Bump;
 use std::alloc::Global;
 use text_parts::{Parts, cut};
 
@@ -27,19 +29,19 @@ pub(crate) struct ScheduleText<'a> {
 
 /// What was read of a script up to a line `S`, or up to its end where it has none.
 #[derive(Drop)]
-pub(crate) struct Backends<'a> {
+pub(crate) struct Backends<'a, 'b> {
     /// The lines of each backend.
-    pub lines: Vec<Vec<Line>>,
-    pub schedule: Option<ScheduleText<'a>>,
+    pub lines: Vec<Vec<Line<'a>>>,
+    pub schedule: Option<ScheduleText<'b>>,
 }
 
 /// What one line does.
 #[derive(Drop)]
-enum LineRead {
+enum LineRead<'a> {
     /// Nothing: it is empty or a comment.
     Pass,
     /// It asks this of its backend.
-    Ask(Action),
+    Ask(Action<'a>),
     /// The next backend begins, if no field stands behind the letter.
     Begin { is_alone: bool },
     /// The backends end.
@@ -48,17 +50,18 @@ enum LineRead {
 
 /// The lines of each backend, and where the schedule stands, if the script takes one; or its first
 /// refusal.
-pub(crate) fn read_backends(
+pub(crate) fn read_backends<'a, 'b>(
     alloc: Global,
-    script: &[u8],
+    arena: Option<&'a Bump>,
+    script: &'b [u8],
     takes_schedule: bool,
-) -> Result<Backends, ParseError>
+) -> Result<Backends<'a, 'b>, ParseError>
     requires { length script.now ≤ SCRIPT_LIMIT }
     ensures read { GivesBackends result
         (backends_from takes_schedule 1 [] [] (lines_of script.now)) }
     ensures within { IfOk result (HasReadBackends (length script.now)) }
 {
-    let mut room = Vec::new(alloc);
+    let mut rooms = Rooms::new(alloc, arena);
     let mut before = Vec::new(alloc);
     let mut lines = Vec::new(alloc);
     let mut number = 0;
@@ -67,7 +70,9 @@ pub(crate) fn read_backends(
         let (line, behind) = cut(text, b'\n');
         rest = behind;
         number += 1;
-        match read_line(alloc, &mut room, line, takes_schedule).map_err(|cause| cause.at(number))? {
+        match read_line(alloc, &mut rooms, line, takes_schedule).map_err(|cause| cause.at(
+            number,
+        ))? {
             LineRead::Pass => {}
             LineRead::Ask(action) => lines.push(Line { number, action })?,
             LineRead::Begin { is_alone } => {
@@ -108,27 +113,29 @@ fn begin_fault(backends: usize, is_alone: bool) -> Option<ScriptFault>
 }
 
 // What a line does.
-fn read_line(
+#[inline(always)]
+fn read_line<'a>(
     alloc: Global,
-    room: &mut Vec<u8>,
+    rooms: &mut Rooms<'a>,
     line: &[u8],
     takes_schedule: bool,
-) -> Result<LineRead, LineError>
+) -> Result<LineRead<'a>, LineError>
     ensures { StepGives result (script_line_of takes_schedule line.now) }
 {
     match line {
         [] | [b'#', ..] => Ok(LineRead::Pass),
-        _ => read_fields(alloc, room, Parts::of(line, b' '), takes_schedule),
+        _ => read_fields(alloc, rooms, Parts::of(line, b' '), takes_schedule),
     }
 }
 
 // What a line does by its fields.
-fn read_fields(
+#[inline(always)]
+fn read_fields<'a>(
     alloc: Global,
-    room: &mut Vec<u8>,
+    rooms: &mut Rooms<'a>,
     mut fields: Parts,
     takes_schedule: bool,
-) -> Result<LineRead, LineError>
+) -> Result<LineRead<'a>, LineError>
     ensures { StepGives result (script_line_with takes_schedule fields.entry) }
 {
     match fields.next() {
@@ -140,29 +147,31 @@ fn read_fields(
             no_more(fields)?;
             Ok(LineRead::End)
         }
-        Some(word) => backend_line(alloc, room, word, fields, takes_schedule),
+        Some(word) => backend_line(alloc, rooms, word, fields, takes_schedule),
         None => Err(LineError::Fault(ScriptFault::Word)),
     }
 }
 
 // What a line of a backend does.
-fn backend_line(
+#[inline(always)]
+fn backend_line<'a>(
     alloc: Global,
-    room: &mut Vec<u8>,
+    rooms: &mut Rooms<'a>,
     word: &[u8],
     fields: Parts,
     takes_schedule: bool,
-) -> Result<LineRead, LineError>
+) -> Result<LineRead<'a>, LineError>
     ensures { StepGives result
         (of_backend (backend_line_with takes_schedule word.now fields.entry)) }
 {
     if takes_schedule && is_of_runs(word) {
         return Err(LineError::Fault(ScriptFault::Word));
     }
-    Ok(LineRead::Ask(action_by(alloc, room, word, fields)?))
+    Ok(LineRead::Ask(action_by(alloc, rooms, word, fields)?))
 }
 
 // Whether a letter is one of runs alone.
+#[inline(always)]
 fn is_of_runs(word: &[u8]) -> bool
     ensures { result ≡ is_of_runs word.now }
 {

@@ -7,12 +7,11 @@ ghost use Rattle.decimal_numbers.specs.Numbers.{number_of, time_of};
 ghost use Rattle.wal_script.specs.Reading.{Judges, JudgesAs};
 ghost use Rattle.wal_script.specs.declared.line.ScriptFault.TheVariants as faults;
 
-use crate::hexadecimal::{byte, data_in};
+use crate::hexadecimal::{byte, put_data};
 use crate::line::ScriptFault;
 use crate::line_error::LineError;
 use decimal_numbers::{number, time};
 use text_parts::Parts;
-use wal_types::Bytes;
 
 // The next field as a number of at most `most`.
 #[inline(always)]
@@ -27,6 +26,7 @@ fn next_number(fields: &mut Parts, most: u64) -> Result<u64, LineError>
 }
 
 /// The next field as a number of 32 bits.
+#[inline(always)]
 pub(crate) fn next_u32(fields: &mut Parts) -> Result<u32, LineError>
     ensures { JudgesAs
         (λ n. record { value = n; rest = fields.new }) result
@@ -36,6 +36,7 @@ pub(crate) fn next_u32(fields: &mut Parts) -> Result<u32, LineError>
 }
 
 /// The next field as a number of 8 bits.
+#[inline(always)]
 pub(crate) fn next_u8(fields: &mut Parts) -> Result<u8, LineError>
     ensures { JudgesAs
         (λ n. record { value = n; rest = fields.new }) result
@@ -55,6 +56,7 @@ pub(crate) fn next_time(fields: &mut Parts) -> Result<u64, LineError>
 }
 
 /// The next field as a byte in two hexadecimal digits.
+#[inline(always)]
 pub(crate) fn next_byte(fields: &mut Parts) -> Result<u8, LineError>
     ensures { JudgesAs
         (λ b. record { value = b; rest = fields.new }) result
@@ -65,14 +67,15 @@ pub(crate) fn next_byte(fields: &mut Parts) -> Result<u8, LineError>
 }
 
 /// The next field as data, in a vector that holds nothing.
-pub(crate) fn next_data(room: Vec<u8>, fields: &mut Parts) -> Result<Bytes, LineError>
-    requires { room.items ≡ [] }
+#[inline(always)]
+pub(crate) fn next_data(bytes: &mut Vec<u8>, fields: &mut Parts) -> Result<(), LineError>
+    requires { bytes.old.items ≡ [] }
     ensures { JudgesAs
-        (λ bytes. record { value = bytes; rest = fields.new }) result
+        (λ _. record { value = bytes.new.items; rest = fields.new }) result
         (next_as data_of faults.Hex fields.old) }
 {
     let field = fields.next().ok_or(ScriptFault::Count)?;
-    data_in(room, field)
+    put_data(bytes, field)
 }
 
 /// No field is left.

@@ -1,6 +1,6 @@
 //! Bytes as scripts spell them.
 
-ghost use Rattle.std.specs.Prelude.{◌≡◌, []};
+ghost use Rattle.std.specs.Prelude.{◌≡◌, [], ◌∷◌};
 ghost use Rattle.std.specs.Option.{ok_or};
 ghost use Rattle.decimal_numbers.specs.Hexadecimal.{hexadecimal_value};
 ghost use Rattle.wal_script.specs.Hexadecimal.{byte_spelled, bytes_of, data_of, pair_of, repeated_of};
@@ -16,6 +16,7 @@ use wal_types::Bytes;
 // How many bytes `COUNT*hh` may spell.
 const MOST_COPIES: u64 = 1_048_576;
 
+#[inline(always)]
 fn pair(high: u8, low: u8) -> Option<u8>
     ensures { result ≡ pair_of (hexadecimal_value high) (hexadecimal_value low) }
 {
@@ -25,6 +26,7 @@ fn pair(high: u8, low: u8) -> Option<u8>
 }
 
 /// A field of two digits as a byte.
+#[inline(always)]
 pub(crate) fn byte(field: &[u8]) -> Option<u8>
     ensures { result ≡ byte_spelled field.now }
 {
@@ -38,42 +40,46 @@ pub(crate) fn byte(field: &[u8]) -> Option<u8>
 pub(crate) fn data(alloc: Global, field: &[u8]) -> Result<Bytes, LineError>
     ensures { Judges result (ok_or (data_of field.now) faults.Hex) }
 {
-    data_in(Vec::new(alloc), field)
-}
-
-/// The same, in a vector that holds nothing.
-pub(crate) fn data_in(room: Vec<u8>, field: &[u8]) -> Result<Bytes, LineError>
-    requires { room.items ≡ [] }
-    ensures { Judges result (ok_or (data_of field.now) faults.Hex) }
-{
-    let bytes = match field {
-        [] => return Err(LineError::Fault(ScriptFault::Hex)),
-        [b'-'] => room,
-        [count @ .., b'*', high, low] => repeated(room, count, &[*high, *low])?,
-        digits => bytes(room, digits)?,
-    };
+    let mut bytes = Vec::new(alloc);
+    put_data(&mut bytes, field)?;
     Ok(Bytes::of(bytes))
 }
 
-// As many bytes as a count says.
-fn repeated(mut bytes: Vec<u8>, count: &[u8], hexadecimal: &[u8]) -> Result<Vec<u8>, LineError>
-    requires { bytes.items ≡ [] }
-    ensures { JudgesAs (λ v. v.items) result
-        (ok_or (repeated_of count.now hexadecimal.now) faults.Hex) }
+/// Puts a data field's bytes into a vector that holds nothing.
+#[inline(always)]
+pub(crate) fn put_data(bytes: &mut Vec<u8>, field: &[u8]) -> Result<(), LineError>
+    requires { bytes.old.items ≡ [] }
+    ensures { JudgesAs (λ _. bytes.new.items) result (ok_or (data_of field.now) faults.Hex) }
+{
+    match field {
+        [] => Err(LineError::Fault(ScriptFault::Hex)),
+        [b'-'] => Ok(()),
+        [count @ .., b'*', high, low] => put_copies(bytes, count, *high, *low),
+        digits => put_bytes(bytes, digits),
+    }
+}
+
+// Puts as many bytes as a count says.
+#[inline(always)]
+fn put_copies(bytes: &mut Vec<u8>, count: &[u8], high: u8, low: u8) -> Result<(), LineError>
+    requires { bytes.old.items ≡ [] }
+    ensures { JudgesAs (λ _. bytes.new.items) result
+        (ok_or (repeated_of count.now (high ∷ low ∷ [])) faults.Hex) }
 {
     let count = match number(count, MOST_COPIES) {
         None | Some(0) => return Err(LineError::Fault(ScriptFault::Hex)),
         Some(count) => count as usize,
     };
-    let filler = byte(hexadecimal).ok_or(ScriptFault::Hex)?;
+    let filler = pair(high, low).ok_or(ScriptFault::Hex)?;
     bytes.resize(count, filler)?;
-    Ok(bytes)
+    Ok(())
 }
 
-// The bytes of digits, two each.
-fn bytes(mut bytes: Vec<u8>, digits: &[u8]) -> Result<Vec<u8>, LineError>
-    requires { bytes.items ≡ [] }
-    ensures { JudgesAs (λ v. v.items) result (ok_or (bytes_of digits.now) faults.Hex) }
+// Puts the bytes of digits, two each.
+#[inline(never)]
+fn put_bytes(bytes: &mut Vec<u8>, digits: &[u8]) -> Result<(), LineError>
+    requires { bytes.old.items ≡ [] }
+    ensures { JudgesAs (λ _. bytes.new.items) result (ok_or (bytes_of digits.now) faults.Hex) }
 {
     bytes.reserve(digits.len() / 2)?;
     let mut rest = digits;
@@ -82,7 +88,7 @@ fn bytes(mut bytes: Vec<u8>, digits: &[u8]) -> Result<Vec<u8>, LineError>
         rest = behind;
     }
     if rest.is_empty() {
-        Ok(bytes)
+        Ok(())
     } else {
         Err(LineError::Fault(ScriptFault::Hex))
     }

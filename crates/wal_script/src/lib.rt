@@ -12,6 +12,7 @@ mod line_error;
 mod parser;
 mod records;
 mod replay;
+mod rooms;
 mod run;
 mod text;
 

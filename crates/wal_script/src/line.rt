@@ -4,26 +4,26 @@ use record_spelling::Body;
 
 /// What a line asks for, with its record assembled.
 #[derive(Debug, Drop)]
-pub enum Action {
+pub enum Action<'a> {
     /// Insert this record.
-    Insert(Body),
+    Insert(Body<'a>),
     /// Insert this commit's record, then flush to its end.
-    Commit(Body),
+    Commit(Body<'a>),
     /// Flush to the end of the backend's last record.
     Flush,
     /// Insert this commit's record, and answer before it is durable.
-    CommitAsync(Body),
+    CommitAsync(Body<'a>),
     /// Flush behind, as a log writer does: whole pages first, else what was answered.
     WriteBehind,
     /// End the segment with this record, unless the log stands at a segment's start.
-    Switch(Body),
+    Switch(Body<'a>),
 }
 
 /// A line of a script. Lines are numbered from 1, all of them.
 #[derive(Debug, Drop)]
-pub struct Line {
+pub struct Line<'a> {
     pub number: u32,
-    pub action: Action,
+    pub action: Action<'a>,
 }
 
 /// Why a line is refused.

@@ -1,5 +1,5 @@
-ghost use Rattle.std.specs.Prelude.{◌≡◌, ◌+◌, ◌<◌, ◌≤◌, ◌==◌, ◌∷◌, IfErr, IfOk, length, count_by};
-ghost use Rattle.wal_script.specs.Text.{lines_of};
+ghost use Rattle.std.specs.Prelude.{◌≡◌, ◌+◌, ◌<◌, ◌≤◌, ◌==◌, ◌∷◌, IfErr, IfOk, codes, count_by, false, length};
+ghost use Rattle.wal_script.specs.Text.{is_text, lines_of};
 ghost use Rattle.wal_script.specs.declared.parser.ParseError.TheVariants.{Refused};
 ghost use Rattle.wal_script.specs.Meaning.{line_with, line_of, lines_meaning, backend_meaning, script_limit, script_too_long};
 ghost use Rattle.wal_script.specs.Reading.{DoesAny, DoesLine, GivesLines, LineGives};
@@ -8,6 +8,7 @@ use crate::fields::no_more;
 use crate::line::{Action, Line, Refusal, ScriptFault};
 use crate::line_error::LineError;
 use crate::records::{commit, insert};
+use crate::rooms::Rooms;
 use record_spelling::Body;
 use std::alloc::{AllocError, AllocFailed, Global};
 use text_parts::Parts;
@@ -49,7 +50,7 @@ impl<T: Drop> From<AllocFailed<T>> for ParseError {
 ///
 /// `script` is what was read, at most one byte beyond the limit: a longer script is refused at the
 /// line of that byte.
-pub fn parse(alloc: Global, script: &[u8]) -> Result<Vec<Line>, ParseError>
+pub fn parse(alloc: Global, script: &[u8]) -> Result<Vec<Line<'static>>, ParseError>
     requires { length script.now ≤ SCRIPT_LIMIT + 1 }
     ensures { GivesLines result (backend_meaning script.now) }
 {
@@ -83,16 +84,18 @@ pub(crate) fn line_feeds(text: &[u8]) -> u32
 }
 
 // The lines of a script within its limit.
-fn lines(alloc: Global, script: &[u8]) -> Result<Vec<Line>, ParseError>
+fn lines(alloc: Global, script: &[u8]) -> Result<Vec<Line<'static>>, ParseError>
     requires { length script.now ≤ SCRIPT_LIMIT }
     ensures { GivesLines result (lines_meaning 1 (lines_of script.now)) }
 {
-    let mut room = Vec::new(alloc);
+    let mut rooms = Rooms::new(alloc, None);
     let mut lines = Vec::new(alloc);
     let mut number = 0;
     for line in Parts::of(script, b'\n') {
         number += 1;
-        if let Some(action) = action_of(alloc, &mut room, line).map_err(|cause| cause.at(number))? {
+        if let Some(action) = action_of(alloc, &mut rooms, line).map_err(|cause| cause.at(
+            number,
+        ))? {
             lines.push(Line { number, action })?;
         }
     }
@@ -100,43 +103,68 @@ fn lines(alloc: Global, script: &[u8]) -> Result<Vec<Line>, ParseError>
 }
 
 // What a line asks for: nothing where it is empty or a comment.
-fn action_of(alloc: Global, room: &mut Vec<u8>, line: &[u8]) -> Result<Option<Action>, LineError>
+fn action_of<'a>(
+    alloc: Global,
+    rooms: &mut Rooms<'a>,
+    line: &[u8],
+) -> Result<Option<Action<'a>>, LineError>
     ensures { LineGives DoesAny result (line_of line.now) }
 {
     match line {
         [] | [b'#', ..] => Ok(None),
-        _ => Ok(Some(action(alloc, room, Parts::of(line, b' '))?)),
+        _ => Ok(Some(action(alloc, rooms, Parts::of(line, b' '))?)),
     }
 }
 
 // What a line's fields ask for; the first that is wrong, from the left, is its fault.
-fn action(alloc: Global, room: &mut Vec<u8>, mut fields: Parts) -> Result<Action, LineError>
+fn action<'a>(
+    alloc: Global,
+    rooms: &mut Rooms<'a>,
+    mut fields: Parts,
+) -> Result<Action<'a>, LineError>
     ensures { LineGives DoesLine result (line_with fields.entry) }
 {
     match fields.next() {
-        Some(word) => action_by(alloc, room, word, fields),
+        Some(word) => action_by(alloc, rooms, word, fields),
         None => Err(LineError::Fault(ScriptFault::Word)),
     }
 }
 
 /// What a line asks for by its first field and those behind it. A record's data is spelled out in
-/// the room.
-pub(crate) fn action_by(
+/// its room.
+#[inline(always)]
+pub(crate) fn action_by<'a>(
     alloc: Global,
-    room: &mut Vec<u8>,
+    rooms: &mut Rooms<'a>,
     word: &[u8],
     fields: Parts,
-) -> Result<Action, LineError>
+) -> Result<Action<'a>, LineError>
     ensures { LineGives DoesLine result (line_with (word.now ∷ fields.entry)) }
 {
     match word {
-        b"I" => Ok(Action::Insert(insert(alloc, room, fields)?)),
-        b"C" => Ok(Action::Commit(commit(alloc, room, fields)?)),
+        b"I" => Ok(Action::Insert(insert(alloc, rooms, fields)?)),
+        _ => other_action(alloc, rooms, word, fields),
+    }
+}
+
+// The same of a line whose first field is not `I`.
+#[inline(never)]
+fn other_action<'a>(
+    alloc: Global,
+    rooms: &mut Rooms<'a>,
+    word: &[u8],
+    fields: Parts,
+) -> Result<Action<'a>, LineError>
+    requires { is_text word.now (codes "I") ≡ false }
+    ensures { LineGives DoesLine result (line_with (word.now ∷ fields.entry)) }
+{
+    match word {
+        b"C" => Ok(Action::Commit(commit(alloc, rooms, fields)?)),
         b"F" => {
             no_more(fields)?;
             Ok(Action::Flush)
         }
-        b"A" => Ok(Action::CommitAsync(commit(alloc, room, fields)?)),
+        b"A" => Ok(Action::CommitAsync(commit(alloc, rooms, fields)?)),
         b"L" => {
             no_more(fields)?;
             Ok(Action::WriteBehind)

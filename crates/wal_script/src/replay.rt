@@ -15,7 +15,7 @@ use std::alloc::Global;
 #[derive(Debug, Drop)]
 pub struct Replay {
     /// The lines of each backend, in order; there are from 1 to 64 backends.
-    pub backends: Vec<Vec<Line>>,
+    pub backends: Vec<Vec<Line<'static>>>,
     /// Which backend has the next turns; each is there.
     pub schedule: Schedule,
 }
@@ -48,7 +48,7 @@ pub fn parse_replay(alloc: Global, script: &[u8]) -> Result<Replay, ParseError>
     ensures { GivesReplay result (replay_meaning script.now) }
 {
     within_limit(script)?;
-    let read = read_backends(alloc, script, true)?;
+    let read = read_backends(alloc, None, script, true)?;
     let schedule = read_schedule(alloc, read.schedule, read.lines.len() as u32)?;
     Ok(Replay {
         backends: read.lines,

@@ -10,27 +10,29 @@ ghost use Rattle.wal_script.specs.RunReading.{GivesRun};
 use crate::backends::{MOST_BACKENDS, read_backends};
 use crate::line::{Action, Line, Refusal, ScriptFault};
 use crate::parser::{ParseError, SCRIPT_LIMIT, line_feeds, within_limit};
+use bumpalo::Bump;
 use std::alloc::{AllocError, Global};
 
 /// Reads the script of a run: the lines of each backend, parted by lines `B`; or its first refusal,
 /// by line and then by field from the left. There are from 1 to 64 backends. A line `S` is no line
-/// of a run.
+/// of a run. The bytes of the records' bodies lie in the arena.
 ///
 /// Where the run has a log writer, its lines stand last, as many as are asked for: each flushes
 /// behind. It is a backend more, and refused at the script's last line where the script has 64.
 ///
 /// `script` is what was read, at most one byte beyond the limit: a longer script is refused at the
 /// line of that byte.
-pub fn parse_run(
+pub fn parse_run<'a>(
     alloc: Global,
+    arena: &'a Bump,
     script: &[u8],
     writer: Option<u32>,
-) -> Result<Vec<Vec<Line>>, ParseError>
+) -> Result<Vec<Vec<Line<'a>>>, ParseError>
     requires { length script.now ≤ SCRIPT_LIMIT + 1 }
     ensures { GivesRun result (run_meaning writer script.now) }
 {
     within_limit(script)?;
-    let backends = read_backends(alloc, script, false)?.lines;
+    let backends = read_backends(alloc, Some(arena), script, false)?.lines;
     match writer {
         Some(count) => add_writer(alloc, backends, count, last_line(script)),
         None => Ok(backends),
@@ -47,13 +49,13 @@ fn last_line(script: &[u8]) -> u32
 
 // A writer's lines behind those of all backends; or, where there are as many as may be, its
 // refusal at this line.
-fn add_writer(
+fn add_writer<'a>(
     alloc: Global,
-    mut backends: Vec<Vec<Line>>,
+    mut backends: Vec<Vec<Line<'a>>>,
     count: u32,
     line: u32,
-) -> Result<Vec<Vec<Line>>, ParseError>
-    ensures { (asked : List (List AskedLine)) → AreBackendsOf asked backends.items
+) -> Result<Vec<Vec<Line<'a>>>, ParseError>
+    ensures { (asked : List (List AskedLine)) → AreBackendsOf asked backends.entry.items
         → GivesRun result (with_log_writer count line asked) }
 {
     if backends.len() >= MOST_BACKENDS {
@@ -67,7 +69,7 @@ fn add_writer(
 }
 
 // The lines of a writer, numbered from 1.
-fn writer_lines(alloc: Global, count: u32) -> Result<Vec<Line>, AllocError>
+fn writer_lines<'a>(alloc: Global, count: u32) -> Result<Vec<Line<'a>>, AllocError>
     ensures { IfOk result (λ lines. AreLinesOf (writer_lines count) lines.items) }
 {
     let mut lines = Vec::new(alloc);

@@ -7,6 +7,7 @@ use mathlib.Core.Option.{Option, some, none}
 use Rattle.byte_position.specs.Geometry.{IsSegmentSize, pages_of}
 use Rattle.byte_position.proofs.SegmentSizes.{segment_size_in_pages}
 use Rattle.segment_disk.specs.Tape.{create_call, sync_call, write_call}
+use Rattle.wal_core.specs.Words.{write_turn_number}
 use Rattle.wal_core.specs.Aligned.{IsKnownAligned}
 use Rattle.wal_core.specs.Views.{Lent, Out, View}
 use Rattle.wal_core.specs.Moves.{CallOutcome, Done, Failed, after_create, after_write, after_sync, is_done}
@@ -158,7 +159,7 @@ module _ (m : Machine) (ask : Ask) where
         let may = next_write valid known on made in
         let event : CallOutcome → StepKind = λ (o : CallOutcome).
         write segment (page % pages_of size) upto (page_staged here) o in
-        let met = slice_index (m.state).words 11 in
+        let met = slice_index (m.state).words write_turn_number in
         by_outcome (λ (o : CallOutcome).
         let e = event o in
         let w = view_behind here e met (m.state).home in
@@ -196,7 +197,7 @@ module _ (m : Machine) (ask : Ask) where
         let behind : CallOutcome → Lent = λ (o : CallOutcome).
         record l { writer = after_sync call o l.writer } in
         let may = next_sync waits.1.0 waits.1.1 in
-        let met = slice_index (m.state).words 11 in
+        let met = slice_index (m.state).words write_turn_number in
         by_outcome (λ (o : CallOutcome).
         let w = view_behind here (sync segment o) met (m.state).home in
         MayStep here (sync segment o) × StandsNext (behind_call here w ask met

@@ -1,6 +1,6 @@
 -- Only with the writer in hand is the down word set.
 use Rattle.std.proofs.Common.{◌≡◌, ◌≢◌, ◌⊎◌, inl, inr, ℕ, ◌<◌, List, Contains, set, slice_index, ap, arith}
-use Rattle.wal_core.specs.Words.{down_word}
+use Rattle.wal_core.specs.Words.{down_word, down_number}
 use Rattle.wal_core.specs.Views.{Lent, Out, View}
 use Rattle.wal_core.specs.Steps.{StepKind, MayStep, word_of_step, value_behind, load_position, take_write_turn, slot_out, slot_in, release_write_turn, lock_position, load_prev, store_prev, store_position, give_position_back, stay, load_lock, take_lock, advance, release, load_buffer_end, store_ring_word, load_ring_word, load_written, load_flushed, load_moment, load_down, store_written, store_moment, store_flushed, set_down, load_async, raise_async, take_mapping_turn, load_initialised_end, clear_end, zero_ring_word, publish_end, publish_initialised_end, release_mapping_turn, create, write, sync}
 use Rattle.wal_core.proofs.WordLists.{word_again, word_else}
@@ -14,8 +14,8 @@ module _ (words : List ℕ) (v : View) where
   IsStill e = (down_word (later e) ≡ down_word words)
       ⊎ ((l : Lent) × ((v.writing).hold ≡ Out l))
 
-  other : (e : StepKind) → 16 ≢ word_of_step v e → IsStill e
-  other e apart = inl (word_else words (word_of_step v e) _ 16 apart)
+  other : (e : StepKind) → down_number ≢ word_of_step v e → IsStill e
+  other e apart = inl (word_else words (word_of_step v e) _ down_number apart)
 
   pub down_still : ((i : ℕ) → Contains (v.working).locks i → i < 8) → (e : StepKind) → MayStep v e
       → IsStill e
@@ -46,7 +46,7 @@ module _ (words : List ℕ) (v : View) where
   down_still low load_flushed may = other load_flushed (λ e. omega arith)
   down_still low load_moment may = other load_moment (λ e. omega arith)
   down_still low load_down may =
-      inl (ap (λ (ws : List ℕ). down_word ws) (word_again words 16))
+      inl (ap (λ (ws : List ℕ). down_word ws) (word_again words down_number))
   down_still low store_written may = other store_written (λ e. omega arith)
   down_still low store_moment may = other store_moment (λ e. omega arith)
   down_still low store_flushed may = other store_flushed (λ e. omega arith)

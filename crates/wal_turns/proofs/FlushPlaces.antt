@@ -7,7 +7,7 @@ use Rattle.std.proofs.lemmas.Bool.{ltb-true, eqb-false}
 use mathlib.Core.Option.{Option, none, some}
 use Rattle.byte_position.specs.Geometry.{IsSegmentSize}
 use Rattle.byte_position.proofs.Words.{end_address_of-mod_word}
-use Rattle.wal_core.specs.Words.{Opening, end_form}
+use Rattle.wal_core.specs.Words.{Opening, end_form, write_turn_number, flushed_number, lock_number}
 use Rattle.wal_core.specs.Views.{Free, Flight, Landed, Copying, Away, Plain, Lent, Hold, Idle, Turned as HasTurned, Out, View, Working}
 use Rattle.wal_core.specs.Moves.{with_hold, after_set_down, hardened, lent, is_done, after_load_down, fault_number}
 use Rattle.wal_core.specs.Steps.{IsResting, word_of_step, view_behind, load_flushed, load_lock, load_ring_word, slot_out}
@@ -91,7 +91,7 @@ module _ (m : Machine) (ask : Ask) where
 
   pub loads_flushed_goes : (v : View) → StandsToDo v LoadsFlushed ask → Goes m ask LoadsFlushed v
   loads_flushed_goes v stands =
-      let met = slice_index words 14 in
+      let met = slice_index words flushed_number in
       let w = view_behind v load_flushed met (m.state).home in
       let rest = at_rest_on v w stands (refl, refl, refl, refl) refl in (
         tt,
@@ -111,7 +111,7 @@ module _ (m : Machine) (ask : Ask) where
   visits_goes purpose lock v valid whole stands =
       let e = load_lock lock
       (end_form (v.opening).setup (v.reserving).seen) in
-      let w = view_behind v e (slice_index words (2 + lock)) (m.state).home in
+      let w = view_behind v e (slice_index words (lock_number lock)) (m.state).home in
       let still = writes_on purpose ask Idle Idle v w stands.0 (refl, refl, refl, refl)
       (hold_of purpose ask Idle v stands.0) in (
         (
@@ -206,11 +206,11 @@ module _ (m : Machine) (ask : Ask) where
         hold_of purpose ask HasTurned v stands,
         subst
             (λ (home : Option Plain). let w = view_behind v slot_out
-            (slice_index words 11) home in
-            StandsToDo w (page_or_end v w ask (slice_index words 11)
+            (slice_index words write_turn_number) home in
+            StandsToDo w (page_or_end v w ask (slice_index words write_turn_number)
             (is_done (outcome m v ask)) purpose)
             ask) (sym at_home)
-            (page_or_end_stands purpose l v knows (slice_index words 11)
+            (page_or_end_stands purpose l v knows (slice_index words write_turn_number)
             (is_done (outcome m v ask)) up
             (writes_on purpose ask HasTurned (Out l) v (in_hand l knows) stands
             (refl, refl, refl, refl) refl)),

@@ -9,7 +9,7 @@ use Rattle.byte_position.proofs.Words.{end_address_of-mod_word}
 use Rattle.wal_core.specs.Views.{Free, Copy, Flight, Landed, Copying, Stage, Away, Taken, Looked, Ready, Zeroing, Published, Idle, View, is_among}
 use Rattle.wal_core.specs.Moves.{after_advance, landed, standing, without_lock}
 use Rattle.wal_page.specs.EntryWords.{address_of_word}
-use Rattle.wal_core.specs.Words.{end_form}
+use Rattle.wal_core.specs.Words.{end_form, written_number, lock_number}
 use Rattle.wal_core.proofs.Landing.{among_cases}
 use Rattle.wal_core.specs.Paged.{IsOpen}
 use Rattle.wal_core.specs.Steps.{MayStep, IsResting, load_written, zero_ring_word, publish_end, release, word_of_step, view_behind}
@@ -49,7 +49,7 @@ module _ (m : Machine) (ask : Ask) where
     looks_at_written : (at : ℕ) → Goes m ask (Maps lock) (at_map lock c (Looked at) v)
     looks_at_written at =
         let u = at_map lock c (Looked at) v in
-        let met = slice_index words 13 in
+        let met = slice_index words written_number in
         let pages = ((v.opening).setup).ring_pages in
         let w = view_behind u load_written met (m.state).home in
         let pose : IsPosed Free (lock ∷ []) (Copying c) (Ready at met) Idle w = record {
@@ -221,7 +221,7 @@ module _ (m : Machine) (ask : Ask) where
   at_rest : (lock : ℕ) (f : Flight) (v : View)
       → landed lock f ≡ Landed → IsResting
       (view_behind (posed Free (lock ∷ []) f Away Idle v) (release lock)
-      (slice_index words (2 + lock)) (m.state).home)
+      (slice_index words (lock_number lock)) (m.state).home)
   at_rest lock f v lands = record {
     place = refl;
     locks = none_left lock;
@@ -263,7 +263,7 @@ module _ (m : Machine) (ask : Ask) where
               subst (IsAllCopied ((v.opening).setup).segment_size) copy whole,
         ),
         answered ask insert
-            (view_behind (at_map lock c Away v) (release lock) (slice_index words (2 + lock))
+            (view_behind (at_map lock c Away v) (release lock) (slice_index words (lock_number lock))
             (m.state).home) (at_rest lock (Copying c) v lands),
       )
 

@@ -3,7 +3,7 @@ use Rattle.std.proofs.Common.{◌≡◌, ◌≢◌, ◌⊎◌, inl, inr, ⊎_eli
 use Rattle.std.specs.Option.{unwrap_or}
 use Rattle.std.proofs.lemmas.Option.{slice_get_within, unwrap_or-slice_get}
 use mathlib.Core.Option.{none, some}
-use Rattle.wal_core.specs.Words.{down_word}
+use Rattle.wal_core.specs.Words.{down_word, write_turn_number, down_number}
 use Rattle.wal_core.specs.Locked.{HasWriteTurn, StandsTo}
 use Rattle.wal_core.specs.Views.{Plain, Lent, Hold, Idle, Out, Turned as HasTurned, View, working_of}
 use Rattle.wal_core.specs.Steps.{StepKind, MayStep, Makes, State, Moves, IsLive, load_down, word_of_step, view_behind}
@@ -190,7 +190,7 @@ module _ (m : Machine) (run : IsRunning m) (number : ℕ) (b : Backend) (here : 
 
   falls : down_word words ≢ 0 → Good m number (fallen m number b v ask)
   falls down = (
-    (down, refl, (slice_index words 16, makes load_down tt)),
+    (down, refl, (slice_index words down_number, makes load_down tt)),
     runs_on load_down tt (with_answer b) m.full (run.lines number b here)
         (answer_stands b (behind load_down) (run.lines number b here) (inr (inl down)))
         run.at_home (up_start (slice_get b.asks (b.answered + 1)) _),
@@ -217,10 +217,14 @@ module _ (m : Machine) (run : IsRunning m) (number : ℕ) (b : Backend) (here : 
   down_not_called (LoadsDown purpose) c = absurd c
   down_not_called (TakesOut purpose) c = absurd c
   down_not_called (LoadsPage purpose k) c = absurd c
-  down_not_called (Creates purpose) c = word_else words 11 _ 16 (λ e. omega arith)
-  down_not_called (Writes purpose) c = word_else words 11 _ 16 (λ e. omega arith)
-  down_not_called (SyncsFull purpose) c = word_else words 11 _ 16 (λ e. omega arith)
-  down_not_called SyncsLast c = word_else words 11 _ 16 (λ e. omega arith)
+  down_not_called (Creates purpose) c =
+      word_else words write_turn_number _ down_number (λ e. omega arith)
+  down_not_called (Writes purpose) c =
+      word_else words write_turn_number _ down_number (λ e. omega arith)
+  down_not_called (SyncsFull purpose) c =
+      word_else words write_turn_number _ down_number (λ e. omega arith)
+  down_not_called SyncsLast c =
+      word_else words write_turn_number _ down_number (λ e. omega arith)
   down_not_called (StoresWritten purpose) c = absurd c
   down_not_called StoresMoment c = absurd c
   down_not_called StoresFlushed c = absurd c
@@ -248,7 +252,7 @@ module _ (m : Machine) (run : IsRunning m) (number : ℕ) (b : Backend) (here : 
                   let loaded : down_word (later e).words ≡ down_word words = subst
                   (λ (d : Doing). down_word (later (event_named m v ask d)).words ≡ down_word words)
                   (sym is)
-                  (ap (λ (ws : List ℕ). down_word ws) (word_again words 16)) in
+                  (ap (λ (ws : List ℕ). down_word ws) (word_again words down_number)) in
                   loaded ∙ up (ap (λ (d : Doing). looks_down m v ask d) is);
               calls = λ device.
                   down_not_called b.doing device

@@ -13,7 +13,7 @@ use Rattle.segment_disk.specs.Failing.{is_listed}
 use Rattle.wal_page.specs.Order.{Entry, finish_of, room_at}
 use Rattle.wal_page.specs.EntryWords.{address_of_word, words_owned}
 use Rattle.wal_core.specs.declared.setup.Setup.{Setup}
-use Rattle.wal_core.specs.Words.{position_word, lock_word, mapping_turn, write_turn, down_word, log_limit, end_form}
+use Rattle.wal_core.specs.Words.{position_word, lock_word, mapping_turn, write_turn, down_word, log_limit, end_form, mapping_turn_number, write_turn_number, lock_number}
 use Rattle.wal_core.specs.Views.{Place, Free, Locked, Loaded, Stored, Flight, Landed, Copying, Stage, Away, Taken, Looked, Ready, Zeroing, Published, Lent, Hold, Idle, Turned as HasTurned, Out, View}
 use Rattle.wal_core.specs.Moves.{CallOutcome, Done as CallDone, Failed, is_done}
 use Rattle.wal_core.specs.Steps.{StepKind, State, load_position, take_write_turn, slot_out, slot_in, release_write_turn, lock_position, load_prev, store_prev, store_position, give_position_back, load_lock, take_lock, advance, release, load_buffer_end, store_ring_word, load_ring_word, load_written, load_flushed, load_moment, load_down, store_written, store_moment, store_flushed, set_down, take_mapping_turn, load_initialised_end, clear_end, zero_ring_word, publish_end, publish_initialised_end, release_mapping_turn, create, write, sync, buffer_of, number_lent, word_of_step, value_behind, view_behind, home_behind}
@@ -223,9 +223,9 @@ module _ (m : Machine) (v : View) (ask : Ask) where
   can_step other = true
 
   abbrev pub word_waited : Doing → ℕ
-  word_waited (Maps lock) = 10
-  word_waited (TakesTurn purpose) = 11
-  word_waited (Visits purpose lock) = 2 + lock
+  word_waited (Maps lock) = mapping_turn_number
+  word_waited (TakesTurn purpose) = write_turn_number
+  word_waited (Visits purpose lock) = lock_number lock
   word_waited other = 0
 
   -- whether the step itself looks at the down word

@@ -7,7 +7,7 @@ use Rattle.atomic_table.proofs.Lists.{at_map}
 use Rattle.wal_page.specs.EntryWords.{address_of_word, words_owned}
 use Rattle.wal_page.specs.Placed.{PlacedState, placed_end, placed_word}
 use Rattle.wal_core.specs.declared.setup.Setup.{Setup}
-use Rattle.wal_core.specs.Words.{Opening}
+use Rattle.wal_core.specs.Words.{Opening, ends_number}
 use Rattle.wal_core.specs.Ringed.{IsOfOrder}
 use Rattle.wal_core.specs.Views.{Copy, Copying, Flight, HasAt, Landed, flight_of, View}
 use Rattle.wal_core.specs.Steps.{ring_number, ring_place, next_value, number_of_next}
@@ -18,6 +18,7 @@ use Rattle.wal_rule.specs.Stepping.{Stands}
 use Rattle.word_ring.specs.CopyRuns.{HasCopied, MayCopy, MayStoreRun, StoresNext}
 use Rattle.word_ring.proofs.Steps.{has_same_view, same_setup, then_view, view_is}
 use Rattle.word_ring.specs.Copied.{IsPlaceOf, IsRestOf, copied_view, further, page_end_at, rest_of}
+use Rattle.word_ring.specs.Ring.{confirmed_view}
 
 module _ (v : View) (stands : Stands v) (c : Copy) (is : (v.working).flight ≡ Copying c) where
   abbrev setup : Setup
@@ -155,6 +156,38 @@ module _ {D : Type 0} (p : SeatedPass D) (placed : PlacedState)
     word_is = given ∙ ap (λ (q : PlacedState). placed_word q q.next) own_rest
         ∙ ap (λ (f : Flight). next_value v f) (sym rest.1);
   }
+
+-- ---- a page's end is met first
+
+-- the words that are left are so still
+pub rest_met : {D : Type 0} (p q : SeatedPass D) (a : PlacedState) (met : ℕ)
+    → IsRestOf (setup_of p) (view_of p) a → HasView (confirmed_view met (view_of p)) p q
+    → IsRestOf (setup_of q) (view_of q) a
+rest_met p q a met rest x = (
+  rest.0,
+  ap (λ (w : View). (w.working).flight) (view_is (confirmed_view met (view_of p)) p q x) ∙ rest.1,
+  rest.2 ∙ ap (λ (s : Setup). rest_of s rest.0) (sym (same_setup p q x.same_table)),
+)
+
+-- none copied is a copy of no words
+copied_none_of : (f : Flight) → f ≡ further 0 f
+copied_none_of Landed = refl
+copied_none_of (Copying c) =
+    let e : c.copied ≡ c.copied + 0 = omega arith in
+    ap (λ (k : ℕ). Copying (record c { copied = k })) e
+
+pub copied_none : (v : View) → v ≡ copied_view 0 v
+copied_none v = ap (λ (f : Flight). record v { working = record v.working { flight = f } })
+    (copied_none_of (v.working).flight)
+
+-- the place of a word, by the buffer of its page
+pub place_of_buffer : (setup : Setup) (pages next place : ℕ) → pages ≡ setup.ring_pages
+    → place ≡ ends_number + pages + (next / 8192 % pages * 1024 + next / 8 % 1024)
+    → IsPlaceOf setup next place
+place_of_buffer setup pages next place is at =
+    let page : next / 8192 ≡ next / 8 / 1024 = omega arith in
+    at ∙ ap (λ (k : ℕ). ends_number + pages + (k % pages * 1024 + next / 8 % 1024)) page
+    ∙ ap (λ (r : ℕ). ends_number + r + (next / 8 / 1024 % r * 1024 + next / 8 % 1024)) is
 
 -- ---- runs of words
 

@@ -1,5 +1,5 @@
 -- What several steps leave of a pass, as one plain update of the view before the first.
-use Rattle.std.proofs.Common.{◌≡◌, ℕ, ◌+◌, ◌≤◌, max, List, refl, sym, ap, ◌∙◌, subst, arith}
+use Rattle.std.proofs.Common.{◌≡◌, ℕ, ◌+◌, ◌*◌, ◌≤◌, max, List, refl, sym, ap, ◌∙◌, subst, arith}
 use Rattle.std.specs.Borrow.{Bor}
 use mathlib.Core.Option.{none}
 use Rattle.wal_rule.specs.declared.seated.SeatedPass.{SeatedPass}
@@ -8,7 +8,9 @@ use Rattle.wal_rule.specs.declared.writer.LogWriter.{LogWriter}
 use Rattle.wal_rule.specs.SeatedPasses.{HasView, Steps, hand_of, setup_of, view_of}
 use Rattle.wal_rule.specs.Tables.{setup_of_table}
 use Rattle.wal_core.specs.Views.{Away, Published, Ready, Stage, Taken, Zeroing, View}
-use Rattle.wal_core.specs.Steps.{clear_end, publish_end, publish_initialised_end, view_behind}
+use Rattle.wal_core.specs.Steps.{buffer_of, clear_end, page_mapped, publish_end, publish_initialised_end, ring_number, view_behind, word_of_step, words_zeroed, zero_ring_word}
+use Rattle.wal_core.specs.Words.{Opening}
+use Rattle.wal_core.specs.declared.setup.Setup.{Setup}
 use Rattle.word_ring.specs.Ring.{confirmed_view}
 use Rattle.word_ring.specs.Mapped.{MapsOn, further_view, looked_view, staged_view}
 
@@ -33,6 +35,66 @@ view_is {D} v p q x = ap (λ (m : View × List (ℕ × LogWriter D)). m.0) x.me_
 -- a pass at the same table is of a log with the same setup
 pub same_setup : {D : Type 0} (p q : SeatedPass D) → q.table ≡ p.table → setup_of q ≡ setup_of p
 same_setup {D} p q is = ap (λ (t : Bor (LogTable D)). setup_of_table t.now) is
+
+-- and its table is the one that was taken out of the other
+pub same_table : {D : Type 0} (p q : SeatedPass D) → q.table ≡ p.table
+    → (p.table).now ≡ (q.table).now
+same_table {D} p q is = sym (ap (λ (t : Bor (LogTable D)). t.now) is)
+
+-- a table's setup is that of its passes' views
+pub own_setup : {D : Type 0} (p : SeatedPass D) → ((view_of p).opening).setup ≡ setup_of p
+own_setup p = ap (λ (o : Opening). o.setup) (p.seated).own
+
+-- ---- a page's words are zeroed in rows
+
+module _ {D : Type 0} (p q : SeatedPass D) (at : ℕ) where
+  -- the place of the next word, where so many are zeroed
+  pub zero_place : (first k : ℕ)
+      → first ≡ ring_number (setup_of p) (buffer_of (setup_of p) at * 1024)
+      → HasView (staged_view (Zeroing at k) (view_of p)) p q
+      → first + k ≡ word_of_step (view_of q) zero_ring_word
+  zero_place first k is x =
+      let stage = ap (λ (w : View). (w.mapping).stage)
+      (view_is (staged_view (Zeroing at k) (view_of p)) p q x) in
+      let setup = own_setup q ∙ same_setup p q x.same_table in
+      let there : ring_number (setup_of p) (buffer_of (setup_of p) at * 1024 + k)
+      ≡ word_of_step (view_of q) zero_ring_word =
+      ap (λ (s : Setup). ring_number s (buffer_of s at * 1024 + k)) (sym setup)
+      ∙ ap (λ (t : Stage). ring_number ((view_of q).opening).setup
+      (buffer_of ((view_of q).opening).setup (page_mapped t) * 1024 + words_zeroed t))
+      (sym stage) in
+      omega (arith, is) ∙ there
+
+  -- one word more is zeroed
+  pub zeroed_more : (k : ℕ) (r : SeatedPass D)
+      → HasView (staged_view (Zeroing at k) (view_of p)) p q → Steps zero_ring_word 0 q r
+      → HasView (staged_view (Zeroing at (k + 1)) (view_of p)) p r
+  zeroed_more k r x y =
+      then_view (λ (w : View). view_behind w zero_ring_word 0 none)
+      (staged_view (Zeroing at k) (view_of p)) p q r x y
+
+  -- and more behind them
+  pub zeroed_on : (k more : ℕ) (r : SeatedPass D)
+      → HasView (staged_view (Zeroing at k) (view_of p)) p q
+      → HasView (staged_view (Zeroing at more) (view_of q)) q r
+      → HasView (staged_view (Zeroing at more) (view_of p)) p r
+  zeroed_on k more r x y =
+      then_view (staged_view (Zeroing at more)) (staged_view (Zeroing at k) (view_of p)) p q r x y
+
+-- so many are, by another count
+pub zeroed_as : {D : Type 0} (p q : SeatedPass D) (at k n : ℕ) → k ≡ n
+    → HasView (staged_view (Zeroing at k) (view_of p)) p q
+    → HasView (staged_view (Zeroing at n) (view_of p)) p q
+zeroed_as p q at k n same x =
+    subst (λ (m : ℕ). HasView (staged_view (Zeroing at m) (view_of p)) p q) same x
+
+pub zeroed_none : {D : Type 0} (p : SeatedPass D) (at k : ℕ)
+    → ((view_of p).mapping).stage ≡ Zeroing at k
+    → HasView (staged_view (Zeroing at k) (view_of p)) p p
+zeroed_none p at k is = record {
+  same_table = refl;
+  me_is = ap (λ (w : View). (w, hand_of p)) (at_stage (view_of p) (Zeroing at k) is);
+}
 
 module _ {D : Type 0} (p : SeatedPass D) (at written : ℕ) where
   abbrev v : View

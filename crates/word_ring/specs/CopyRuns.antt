@@ -1,11 +1,12 @@
 -- A run of words that a pass may copy to a page, and what is so behind it.
-use Rattle.std.specs.Prelude.{◌≡◌, ℕ, ◌+◌, ◌*◌, ◌<◌, ◌≤◌, List, slice_index}
+use Rattle.std.specs.Prelude.{◌≡◌, ◌≢◌, ℕ, ◌+◌, ◌*◌, ◌<◌, ◌≤◌, List, min, slice_index}
 use Rattle.wal_page.specs.Placed.{PlacedState, placed_end}
 use Rattle.wal_core.specs.Steps.{store_ring_word, MayStep, value_behind, word_of_step}
 use Rattle.wal_core.specs.Views.{View}
 use Rattle.wal_rule.specs.declared.seated.SeatedPass.{SeatedPass}
 use Rattle.wal_rule.specs.SeatedPasses.{HasView, setup_of, view_of}
-use Rattle.word_ring.specs.Copied.{IsPlaceOf, IsRestOf, copied_view, page_end_at}
+use Rattle.word_ring.specs.Copied.{IsPlaceOf, IsRestOf, copied_view, left_on_page, page_end_at}
+use Rattle.word_ring.specs.Ring.{confirmed_view}
 
 -- so many words are left of its copy, as this record at its place gives them, all of them on the
 -- page of the next one, whose end, or a higher one, the pass has met; the next one has this place
@@ -23,6 +24,17 @@ pub record HasCopied {D : Type 0} (count : ℕ) (old new : SeatedPass D)
   pub view : HasView (copied_view count (view_of old)) old new
   pub placed_is : placed_new ≡ record placed_old { next = placed_old.next + 8 * count }
   pub rest : IsRestOf (setup_of old) (view_of new) placed_new
+
+-- the end of the page in the next word's buffer was met. Where it is the end of that word's page, as
+-- many words were copied as are left on the page, or as were asked for where these are fewer; else
+-- none was
+pub record CopiesPresent {D : Type 0} (most count : ℕ) (old new : SeatedPass D)
+    (placed_old placed_new : PlacedState) : Type 0 where
+  pub met : ℕ
+  pub present : met ≡ page_end_at placed_old.next → count ≡ min (left_on_page placed_old) most
+  pub absent : met ≢ page_end_at placed_old.next → count ≡ 0
+  pub view : HasView (copied_view count (confirmed_view met (view_of old))) old new
+  pub placed_is : placed_new ≡ record placed_old { next = placed_old.next + 8 * count }
 
 -- a view may store this word at this place, as the next one of its copy
 pub record StoresNext (v : View) (place word : ℕ) : Type 0 where

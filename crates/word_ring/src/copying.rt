@@ -5,18 +5,18 @@
 // them. So what is copied is a front of the record, and the address of the next word is the
 // progress that may be told under the lock. A word that was stored is the log's: this copy does not
 // come back to it, and no other record owns it.
-ghost use Rattle.std.specs.Prelude.{◌≡◌, ◌+◌, ◌<◌, ◌≤◌, ◌^◌, length};
+ghost use Rattle.std.specs.Prelude.{◌≡◌, ◌+◌, ◌<◌, ◌≤◌, ◌^◌, length, min};
 ghost use Rattle.wal_page.specs.Placed.{placed_end};
 ghost use Rattle.wal_rule.specs.SeatedPasses.{HasView, StaysSeated, setup_of, view_of};
-ghost use Rattle.word_ring.specs.Copied.{CopiesPage, IsPlaceOf, IsRestOf, copied_view, page_end_at};
-ghost use Rattle.word_ring.specs.CopyRuns.{HasCopied, MayCopy, MayStoreRun};
+ghost use Rattle.word_ring.specs.Copied.{CopiesPage, IsPlaceOf, IsRestOf, copied_view, left_on_page, page_end_at};
+ghost use Rattle.word_ring.specs.CopyRuns.{CopiesPresent, HasCopied, MayCopy, MayStoreRun};
 
 use byte_position::{PAGE_SIZE, PAGE_WORDS, WORD};
 use machine_words::LogShape;
 use machine_words::layout::BUFFER_ENDS;
 use segment_disk::Disk;
 use wal_page::Placed;
-use wal_rule::SeatedPass;
+use wal_rule::{LogTable, SeatedPass};
 
 // How many words are made of a record at once, before they are stored one by one.
 const RUN: usize = 64;
@@ -53,11 +53,66 @@ pub fn copy_page<'p, 'a, D: Disk>(
     ensures within { placed.new.next ≤ end }
     ensures stays { StaysSeated seated.old seated.new }
 {
+    let place = place_of(seated.shape(), next);
+    copy_from(seated, placed, place, next, end, most)
+}
+
+/// Copies so where the page of the next word is in its buffer, and else no word: it looks up the
+/// buffer for both. So who finds its pages there needs no other step. The page need not be met.
+#[inline(always)]
+pub fn copy_present<'p, 'a, D: Disk>(
+    seated: &mut SeatedPass<'p, D>,
+    placed: &mut Placed<'a>,
+    next: u64,
+    end: u64,
+    most: u32,
+) -> u32
+    requires rest { IsRestOf (setup_of seated.old) (view_of seated.old) placed.old }
+    requires next { next ≡ placed.old.next }
+    requires low { next < 2 ^ 50 }
+    requires end { end ≡ placed_end placed.old }
+    // The end of some page was met. If it is the page's own, as many words were copied as `copy_page`
+    // copies, and else none; nothing else of the view has changed, and `placed` goes on from there.
+    ensures copies { CopiesPresent most result seated.old seated.new placed.old placed.new }
+    ensures within { placed.new.next ≤ end }
+{
+    let ring_pages = u64::from(seated.shape().ring_pages());
+    let page = next / PAGE_SIZE;
+    let buffer = page % ring_pages;
+    let met = seated.load_buffer_end(buffer as u32);
+    if met != (page + 1) * PAGE_SIZE {
+        return 0;
+    }
+    let word = buffer * PAGE_WORDS + next / WORD % PAGE_WORDS;
+    let place = BUFFER_ENDS + ring_pages as usize + word as usize;
+    copy_from(seated, placed, place, next, end, most)
+}
+
+// Copies so from this place on, which is that of the next word. The pass has met the page.
+#[inline(always)]
+fn copy_from<'p, 'a, D: Disk>(
+    seated: &mut SeatedPass<'p, D>,
+    placed: &mut Placed<'a>,
+    place: usize,
+    next: u64,
+    end: u64,
+    most: u32,
+) -> u32
+    requires rest { IsRestOf (setup_of seated.old) (view_of seated.old) placed.old }
+    requires next { next ≡ placed.old.next }
+    requires end { end ≡ placed_end placed.old }
+    requires met { page_end_at next ≤ (view_of seated.old).mapping.confirmed }
+    requires place { IsPlaceOf (setup_of seated.old) next place }
+    requires low { place < 2 ^ 17 }
+    ensures copied { HasCopied result seated.old seated.new placed.old placed.new }
+    ensures count { result ≡ min (left_on_page placed.old) most }
+    ensures some { 0 < most → next < end → 0 < result }
+    ensures within { placed.new.next ≤ end }
+{
     let on_page = (PAGE_SIZE - next % PAGE_SIZE) / WORD;
     let left = (end - next) / WORD;
     let here = left.min(on_page);
     let count = here.min(u64::from(most)) as u32;
-    let place = place_of(seated.shape(), next);
     copy_words(seated, placed, place, count as usize);
     count
 }
@@ -127,19 +182,21 @@ fn store_run<'p, D: Disk>(seated: &mut SeatedPass<'p, D>, place: usize, words: &
     requires low { place + length words.now < 2 ^ 20 }
     ensures { HasView (copied_view (length words.now) (view_of seated.old)) seated.old seated.new }
 {
+    let table = seated.table;
     let count = words.len();
     let mut done = 0;
     while FEW <= count - done {
-        store_some(seated, place + done, words, done, FEW);
+        store_some(seated, table, place + done, words, done, FEW);
         done += FEW;
     }
-    store_some(seated, place + done, words, done, count - done);
+    store_some(seated, table, place + done, words, done, count - done);
 }
 
 // Stores so many of a run's words, those behind the first `done`, from this place on.
 #[inline(always)]
 fn store_some<'p, D: Disk>(
     seated: &mut SeatedPass<'p, D>,
+    table: &LogTable<D>,
     place: usize,
     words: &[u64],
     done: usize,
@@ -148,10 +205,11 @@ fn store_some<'p, D: Disk>(
     requires within { done + count ≤ length words.now }
     requires run { MayStoreRun place words.now done count seated.old }
     requires low { place + count < 2 ^ 20 }
+    requires table { table.now ≡ seated.old.table.now }
     ensures { HasView (copied_view count (view_of seated.old)) seated.old seated.new }
 {
     for n in 0..count {
-        seated.store_ring_word(place + n, words[done + n]);
+        seated.store_ring_word_at(table, place + n, words[done + n]);
     }
 }
 

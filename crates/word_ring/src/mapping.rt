@@ -1,15 +1,15 @@
 // The next page is mapped, by one try (PostgreSQL's xlog.c, AdvanceXLInsertBuffer), with the turn
-// to map (word 10, WALBufMappingLock), which is given back at each exit; or several pages under one
-// turn (`map_ahead`). The page begins at the initialised end (12). The page in its buffer must end
-// at or below the written address (13). Both are loaded. Then the buffer's end word is cleared, its
-// words are zeroed, the page's end is stored, and the initialised end behind it: so pages are
-// mapped one at a time, in rising order. From the clearing on, until the page's end is stored,
-// nobody else stores into the buffer. PostgreSQL also makes the page's header here, and writes the
-// old page. In this log a header's words are those of the record that reaches the page first, and
-// to write is the caller's matter.
+// to map (WALBufMappingLock), which is given back at each exit; or several pages under one turn
+// (`map_ahead`). The page begins at the initialised end. The page in its buffer must end at or
+// below the written address. Both are loaded. Then the buffer's end word is cleared, its words are
+// zeroed, the page's end is stored, and the initialised end behind it: so pages are mapped one at a
+// time, in rising order. From the clearing on, until the page's end is stored, nobody else stores
+// into the buffer. PostgreSQL also makes the page's header here, and writes the old page. In this
+// log a header's words are those of the record that reaches the page first, and to write is the
+// caller's matter.
 ghost use Rattle.std.specs.Prelude.{◌≡◌, ◌≢◌, ℕ, ◌+◌, ◌*◌, ◌<◌, ◌≤◌, ◌^◌};
 ghost use Rattle.wal_core.specs.Paged.{IsOpen};
-ghost use Rattle.wal_core.specs.Steps.{buffer_of, take_mapping_turn};
+ghost use Rattle.wal_core.specs.Steps.{buffer_of, ring_number, take_mapping_turn};
 ghost use Rattle.wal_core.specs.Views.{Away, Ready, Taken, Zeroing};
 ghost use Rattle.wal_rule.specs.SeatedPasses.{HasView, StaysSeated, setup_of, view_of};
 ghost use Rattle.wal_rule.specs.Stepping.{Meets};
@@ -20,9 +20,12 @@ use byte_position::PAGE_SIZE;
 use machine_words::LogShape;
 use machine_words::layout::BUFFER_ENDS;
 use segment_disk::Disk;
-use wal_rule::SeatedPass;
+use wal_rule::{LogTable, SeatedPass};
 
 const PAGE_WORDS: usize = byte_position::PAGE_WORDS as usize;
+
+// So many words are zeroed in a row, without a test between.
+const ROW: usize = 8;
 
 /// How a try to map the next page ended.
 #[derive(Clone, Copy, Debug, PartialEq, Eq)]
@@ -166,8 +169,33 @@ fn zero_page<'p, D: Disk>(seated: &mut SeatedPass<'p, D>, at: u64)
 {
     let shape = seated.shape();
     let first = BUFFER_ENDS + shape.ring_pages() as usize + buffer_at(shape, at) * PAGE_WORDS;
-    for n in 0..PAGE_WORDS {
-        seated.zero_ring_word(first + n);
+    let table = seated.table;
+    for row in 0..PAGE_WORDS / ROW {
+        zero_row(seated, table, first, at, ROW * row);
+    }
+}
+
+// Zeroes the next words of a page's buffer in a row: those behind the first `done`. The first one
+// of the page is the word `first` among all.
+#[inline(always)]
+fn zero_row<'p, D: Disk>(
+    seated: &mut SeatedPass<'p, D>,
+    table: &LogTable<D>,
+    first: usize,
+    at: u64,
+    done: usize,
+)
+    requires table { table.now ≡ seated.old.table.now }
+    requires first { first ≡ ring_number (setup_of seated.old)
+        (buffer_of (setup_of seated.old) at * 1024) }
+    requires within { done + 8 ≤ 1024 }
+    requires low { first < 2 ^ 20 }
+    requires cleared { (view_of seated.old).mapping.stage ≡ Zeroing at done }
+    ensures view { HasView (staged_view (Zeroing at (done + 8)) (view_of seated.old))
+        seated.old seated.new }
+{
+    for n in 0..ROW {
+        seated.zero_ring_word_at(table, first + done + n);
     }
 }
 

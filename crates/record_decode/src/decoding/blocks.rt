@@ -207,7 +207,6 @@ fn block_item<'a>(
 
 /// The headers of blocks that stand here.
 #[tactic(auto, unfolding(crate::specs::Reading::block_items))]
-#[inline(always)]
 pub(super) fn block_items<'a>(
     alloc: Global,
     start: Unread<'a>,

@@ -46,7 +46,6 @@ fn block_of(alloc: Global, head: BlockHead, bytes: &[u8]) -> Result<Block, Alloc
 }
 
 /// The blocks of these headers, and what stands behind them in the payload.
-#[inline(always)]
 pub(super) fn blocks_of<'a>(
     alloc: Global,
     heads: &[BlockHead],

@@ -13,8 +13,8 @@ returns-in-Ok g c =
     c.append_prepared.ensures (view c.args.source.now) (view c.prepare.new.source) ready.0 ready.1
     ready.2
 
-pub returns-in-Err : goal.returns-in-Err
-returns-in-Err g c =
+pub returns : goal.returns
+returns g c =
     let view = source_view g.S.Source.left g.S.Source.handed g.S.Source.ends_told
     g.S.Source.faults in
     let out = c.args.out.now in

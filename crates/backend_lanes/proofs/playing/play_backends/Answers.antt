@@ -43,8 +43,8 @@ pub close-requires-clause-numbers : goal.close-requires-clause-numbers
 close-requires-clause-numbers g c = λ number low. c.calls_keep_numbers.ensures _ _
     c.flush.ensures.keeps number (c.join_lanes-backends.ensures.numbers number low)
 
-pub returns : goal.returns
-returns g c = λ script are.
+pub returns-clause-played : goal.returns-clause-played
+returns-clause-played g c = λ script are.
     let log = c.args.log in
     let lanes = c.begin_lanes-lanes.result in
     let first = view_of_pass c.args.first in

@@ -1,7 +1,9 @@
-use Rattle.std.proofs.Common.{◌+◌, ap, ◌∙◌, sym, subst}
+use Rattle.std.proofs.Common.{ℕ, ◌+◌, ap, ◌∙◌, sym, subst}
 use Rattle.wal_rule.specs.SeatedPasses.{view_of}
-use Rattle.insert_locks.specs.Watching.{LetsPass}
-use Rattle.insert_locks.proofs.Visits.{WatchesOn, watch_goes_on}
+use Rattle.insert_locks.specs.Watching.{HoldsBack, IsHeldBack, LetsPass}
+use Rattle.insert_locks.specs.declared.watching.Watched.{Watched}
+use Rattle.insert_locks.specs.declared.watching.Watched.TheVariants.{Behind, Finished}
+use Rattle.insert_locks.proofs.Visits.{WatchesOn, held_here, watch_goes_on}
 use Rattle.insert_locks.proofs.watching.watch.Goals as goal
 
 pub loop-lock-preserved : goal.loop-lock-preserved
@@ -22,3 +24,25 @@ loop-lock-preserved g c =
         same_hand = ap (λ me. me.1) visit.ensures.visits.me_is ∙ stays.same_hand;
       },
     )
+
+abbrev lock_told : Watched → ℕ
+lock_told (Finished upto) = 0
+lock_told (Behind lock word) = lock
+
+abbrev word_told : Watched → ℕ
+word_told (Finished upto) = 0
+word_told (Behind lock word) = word
+
+pub returns-then-holds_back-clause-behind : goal.returns-then-holds_back-clause-behind
+returns-then-holds_back-clause-behind g c =
+    let old = view_of c.args.seated.now in
+    let new = view_of c.visit-word.new.seated in
+    let visit = c.visit-word in
+    let held = held_here c.args.upto c.see_reserved-end.result c.loop-lock.bound c.loop-lock.lock
+    old (view_of c.loop-lock.seated) new c.loop-lock.invariant.0 visit.result
+    (ap (λ me. me.0) visit.ensures.visits.me_is) c.loop-lock-test.true visit.ensures.met
+    (subst (λ asked. HoldsBack asked visit.result) c.min-asked.ensures
+    (c.holds_back.ensures.held c.if-holds_back.true)) in
+    λ lock word is.
+    subst (λ (l : ℕ). IsHeldBack c.args.upto l word old new) (ap lock_told is)
+    (subst (λ (w : ℕ). IsHeldBack c.args.upto c.loop-lock.lock w old new) (ap word_told is) held)

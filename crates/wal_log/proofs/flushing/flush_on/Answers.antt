@@ -4,6 +4,7 @@ use Rattle.wal_rule.specs.SeatedPasses.{view_of}
 use Rattle.wal_log.specs.declared.flushing.FlushErr.{FlushErr}
 use Rattle.wal_log.specs.Flushing.{TellsFlushErr}
 use Rattle.wal_log.specs.Standing.{ComesToRest}
+use Rattle.wal_log.proofs.AwaitLaws.{rests_at_work}
 use Rattle.wal_log.proofs.FlushLaws.{answer_again, answer_of, fault_behind, told_behind, unreserved_behind}
 use Rattle.wal_log.proofs.Trying.{first_try, rests_again, tried_again}
 use Rattle.wal_log.proofs.flushing.flush_on.Given.{Over}
@@ -87,10 +88,18 @@ loop-preserved-in-Err-Behind g c =
           c.loop.invariant.tried c.try_flush.ensures.rests why.1 why.0.1.up;
     }
 
+pub await_flush-requires : goal.await_flush-requires
+await_flush-requires g c =
+    let why = rw c.in-Err-Turn.field-0-is at c.in-Err-Turn.ensures.tries in record { up = why.0.2.up }
+
 pub loop-preserved : goal.loop-preserved
 loop-preserved g c =
-    let why = rw c.in-Err-Turn.field-0-is at c.in-Err-Turn.ensures.tries in record {
+    let why = rw c.in-Err-Turn.field-0-is at c.in-Err-Turn.ensures.tries in
+    let tried = tried_again c.args.seated.now c.loop.seated c.try_flush.new.seated
+    c.loop.invariant.tried c.try_flush.ensures.rests why.1 why.0.2.up in record {
       goes_on = (tt, tt);
-      tried = tried_again c.args.seated.now c.loop.seated c.try_flush.new.seated
-          c.loop.invariant.tried c.try_flush.ensures.rests why.1 why.0.2.up;
+      tried = tried_again c.args.seated.now c.try_flush.new.seated c.await_flush.new.seated
+          tried (rests_at_work c.try_flush.new.seated c.await_flush.new.seated
+          (tried.comes).rests c.await_flush.ensures.stays) c.await_flush.ensures.log
+          c.await_flush.ensures.up;
     }

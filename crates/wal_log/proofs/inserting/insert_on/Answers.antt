@@ -13,7 +13,7 @@ use Rattle.wal_log.proofs.Keeping.{further_pass}
 use Rattle.wal_log.proofs.Seated.{same_setup}
 use Rattle.wal_log.proofs.inserting.insert_on.Given.{Over}
 use Rattle.wal_log.proofs.inserting.insert_on.Goals as goal
-use Rattle.wal_log.proofs.inserting.insert_on.Goals.{After-land}
+use Rattle.wal_log.proofs.inserting.insert_on.Goals.{After-land_and_make_room}
 
 abbrev failed : InsertErr → Result Begun InsertErr
 failed e = Err e
@@ -46,8 +46,8 @@ returns-in_err-begun-clause-rests g c =
       };
     }
 
-pub land-requires-clause-copies : goal.land-requires-clause-copies
-land-requires-clause-copies g c =
+pub land_and_make_room-requires-clause-copies : goal.land_and_make_room-requires-clause-copies
+land_and_make_room-requires-clause-copies g c =
     let begun = c.in_ok-begun.ensures.begins in
     let stays = c.begin.ensures.goes_on.stays in record {
       some = omega arith;
@@ -64,27 +64,27 @@ returns-in-Ok-clause-inserts g c =
     let begun = c.in_ok-begun.ensures.begins in
     let lands = c.in-Ok.ensures.lands begun.place.entry begun.place.in_flight in
     receives (setup_of c.args.seated.now) c.args.body.now (view_of c.args.seated.now)
-    (view_of c.begin.new.seated) (view_of c.land.new.seated) c.in_ok-begun.begun begun
-    c.begin.ensures.goes_on.keeps c.land.ensures.rests.keeps c.land.ensures.log lands.0 lands.1
+    (view_of c.begin.new.seated) (view_of c.land_and_make_room.new.seated) c.in_ok-begun.begun begun
+    c.begin.ensures.goes_on.keeps c.land_and_make_room.ensures.rests.keeps c.land_and_make_room.ensures.log lands.0 lands.1
     (record { start = c.in_ok-begun.begun.start; end = c.in_ok-begun.begun.end }) refl refl
 
 pub returns-in-Err-clause-inserts : goal.returns-in-Err-clause-inserts
 returns-in-Err-clause-inserts g c =
     let begun = c.in_ok-begun.ensures.begins in
     subst (λ (e : InsertErr). RefusesInsert (setup_of c.args.seated.now) c.args.body.now
-    (view_of c.args.seated.now) (view_of c.land.new.seated) e) (sym c.at.ensures)
+    (view_of c.args.seated.now) (view_of c.land_and_make_room.new.seated) e) (sym c.at.ensures)
     (refuses (setup_of c.args.seated.now) c.args.body.now (view_of c.args.seated.now)
-    (view_of c.begin.new.seated) (view_of c.land.new.seated) c.in_ok-begun.begun begun
-    c.begin.ensures.goes_on.keeps c.land.ensures.rests.keeps c.land.ensures.log c.in-Err.fault
+    (view_of c.begin.new.seated) (view_of c.land_and_make_room.new.seated) c.in_ok-begun.begun begun
+    c.begin.ensures.goes_on.keeps c.land_and_make_room.ensures.rests.keeps c.land_and_make_room.ensures.log c.in-Err.fault
     (c.in-Err.ensures.lands begun.place.entry begun.place.in_flight))
 
-module _ (g : Over) (c : After-land g) where
-  rested : ComesToRest c.args.seated.now c.land.new.seated
+module _ (g : Over) (c : After-land_and_make_room g) where
+  rested : ComesToRest c.args.seated.now c.land_and_make_room.new.seated
   rested = record {
-    same_table = c.land.ensures.rests.same_table ∙ c.begin.ensures.goes_on.stays.same_table;
+    same_table = c.land_and_make_room.ensures.rests.same_table ∙ c.begin.ensures.goes_on.stays.same_table;
     keeps = further_pass (view_of c.args.seated.now) (view_of c.begin.new.seated)
-        (view_of c.land.new.seated) c.begin.ensures.goes_on.keeps c.land.ensures.rests.keeps;
-    rests = c.land.ensures.rests.rests;
+        (view_of c.land_and_make_room.new.seated) c.begin.ensures.goes_on.keeps c.land_and_make_room.ensures.rests.keeps;
+    rests = c.land_and_make_room.ensures.rests.rests;
   }
 
 pub returns-in-Ok-clause-down_again : goal.returns-in-Ok-clause-down_again
@@ -93,7 +93,7 @@ returns-in-Ok-clause-down_again g c = λ faults knows. absurd
     (c.in_ok-begun.ensures.down_again faults knows))
 
 pub returns-in-Ok-clause-rests : goal.returns-in-Ok-clause-rests
-returns-in-Ok-clause-rests g c = rested g (goal.at.returns-in-Ok-clause-rests g c).After-land
+returns-in-Ok-clause-rests g c = rested g (goal.at.returns-in-Ok-clause-rests g c).After-land_and_make_room
 
 pub returns-in-Err-clause-down_again : goal.returns-in-Err-clause-down_again
 returns-in-Err-clause-down_again g c = λ faults knows. absurd
@@ -101,4 +101,4 @@ returns-in-Err-clause-down_again g c = λ faults knows. absurd
     (c.in_ok-begun.ensures.down_again faults knows))
 
 pub returns-in-Err-clause-rests : goal.returns-in-Err-clause-rests
-returns-in-Err-clause-rests g c = rested g (goal.at.returns-in-Err-clause-rests g c).After-land
+returns-in-Err-clause-rests g c = rested g (goal.at.returns-in-Err-clause-rests g c).After-land_and_make_room

@@ -2,7 +2,6 @@ use Rattle.std.proofs.lemmas.Result.{err_from_is_err_and}
 use Rattle.std.proofs.Common.{◌+◌}
 use Rattle.wal_rule.specs.SeatedPasses.{view_of}
 use Rattle.insert_locks.specs.Holding.{lock_run}
-use Rattle.wal_log.specs.Downs.{KnowsNoFault}
 use Rattle.wal_log.specs.Switching.{HoldsOn}
 use Rattle.wal_log.proofs.SwitchLaws.{down_since, further_holds, lock_taken, taken_up, vain_holds, vain_up}
 use Rattle.wal_log.proofs.switching.take_next.Given.{Over}

@@ -1,4 +1,4 @@
-use Rattle.std.proofs.Common.{◌≡◌, ℕ, ◌≤◌, Some, Result, option_map, inl, inr, refl, sym, ap, ◌∙◌, arith}
+use Rattle.std.proofs.Common.{◌≡◌, ℕ, ◌≤◌, Some, Result, Ok, Err, option_map, inl, inr, refl, sym, ap, ◌∙◌, arith}
 use Rattle.std.specs.Prelude.{IfOk}
 use Rattle.byte_position.specs.Geometry.{IsSegmentSize}
 use Rattle.byte_position.specs.Position.{address_of}
@@ -80,12 +80,10 @@ returns-then-extent-cursor-clause-reads g c = λ pages sees.
       room = inl refl;
     }
 
-pub returns-else-extent-cursor-clause-reads_on : goal.returns-else-extent-cursor-clause-reads_on
-returns-else-extent-cursor-clause-reads_on g c = reads_more c.in_ok-cursor.ensures.reads_on c.read_over_pages.ensures.reads_on
-
-pub returns-else-extent-cursor-clause-reads : goal.returns-else-extent-cursor-clause-reads
-returns-else-extent-cursor-clause-reads g c = λ pages sees.
-    let at = (goal.at.returns-else-extent-cursor-clause-reads g c).After-claimed in
+pub returns-in_err-read-clause-reads : goal.returns-in_err-read-clause-reads
+returns-in_err-read-clause-reads g c = λ pages sees.
+    let at = (goal.at.returns-in_err-read-clause-reads g c).After-claimed in
+    let stop = err_from_is_err_and c.from_residual-in_err-read.result c.from_residual-in_err-read.ensures.1 in
     let size = c.args.buffers.now.cache.geometry in
     let opened = c.in_ok-cursor.ensures in
     let before = is_before_end c.args.buffers.now.cache.geometry (option_map (λ (l : Lsn). l.0) c.args.end) c.args.at.position c.is_out_of_reach.result c.is_out_of_reach.ensures c.if-is_out_of_reach.false in
@@ -94,12 +92,34 @@ returns-else-extent-cursor-clause-reads g c = λ pages sees.
     let total : c.in_ok-extent.extent.total ≡ number_at w32 c.open_page.new.cache.bytes.value c.in_ok-cursor.cursor.offset = ap (λ (e : RecordExtent). e.total) extent.0 in
     let passes = rw opened.reads_on.geometry at c.in_ok-extent.ensures.checks in
     let rest = read_at-rest size pages (option_map (λ (l : Lsn). l.0) c.args.end) c.args.at before _ there (opened.checks pages sees) c.in_ok-cursor.cursor opened.place.0 opened.cursor.1 c.in_ok-extent.ensures.whole opened.place.1 c.in_ok-extent.extent.total total extent.1 passes in
-    let reads = read_as size pages c.args.at c.in_ok-extent.extent _ c.read_over_pages.result (ap (λ (e : RecordExtent). e.at) extent.0) rest (rw opened.reads_on.geometry at (c.read_over_pages.ensures.reads pages (opened.reads_on.sees pages sees))) in
+    let reads = read_as size pages c.args.at c.in_ok-extent.extent _ (Err c.in_err-read.field-0.0) (ap (λ (e : RecordExtent). e.at) extent.0) rest (rw opened.reads_on.geometry at (c.in_err-read.ensures.reads pages (opened.reads_on.sees pages sees))) in
+    let claimed = size_in_page size pages (option_map (λ (l : Lsn). l.0) c.args.end) c.args.at before _ there (opened.checks pages sees) c.in_ok-cursor.cursor opened.place.0 opened.cursor.1 c.in_ok-extent.ensures.whole opened.place.1 in
+    record {
+      reads = rw (stop.1, stop.2) reads;
+      spelled = rw stop.1 tt;
+      room = inr (opened.checks pages sees, room_as size pages c.args.at c.in_ok-extent.extent _ _ (ap (λ (e : RecordExtent). e.at) extent.0) (ap (λ (e : RecordExtent). e.total) extent.0 ∙ sym claimed) (rw opened.reads_on.geometry at (c.in_err-read.ensures.room pages (opened.reads_on.sees pages sees))));
+    }
+
+pub returns-in_ok-read-clause-reads_on : goal.returns-in_ok-read-clause-reads_on
+returns-in_ok-read-clause-reads_on g c = reads_more c.in_ok-cursor.ensures.reads_on c.in_ok-read.ensures.reads_on
+
+pub returns-in_ok-read-clause-reads : goal.returns-in_ok-read-clause-reads
+returns-in_ok-read-clause-reads g c = λ pages sees.
+    let at = (goal.at.returns-in_ok-read-clause-reads g c).After-claimed in
+    let size = c.args.buffers.now.cache.geometry in
+    let opened = c.in_ok-cursor.ensures in
+    let before = is_before_end c.args.buffers.now.cache.geometry (option_map (λ (l : Lsn). l.0) c.args.end) c.args.at.position c.is_out_of_reach.result c.is_out_of_reach.ensures c.if-is_out_of_reach.false in
+    let there = ap pages (sym opened.place.0) ∙ here g at pages sees in
+    let extent = c.in_ok-extent.ensures.extent in
+    let total : c.in_ok-extent.extent.total ≡ number_at w32 c.open_page.new.cache.bytes.value c.in_ok-cursor.cursor.offset = ap (λ (e : RecordExtent). e.total) extent.0 in
+    let passes = rw opened.reads_on.geometry at c.in_ok-extent.ensures.checks in
+    let rest = read_at-rest size pages (option_map (λ (l : Lsn). l.0) c.args.end) c.args.at before _ there (opened.checks pages sees) c.in_ok-cursor.cursor opened.place.0 opened.cursor.1 c.in_ok-extent.ensures.whole opened.place.1 c.in_ok-extent.extent.total total extent.1 passes in
+    let reads = read_as size pages c.args.at c.in_ok-extent.extent _ (Ok c.in_ok-read.read) (ap (λ (e : RecordExtent). e.at) extent.0) rest (rw opened.reads_on.geometry at (c.in_ok-read.ensures.reads pages (opened.reads_on.sees pages sees))) in
     let claimed = size_in_page size pages (option_map (λ (l : Lsn). l.0) c.args.end) c.args.at before _ there (opened.checks pages sees) c.in_ok-cursor.cursor opened.place.0 opened.cursor.1 c.in_ok-extent.ensures.whole opened.place.1 in
     record {
       reads = reads;
-      spelled = read_is_spelled size pages (option_map (λ (l : Lsn). l.0) c.args.end) c.args.at opened.cursor.1.stands.valid c.read_over_pages.result reads;
-      room = inr (opened.checks pages sees, room_as size pages c.args.at c.in_ok-extent.extent _ _ (ap (λ (e : RecordExtent). e.at) extent.0) (ap (λ (e : RecordExtent). e.total) extent.0 ∙ sym claimed) (rw opened.reads_on.geometry at (c.read_over_pages.ensures.room pages (opened.reads_on.sees pages sees))));
+      spelled = read_is_spelled size pages (option_map (λ (l : Lsn). l.0) c.args.end) c.args.at opened.cursor.1.stands.valid (Ok c.in_ok-read.read) reads;
+      room = inr (opened.checks pages sees, room_as size pages c.args.at c.in_ok-extent.extent _ _ (ap (λ (e : RecordExtent). e.at) extent.0) (ap (λ (e : RecordExtent). e.total) extent.0 ∙ sym claimed) (rw opened.reads_on.geometry at (c.in_ok-read.ensures.room pages (opened.reads_on.sees pages sees))));
     }
 
 -- the address rises with the position
@@ -112,6 +132,6 @@ pub returns-then-extent-cursor-clause-rises : goal.returns-then-extent-cursor-cl
 returns-then-extent-cursor-clause-rises g c =
     rises_behind c.args.buffers.now.cache.geometry _ c.in_ok-cursor.ensures.cursor.1.stands.valid c.in_ok-extent.extent.at c.args.at c.read_in_page.result (ap (λ (e : RecordExtent). e.at) c.in_ok-extent.ensures.extent.0) c.read_in_page.ensures.answered
 
-pub returns-else-extent-cursor-clause-rises : goal.returns-else-extent-cursor-clause-rises
-returns-else-extent-cursor-clause-rises g c =
-    rises_behind c.args.buffers.now.cache.geometry _ c.in_ok-cursor.ensures.cursor.1.stands.valid c.in_ok-extent.extent.at c.args.at c.read_over_pages.result (ap (λ (e : RecordExtent). e.at) c.in_ok-extent.ensures.extent.0) c.read_over_pages.ensures.answered
+pub returns-in_ok-read-clause-rises : goal.returns-in_ok-read-clause-rises
+returns-in_ok-read-clause-rises g c =
+    rises_behind c.args.buffers.now.cache.geometry _ c.in_ok-cursor.ensures.cursor.1.stands.valid c.in_ok-extent.extent.at c.args.at (Ok c.in_ok-read.read) (ap (λ (e : RecordExtent). e.at) c.in_ok-extent.ensures.extent.0) c.in_ok-read.ensures.answered

@@ -2,6 +2,7 @@ use Rattle.std.proofs.Common.{◌≡◌, ℕ, ◌+◌, ◌-◌, length, subst, a
 use Rattle.wal_rule.specs.SeatedPasses.{HasView, view_of}
 use Rattle.word_ring.specs.Copied.{copied_view}
 use Rattle.word_ring.proofs.CopyLaws.{behind_run, run_on}
+use Rattle.word_ring.proofs.Steps.{same_table}
 use Rattle.word_ring.proofs.copying.store_run.Goals as goal
 
 pub store_some-requires-clause-run : goal.store_some-requires-clause-run
@@ -11,6 +12,10 @@ store_some-requires-clause-run g c =
     run_on c.args.place c.loop-done.done 4 (length c.args.words.now) c.args.words.now
     c.args.seated.now c.loop-done.seated c.requires.run c.loop-done.invariant.1
     (omega (arith, within, more))
+
+pub store_some-requires-clause-table : goal.store_some-requires-clause-table
+store_some-requires-clause-table g c =
+    same_table c.args.seated.now c.loop-done.seated c.loop-done.invariant.1.same_table
 
 pub loop-done-preserved : goal.loop-done-preserved
 loop-done-preserved g c =
@@ -27,6 +32,10 @@ store_some-requires-2-clause-run g c =
     run_on c.args.place c.loop-done.done _ (length c.args.words.now) c.args.words.now
     c.args.seated.now c.loop-done.seated c.requires.run c.loop-done.invariant.1
     (omega (arith, within))
+
+pub store_some-requires-2-clause-table : goal.store_some-requires-2-clause-table
+store_some-requires-2-clause-table g c =
+    same_table c.args.seated.now c.loop-done.seated c.loop-done.invariant.1.same_table
 
 pub returns : goal.returns
 returns g c =

@@ -57,6 +57,15 @@ returns-then-written-ring-clause-tries g c =
       looks g at c.if-turn-ne0.false,
     )
 
+pub returns-then-written-ring-clause-stays : goal.returns-then-written-ring-clause-stays
+returns-then-written-ring-clause-stays g c =
+    let has = tried c.args.seated.now c.look-at.result.0 c.look-at.result.1 c.requires.away _ _
+    (c.take_turn-turn.ensures.taken c.if-turn-ne0.false) c.look-at.ensures.view _
+    c.give_turn_back-then-written-ring.ensures.view in record {
+      same_table = has.same_table;
+      same_hand = ap (λ m. m.1) has.me_is;
+    }
+
 pub returns-else-written-ring-clause-tries : goal.returns-else-written-ring-clause-tries
 returns-else-written-ring-clause-tries g c =
     let at = (goal.at.returns-else-written-ring-clause-tries g c).After-look-at in

@@ -1,4 +1,5 @@
 use Rattle.std.proofs.Common.{[], ◌∷◌, ◌++◌, refl, sym, subst, ap, ◌∙◌}
+use Rattle.std.specs.Cow.{cow_slice_items}
 use Rattle.std.specs.Int.{w32, to_le_bytes}
 use Rattle.wal_crc32c.specs.Crc32c.{HasFed}
 use Rattle.record_spelling.specs.Spelling.{Assembled, assembled_of, assembled_size, crc_of, header_front}
@@ -9,7 +10,7 @@ pub returns : goal.returns
 returns c =
     let p = c.self.inside in
     let prev = c.args.prev.0 in
-    let bytes = p.after_header.items in
+    let bytes = cow_slice_items p.after_header in
     let a = assembled_of p.xid.0 p.rmid p.info bytes in
     let front = bytes ++ (to_le_bytes w32 (assembled_size a) ++ to_le_bytes w32 a.xid) in
     let last = a.info ∷ a.rmid ∷ 0 ∷ 0 ∷ [] in

@@ -1,4 +1,5 @@
 use Rattle.std.proofs.Common.{◌≡◌, ℕ, ◌+◌, List, [], ◌++◌, sym, subst, ap, ◌∙◌, arith}
+use Rattle.std.specs.Cow.{cow_slice_items}
 use Rattle.std.specs.Int.{w32, w64, to_le_bytes}
 use Rattle.wal_crc32c.specs.Crc32c.{HasFed}
 use Rattle.record_spelling.specs.Spelling.{AssembledFits, assembled_of, assembled_size}
@@ -9,9 +10,9 @@ use Rattle.record_spelling.proofs.body.Body.of_parts.Goals as goal
 pub invariant_of-result : goal.invariant_of-result
 invariant_of-result c =
     let known = c.requires in
-    let bytes = c.args.after_header.items in
+    let bytes = cow_slice_items c.args.bytes in
     let a = assembled_of c.args.xid.0 c.args.rmid c.args.info bytes in
-    let first = rw c.deref.ensures.value at (c.update.ensures [] c.new-crc.ensures) in
+    let first = rw c.as_slice.ensures.value at (c.update.ensures [] c.new-crc.ensures) in
     let whole = c.update_round_gap.ensures bytes first in
     let size : 24 + c.len.result ≡ assembled_size a = omega (arith, c.len.ensures) in
     let front = c.size_and_xid.ensures.bytes ∙ ap (λ (n : ℕ). to_le_bytes w32 n ++ to_le_bytes w32 a.xid) size in

@@ -17,7 +17,7 @@ use Rattle.wal_rule.specs.Slotted.{resting_plain, slot_disk}
 use Rattle.wal_rule.specs.Tables.{began_of_table, opening_of_table}
 use Rattle.wal_log.specs.Reopening.{entries_found}
 use Rattle.wal_log.proofs.Opens.{first_rests}
-use Rattle.wal_log.proofs.Reopens.{fixed_end, fixed_made, fixed_openable, fixed_plan, fixed_settled, fixed_size, fixed_stopped, fixed_words}
+use Rattle.wal_log.proofs.Reopens.{fixed_end, fixed_made, fixed_openable, fixed_plan, fixed_settled, fixed_size, fixed_words}
 use Rattle.wal_log.proofs.wal.Wal.go_on.Goals as goal
 
 -- what is fixed is of the log that was found

@@ -2,8 +2,9 @@ use Rattle.std.proofs.Common.{arith, subst}
 use Rattle.segment_disk.specs.Tape.{Tape}
 use Rattle.wal_rule.specs.Called.{IsCalled}
 use Rattle.wal_rule.specs.Tables.{opening_of_table}
-use Rattle.wal_rule.proofs.DeviceSteps.{catches_up}
+use Rattle.wal_rule.proofs.DeviceSteps.{call_steady, catches_up}
 use Rattle.wal_rule.proofs.Live.{kept_step, live_held}
+use Rattle.wal_rule.proofs.SeatedSteps.{numbered_behind, seated_behind}
 use Rattle.wal_rule.proofs.seated.SeatedPass.catch_up.Goals as goal
 
 pub load-requires : goal.load-requires
@@ -20,3 +21,16 @@ load-requires g c = (
       (live_held g.D.Disk.tape g.D.Disk.moment g.D.Disk.faults _ _ _ _ c.args.self.now.seated.live s h here)
       one here fits),
 )
+
+pub invariant_of-self : goal.invariant_of-self
+invariant_of-self g c =
+    let old = c.args.self.now in
+    let new = c.load.new.seat in
+    let ended = c.load.ensures.2.0 in
+    let keeps = call_steady g.B.OfCall.call ended.outcome old.seat.me.0 in
+    record {
+      seated = seated_behind _ _ old.number old.seat new old.seated old.numbered
+          c.load.ensures.0 _ ended.view_is keeps c.load.ensures.2.1;
+      numbered = numbered_behind _ _ old.number old.seat new old.seated old.numbered
+          c.load.ensures.0 _ ended.view_is keeps c.load.ensures.2.1;
+    }

@@ -1,0 +1,108 @@
+use Rattle.std.proofs.Common.{◌≡◌, ◌∙◌}
+use Rattle.std.proofs.lemmas.Result.{err_from_is_err_and}
+use Rattle.wal_core.specs.Views.{Away}
+use Rattle.wal_rule.specs.SeatedPasses.{view_of}
+use Rattle.wal_log.specs.Downs.{KnowsNoFault}
+use Rattle.wal_log.proofs.AddingNothing.{adds_on}
+use Rattle.wal_log.proofs.PageLaws.{further_maps}
+use Rattle.wal_log.proofs.RoomLaws.{HasRoomMade, comes_to_rest, fault_since, made_on, none_made, pages_made, rests_without_turn}
+use Rattle.wal_log.proofs.room.make_room.Given.{Over}
+use Rattle.wal_log.proofs.room.make_room.Goals as goal
+use Rattle.wal_log.proofs.room.make_room.Goals.{After-was_mapped, After-map_ahead, After-write_ahead}
+
+-- ---- the page's end was looked at
+
+looked : (g : Over) (c : After-was_mapped g) → HasRoomMade c.args.seated.now c.was_mapped.new.seated
+looked g c =
+    pages_made c.args.seated.now c.args.seated.now c.was_mapped.new.seated
+    (none_made c.args.seated.now (rests_without_turn c.args.seated.now c.requires.rests)
+    c.requires.up) c.was_mapped.ensures.maps
+
+pub returns-then-was_mapped-clause-ends : goal.returns-then-was_mapped-clause-ends
+returns-then-was_mapped-clause-ends g c =
+    (looked g (goal.at.returns-then-was_mapped-clause-ends g c).After-was_mapped).up
+
+pub returns-then-was_mapped-clause-log : goal.returns-then-was_mapped-clause-log
+returns-then-was_mapped-clause-log g c =
+    ((looked g (goal.at.returns-then-was_mapped-clause-log g c).After-was_mapped).adds).log
+
+pub returns-then-was_mapped-clause-rests : goal.returns-then-was_mapped-clause-rests
+returns-then-was_mapped-clause-rests g c =
+    let so_far = looked g (goal.at.returns-then-was_mapped-clause-rests g c).After-was_mapped in
+    comes_to_rest c.args.seated.now c.was_mapped.new.seated c.requires.rests so_far.adds so_far.rests
+
+pub write_ahead-requires-clause-rests : goal.write_ahead-requires-clause-rests
+write_ahead-requires-clause-rests g c =
+    (looked g (goal.at.write_ahead-requires-clause-rests g c).After-was_mapped).rests
+
+pub write_ahead-requires-clause-up : goal.write_ahead-requires-clause-up
+write_ahead-requires-clause-up g c =
+    (looked g (goal.at.write_ahead-requires-clause-up g c).After-was_mapped).up
+
+-- ---- the disk failed
+
+pub returns-in_err-write_ahead-clause-ends : goal.returns-in_err-write_ahead-clause-ends
+returns-in_err-write_ahead-clause-ends g c =
+    let p = err_from_is_err_and c.from_residual.result c.from_residual.ensures.1 in
+    let so_far = looked g (goal.at.returns-in_err-write_ahead-clause-ends g c).After-was_mapped in
+    rw (p.1, p.2)
+    (fault_since (view_of c.args.seated.now) (view_of c.was_mapped.new.seated)
+    (view_of c.write_ahead.new.seated) c.requires.up so_far.up c.in_err-write_ahead.field-0.0
+    c.in_err-write_ahead.ensures.ends)
+
+pub returns-in_err-write_ahead-clause-log : goal.returns-in_err-write_ahead-clause-log
+returns-in_err-write_ahead-clause-log g c =
+    let so_far = looked g (goal.at.returns-in_err-write_ahead-clause-log g c).After-was_mapped in
+    (c.write_ahead.ensures.adds_nothing).log ∙ (so_far.adds).log
+
+pub returns-in_err-write_ahead-clause-rests : goal.returns-in_err-write_ahead-clause-rests
+returns-in_err-write_ahead-clause-rests g c =
+    let so_far = looked g (goal.at.returns-in_err-write_ahead-clause-rests g c).After-was_mapped in
+    comes_to_rest c.args.seated.now c.write_ahead.new.seated c.requires.rests
+    (adds_on c.args.seated.now c.was_mapped.new.seated c.write_ahead.new.seated so_far.adds
+    c.write_ahead.ensures.adds_nothing) c.write_ahead.ensures.rests
+
+-- ---- pages were mapped
+
+module _ (g : Over) (c : After-write_ahead g)
+    (so_far : HasRoomMade c.args.seated.now c.was_mapped.new.seated)
+    (up : KnowsNoFault (view_of c.write_ahead.new.seated)) where
+  written : HasRoomMade c.args.seated.now c.write_ahead.new.seated
+  written = made_on c.args.seated.now c.was_mapped.new.seated c.write_ahead.new.seated so_far
+      c.write_ahead.ensures.adds_nothing c.write_ahead.ensures.rests up
+
+  still_away : (view_of c.write_ahead.new.seated).mapping.stage ≡ Away
+  still_away = (((written.adds).works).work).stage ∙ (c.requires.rests.rests).stage
+
+pub map_ahead-requires : goal.map_ahead-requires
+map_ahead-requires g c =
+    let path = goal.at.map_ahead-requires g c in record {
+      away = still_away g path.After-write_ahead (looked g path.After-was_mapped)
+          c.in_ok-write_ahead.ensures.ends;
+    }
+
+module _ (g : Over) (c : After-map_ahead g)
+    (before : HasRoomMade c.args.seated.now c.write_ahead.new.seated) where
+  mapped : HasRoomMade c.args.seated.now c.map_ahead.new.seated
+  mapped = pages_made c.args.seated.now c.write_ahead.new.seated c.map_ahead.new.seated before
+      (further_maps c.write_ahead.new.seated c.map_ahead.new.seated c.map_ahead.ensures.stays
+      c.map_ahead.ensures.maps)
+
+pub returns-clause-ends : goal.returns-clause-ends
+returns-clause-ends g c =
+    let path = goal.at.returns-clause-ends g c in
+    (mapped g path.After-map_ahead (written g path.After-write_ahead
+    (looked g path.After-was_mapped) c.in_ok-write_ahead.ensures.ends)).up
+
+pub returns-clause-log : goal.returns-clause-log
+returns-clause-log g c =
+    let path = goal.at.returns-clause-log g c in
+    ((mapped g path.After-map_ahead (written g path.After-write_ahead
+    (looked g path.After-was_mapped) c.in_ok-write_ahead.ensures.ends)).adds).log
+
+pub returns-clause-rests : goal.returns-clause-rests
+returns-clause-rests g c =
+    let path = goal.at.returns-clause-rests g c in
+    let made = mapped g path.After-map_ahead (written g path.After-write_ahead
+    (looked g path.After-was_mapped) c.in_ok-write_ahead.ensures.ends) in
+    comes_to_rest c.args.seated.now c.map_ahead.new.seated c.requires.rests made.adds made.rests

@@ -1,7 +1,0 @@
-use Rattle.std.proofs.Common.{arith}
-use Rattle.std.proofs.lemmas.Grind.{common_steps}
-use Rattle.wal_script.proofs.Pairs.{behind-push}
-use Rattle.wal_script.proofs.hexadecimal.bytes.Goals as goal
-
-pub loop-rest-preserved : goal.loop-rest-preserved
-loop-rest-preserved c = grind (arith, common_steps, behind-push)
