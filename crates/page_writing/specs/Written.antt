@@ -1,14 +1,7 @@
 -- What the calls of the device leave of the writer where they succeed.
-use Rattle.std.specs.Prelude.{◌≡◌, ◌⊎◌, ℕ, ◌+◌, ◌*◌, ◌/◌, ◌%◌, ◌<◌, ◌≤◌, max, min}
+use Rattle.std.specs.Prelude.{◌≡◌, ◌⊎◌, ℕ, ◌+◌, ◌*◌, ◌/◌, ◌%◌, ◌≤◌, min}
 use mathlib.Core.Option.{none, some}
 use Rattle.wal_core.specs.Views.{Plain}
-
--- the log is written up to what is known to be copied, and where it got so to a segment's end, no
--- write waits for a sync
-pub record IsWrittenOut (size known : ℕ) (old new : Plain) : Type 0 where
-  pub up : new.fault ≡ none
-  pub written : new.written ≡ max old.written known
-  pub ended : old.written < new.written → new.written % size ≡ 0 → new.waiting ≡ none
 
 -- the page under way is written up to its end, or to what is known to be copied
 pub record IsPageWritten (size known : ℕ) (old new : Plain) : Type 0 where

@@ -15,4 +15,4 @@ mod writing;
 
 pub use loading::load_page;
 pub use reading::{WriterNow, writer_now};
-pub use writing::{sync_written, write_out};
+pub use writing::{sync_written, write_next};

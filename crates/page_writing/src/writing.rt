@@ -1,12 +1,12 @@
-// What is known to be copied is written out, page by page (PostgreSQL's xlog.c, XLogWrite), with a
-// writer in hand that has not failed. Pages are written in rising order, from the one that holds
+// What is known to be copied is written out a page at a time (PostgreSQL's xlog.c, XLogWrite), with
+// a writer in hand that has not failed. Pages are written in rising order, from the one that holds
 // the next byte to be written on, the last one as it stands; so one address tells all that is
 // written. For each page in this order: writes to another segment are synced, its own segment is
 // made unless it is there, its words are loaded, it is written, and behind a segment's last page
 // that segment is synced. So at most one segment waits for a sync. A call that fails is the last.
 ghost use Rattle.std.specs.Prelude.{◌≡◌, ◌+◌, ◌*◌, ◌/◌, ◌<◌, ◌≤◌};
 ghost use Rattle.page_writing.specs.InHand.{CallsEnd, IsReady, known_copied, writer_in};
-ghost use Rattle.page_writing.specs.Written.{IsAlone, IsPageWritten, IsSegmentThere, LeavesAlone, IsSegmentSynced, IsWrittenOut};
+ghost use Rattle.page_writing.specs.Written.{IsAlone, IsPageWritten, IsSegmentThere, LeavesAlone, IsSegmentSynced};
 ghost use Rattle.wal_rule.specs.SeatedPasses.{setup_of, view_of};
 
 use crate::calling::{create_segment, put_page, sync_segment};
@@ -17,53 +17,11 @@ use flush_core::DiskFault;
 use segment_disk::Disk;
 use wal_rule::SeatedPass;
 
-/// Writes out what is known to be copied, page by page, by way of `bytes`. A segment is made before
-/// its first page and synced behind its last. At a fault the writer keeps its count, and no further
-/// call is made.
-pub fn write_out<'p, D: Disk>(
-    seated: &mut SeatedPass<'p, D>,
-    known: u64,
-    bytes: &mut [u8; PAGE_SIZE as usize],
-) -> Result<(), DiskFault>
-    requires ready { IsReady D.tape D.moment D.faults seated.old }
-    requires known { known ≡ known_copied (view_of seated.old) }
-    // The writer has written up to what is known, or as far as before if that is more. At a fault
-    // nothing is said of how far it came. In both cases it stays in hand, and nothing else of the
-    // view has changed but what is loaded.
-    ensures ends { CallsEnd D.tape D.moment D.faults
-        (IsWrittenOut (setup_of seated.old).segment_size known) result seated.old seated.new }
-{
-    let written = writer_now(seated).written;
-    if known <= written {
-        return Ok(());
-    }
-    write_pages(seated, known, written / PAGE_SIZE, bytes)
-}
-
-// Writes the pages from the one under way on, `first`, which holds the next byte to be written: a
-// byte that is known to be copied.
-fn write_pages<'p, D: Disk>(
-    seated: &mut SeatedPass<'p, D>,
-    known: u64,
-    first: u64,
-    bytes: &mut [u8; PAGE_SIZE as usize],
-) -> Result<(), DiskFault>
-    requires ready { IsReady D.tape D.moment D.faults seated.old }
-    requires known { known ≡ known_copied (view_of seated.old) }
-    requires first { first ≡ (writer_in (view_of seated.old)).written / 8192 }
-    requires left { (writer_in (view_of seated.old)).written < known }
-    ensures ends { CallsEnd D.tape D.moment D.faults
-        (IsWrittenOut (setup_of seated.old).segment_size known) result seated.old seated.new }
-{
-    for page in first..known.div_ceil(PAGE_SIZE) {
-        write_next(seated, known, page, bytes)?;
-    }
-    Ok(())
-}
-
-// Writes the page under way, up to its end or to what is known to be copied. It holds the next byte
-// to be written, which is known to be copied.
-fn write_next<'p, D: Disk>(
+/// Writes the page under way by way of `bytes`, up to its end or to what is known to be copied. It
+/// holds the next byte to be written, which is known to be copied. Its segment is made before the
+/// first page there, and synced behind the last. At a fault the writer keeps its count, and no
+/// further call is made.
+pub fn write_next<'p, D: Disk>(
     seated: &mut SeatedPass<'p, D>,
     known: u64,
     page: u64,
@@ -73,6 +31,8 @@ fn write_next<'p, D: Disk>(
     requires known { known ≡ known_copied (view_of seated.old) }
     requires page { page ≡ (writer_in (view_of seated.old)).written / 8192 }
     requires left { (writer_in (view_of seated.old)).written < known }
+    // At a fault nothing is said of how far it came. In both cases the writer stays in hand, and
+    // nothing else of the view has changed but what is loaded.
     ensures ends { CallsEnd D.tape D.moment D.faults
         (IsPageWritten (setup_of seated.old).segment_size known) result seated.old seated.new }
 {

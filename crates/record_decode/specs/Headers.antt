@@ -1,10 +1,12 @@
 -- A record's headers as the code keeps them.
+use Rattle.std.specs.Prelude.{List}
 use Rattle.record_decode.specs.declared.decoding.Headers as code
+use Rattle.record_decode.specs.declared.head.BlockHead.{BlockHead}
 use Rattle.record_decode.specs.Reading.{HeadersRead}
 
-abbrev pub headers_said : code.Headers → HeadersRead
-headers_said h = record {
-  blocks = h.blocks.items;
+abbrev pub headers_said : List BlockHead → code.Headers → HeadersRead
+headers_said heads h = record {
+  blocks = heads;
   origin = h.origin;
   top_xid = h.top_xid;
   payload = h.payload.now;

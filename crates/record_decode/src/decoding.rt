@@ -28,28 +28,29 @@ use std::alloc::Global;
 use unread::Unread;
 use wal_types::{BlockList, Bytes, Record, Xid};
 
-/// What a record's headers say, and the payload behind them.
-#[derive(Drop)]
+/// What a record's headers say that are no blocks', and the payload behind them all.
+#[derive(Clone, Copy)]
 struct Headers<'a> {
-    blocks: Vec<BlockHead>,
     origin: Option<u16>,
     top_xid: Option<u32>,
     payload: &'a [u8],
 }
 
 #[tactic(auto, unfolding(crate::specs::Reading::headers_of))]
-// `bytes` are those behind the record's header.
-fn read_headers<'a>(alloc: Global, bytes: &'a [u8]) -> Result<Headers<'a>, RecErr>
+// `bytes` are those behind the record's header; the heads of blocks are put into `heads`.
+fn read_headers<'a>(heads: &mut Vec<BlockHead>, bytes: &'a [u8]) -> Result<Headers<'a>, RecErr>
     requires { length bytes.now + 24 < 2 ^ 64 }
-    ensures exact { GivesAs headers_said result (headers_of (start_of_headers bytes.now)) }
-    ensures promised { IfOk result (λ h. sum_by payload_len h.blocks.items ≤ length h.payload.now) }
+    ensures exact { GivesAs (headers_said heads.new.items) result
+        (headers_of (start_of_headers bytes.now)) }
+    ensures promised { IfOk result
+        (λ h. sum_by payload_len heads.new.items ≤ length h.payload.now) }
 {
     let unread = Unread {
         at: HEADER_LEN as u64,
         bytes,
         owed: 0,
     };
-    let (blocks, unread) = block_items(alloc, unread)?;
+    let unread = block_items(heads, unread)?;
     let (origin, unread) = optional_u16(ORIGIN, unread)?;
     let (top_xid, unread) = optional_u32(TOP_XID, unread)?;
     let end = main_item(unread)?;
@@ -57,7 +58,6 @@ fn read_headers<'a>(alloc: Global, bytes: &'a [u8]) -> Result<Headers<'a>, RecEr
         return Err(malformed(end.at, RecKind::Fill));
     }
     Ok(Headers {
-        blocks,
         origin,
         top_xid,
         payload: end.bytes,
@@ -75,13 +75,14 @@ fn record_of(
     alloc: Global,
     mut spare: Vec<u8>,
     bytes: &[u8],
+    heads: &[BlockHead],
     headers: Headers,
 ) -> Result<Record, RecErr>
     requires header { 24 ≤ length bytes.now }
-    requires promised { sum_by payload_len headers.blocks.items ≤ length headers.payload.now }
-    ensures { GivesReading result (Ok (record_of bytes.now (headers_said headers.entry))) }
+    requires promised { sum_by payload_len heads.now ≤ length headers.payload.now }
+    ensures { GivesReading result (Ok (record_of bytes.now (headers_said heads.now headers.entry))) }
 {
-    let (blocks, main) = blocks_of(alloc, &headers.blocks, headers.payload)?;
+    let (blocks, main) = blocks_of(alloc, heads, headers.payload)?;
     spare.clear();
     spare.extend_from_slice(main)?;
     Ok(Record {
@@ -96,17 +97,27 @@ fn record_of(
 }
 
 #[tactic(auto, unfolding(crate::specs::Reading::items_of))]
-fn read_items(alloc: Global, spare: Vec<u8>, bytes: &[u8]) -> Result<Record, RecErr>
+fn read_items(
+    alloc: Global,
+    heads: &mut Vec<BlockHead>,
+    spare: Vec<u8>,
+    bytes: &[u8],
+) -> Result<Record, RecErr>
     requires { 24 ≤ length bytes.now }
     ensures { GivesReading result (items_of bytes.now) }
 {
     let (_, behind_header) = bytes.split_at(HEADER_LEN);
-    let headers = read_headers(alloc, behind_header)?;
-    record_of(alloc, spare, bytes, headers)
+    let headers = read_headers(heads, behind_header)?;
+    record_of(alloc, spare, bytes, heads, headers)
 }
 
 #[tactic(auto, unfolding(crate::specs::Reading::reading_of))]
-fn reading(alloc: Global, spare: Vec<u8>, bytes: &[u8]) -> Result<Record, RecErr>
+fn reading(
+    alloc: Global,
+    heads: &mut Vec<BlockHead>,
+    spare: Vec<u8>,
+    bytes: &[u8],
+) -> Result<Record, RecErr>
     ensures { GivesReading result (reading_of bytes.now) }
 {
     if bytes.len() < HEADER_LEN || u32_at(bytes, LEN_AT) as usize != bytes.len() {
@@ -115,7 +126,7 @@ fn reading(alloc: Global, spare: Vec<u8>, bytes: &[u8]) -> Result<Record, RecErr
     if is_free_manager(bytes[RMID_AT]) {
         return Err(malformed(RMID_AT as u64, RecKind::Rmgr));
     }
-    read_items(alloc, spare, bytes)
+    read_items(alloc, heads, spare, bytes)
 }
 
 /// Reads a record's bytes, all of them: the headers of its items from left to right, as long as
@@ -133,18 +144,23 @@ pub fn decode(alloc: Global, bytes: &[u8]) -> Result<Record, RecErr>
     // All of it as one reading from left to right.
     ensures as_reading { GivesReading result (reading_of bytes.now) }
 {
-    decode_into(alloc, Vec::new(alloc), bytes)
+    decode_into(alloc, &mut Vec::new(alloc), Vec::new(alloc), bytes)
 }
 
-/// `decode`, with the main data put into a vector that the caller has, whatever it held: so one
-/// whose room is large enough spares taking memory.
-pub fn decode_into(alloc: Global, spare: Vec<u8>, bytes: &[u8]) -> Result<Record, RecErr>
-    // As of `decode`, whatever the vector held.
+/// `decode`, with the main data put into a vector that the caller has, and the heads of blocks into
+/// another, whatever both held: so those whose room is large enough spare taking memory.
+pub fn decode_into(
+    alloc: Global,
+    heads: &mut Vec<BlockHead>,
+    spare: Vec<u8>,
+    bytes: &[u8],
+) -> Result<Record, RecErr>
+    // As of `decode`, whatever the vectors held.
     ensures spelled { IfOk result (λ r. Spells bytes.now r) }
     ensures reads { (r : Record) → Spells bytes.now r → GivesReading result (Ok r) }
     ensures fails { IfErr result (TellsFirstFault bytes.now) }
     ensures refuses { (e : RecErr) → FailsAt bytes.now e → GivesReading result (Err e) }
     ensures as_reading { GivesReading result (reading_of bytes.now) }
 {
-    reading(alloc, spare, bytes)
+    reading(alloc, heads, spare, bytes)
 }

@@ -7,3 +7,4 @@ pub mod Spelling
 pub mod Refusal
 pub mod Fitting
 pub mod Header
+pub mod Plain

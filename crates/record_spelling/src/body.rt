@@ -113,7 +113,7 @@ impl<'a> Body<'a> {
         Body::of_parts(xid, rmid, info, bytes)
     }
 
-    #[inline]
+    #[inline(always)]
     pub(crate) fn of_parts(xid: Xid, rmid: u8, info: u8, bytes: CowSlice<'a, u8>) -> Body<'a>
         requires { RecordOf (assembled_of xid.0 rmid info (cow_slice_items bytes)) }
         ensures { result ≡ assembled_of xid.0 rmid info (cow_slice_items bytes.entry) }
@@ -179,9 +179,9 @@ impl<'a> Body<'a> {
         }
     }
 
-    // The three words of the header.
+    /// The three words of the header, as they are written behind a record that starts at prev.
     #[inline(always)]
-    pub(crate) fn header_words(&self, prev: Lsn) -> [u64; 3]
+    pub fn header_words(&self, prev: Lsn) -> [u64; 3]
         ensures words { (n : ℕ) → n < 3
             → slice_index result n ≡ word_at (filled self.now prev.0) n }
         ensures three { length result ≡ 3 }

@@ -16,5 +16,7 @@ mod segment_switch;
 pub use body::Body;
 pub use fault::BodyErr;
 pub use manager::is_free_manager;
+pub use plain::{FRONT, spell_plain_in};
+pub use putting::last_word;
 pub use refusing::refusal;
 pub use segment_switch::is_switch;

@@ -1,8 +1,9 @@
 //! A record of main data alone, as most are: assembled of its parts.
 
-ghost use Rattle.std.specs.Prelude.{◌≡◌, ◌+◌, ◌^◌, ◌<◌, false, length, All, None, IfOk, IfErr, OnOk};
+ghost use Rattle.std.specs.Prelude.{◌≡◌, ◌+◌, ◌^◌, ◌<◌, ◌≤◌, false, length, drop, All, None, IfOk, IfErr, OnOk};
 ghost use Rattle.std.specs.Cow.{cow_slice_items};
 ghost use Rattle.wal_types.specs.declared.record.Xid.{Xid};
+ghost use Rattle.record_spelling.specs.Plain.{IsPlainSpelling};
 ghost use Rattle.record_spelling.specs.Record.{plain_record};
 ghost use Rattle.record_spelling.specs.Refusal.{RefusesToAssemble, refusal_of};
 ghost use Rattle.record_spelling.specs.Spelling.{IsWritable, assembled, is_assembled_switch, plain_after_header};
@@ -11,13 +12,16 @@ use crate::assembly::put_main_header;
 use crate::blocks::put_bytes;
 use crate::body::{Body, header_fits};
 use crate::fault::BodyErr;
-use crate::layout::{HEADER_LEN, MAX_LEN};
+use crate::layout::{HEADER_LEN, MAIN_LONG, MAIN_SHORT, MAX_LEN};
 use crate::manager::is_free_manager;
 use crate::segment_switch::ends_segment;
 use bumpalo::Bump;
 use std::alloc::{AllocError, Global};
 use std::borrow::CowSlice;
 use wal_types::Xid;
+
+/// How many bytes are free in front of main data that is spelled where it stands.
+pub const FRONT: usize = 5;
 
 impl<'a> Body<'a> {
     /// The same as `assemble` of a record that has main data alone.
@@ -43,29 +47,16 @@ impl<'a> Body<'a> {
         Ok(Body::of_plain(xid, rmid, info, main, CowSlice::Owned(bytes)))
     }
 
-    /// The same as `assemble_in` of a record that has main data alone.
+    /// The body of such a record by its parts and what stands behind its header, which lies in an
+    /// arena (`spell_plain_in`).
     #[inline(always)]
-    pub fn assemble_plain_in(
-        bump: &'a Bump,
-        room: &mut Vec<u8>,
-        xid: Xid,
-        rmid: u8,
-        info: u8,
-        main: &[u8],
-    ) -> Result<Body<'a>, BodyErr>
-        ensures ok { IfOk result (λ body. (body ≡ assembled (plain_record xid rmid info main.now))
-            × IsWritable (plain_record xid rmid info main.now)) }
-        ensures inserted { IfOk result (λ body. is_assembled_switch body ≡ false) }
-        ensures not_refused { OnOk result (refusal_of (plain_record xid rmid info main.now) ≡ None) }
-        ensures which { IfErr result (λ e.
-            RefusesToAssemble e (plain_record xid rmid info main.now)) }
+    pub fn of_plain_in(xid: Xid, rmid: u8, info: u8, main: &[u8], bytes: &'a [u8]) -> Body<'a>
+        requires { IsPlainSpelling rmid info main.now bytes.now }
+        ensures ok { (result ≡ assembled (plain_record xid rmid info main.now))
+            × IsWritable (plain_record xid rmid info main.now) }
+        ensures inserted { is_assembled_switch result ≡ false }
     {
-        if let Some(refusal) = refusal_of_plain(rmid, info, main) {
-            return Err(refusal);
-        }
-        spell_plain(room, main)?;
-        let bytes = bump.try_alloc_slice_copy(room)?;
-        Ok(Body::of_plain(xid, rmid, info, main, CowSlice::Borrowed(bytes)))
+        Body::of_plain(xid, rmid, info, main, CowSlice::Borrowed(bytes))
     }
 
     // The body of such a record that was not refused, of the bytes behind its header.
@@ -82,6 +73,66 @@ impl<'a> Body<'a> {
         Body::of_parts(xid, rmid, info, bytes)
     }
 }
+
+/// What stands behind the header of a record that has main data alone, in an arena; or why the
+/// record cannot be assembled. The data stands in the room behind free bytes, into which goes what
+/// is spelled in front of it.
+#[inline(always)]
+pub fn spell_plain_in<'a>(
+    bump: &'a Bump,
+    room: &mut [u8],
+    rmid: u8,
+    info: u8,
+) -> Result<&'a [u8], BodyErr>
+    requires { FRONT ≤ length room.old }
+    ensures ok { IfOk result (λ bytes.
+        IsPlainSpelling rmid info (drop FRONT room.old) bytes.now) }
+    ensures which { IfErr result (λ e.
+        (xid : Xid) → RefusesToAssemble e (plain_record xid rmid info (drop FRONT room.old))) }
+    ensures stays { drop FRONT room.new ≡ drop FRONT room.old }
+{
+    if let Some(refusal) = refusal_of_plain(rmid, info, &room[FRONT..]) {
+        return Err(refusal);
+    }
+    bytes_fit(&room[FRONT..]);
+    let start = put_front(room);
+    Ok(bump.try_alloc_slice_copy(&room[start..])?)
+}
+
+// Puts what is spelled in front of main data into the free bytes there, and tells where it begins.
+#[inline(always)]
+fn put_front(room: &mut [u8]) -> usize
+    requires front { FRONT ≤ length room.old }
+    requires short { length (drop FRONT room.old) < 2 ^ 32 }
+    ensures spelled { drop result room.new ≡ plain_after_header (drop FRONT room.old) }
+    ensures stays { drop FRONT room.new ≡ drop FRONT room.old }
+    ensures within { result ≤ length room.new }
+{
+    let len = room.len() - FRONT;
+    match len {
+        0 => FRONT,
+        1..=255 => {
+            room[3] = MAIN_SHORT;
+            room[4] = len as u8;
+            3
+        }
+        _ => {
+            let [b0, b1, b2, b3] = (len as u32).to_le_bytes();
+            room[0] = MAIN_LONG;
+            room[1] = b0;
+            room[2] = b1;
+            room[3] = b2;
+            room[4] = b3;
+            0
+        }
+    }
+}
+
+// The bytes of a value of the program are bytes.
+#[inline(always)]
+fn bytes_fit(bytes: &[u8])
+    ensures { All (λ b. b < 256) bytes.now }
+{}
 
 // Why such a record cannot be assembled.
 #[inline(always)]

@@ -27,6 +27,19 @@ impl<'a> Body<'a> {
         }
     }
 
+    /// The bytes of which its words are made from the n-th on, which lies behind the header: eight
+    /// for each word, and perhaps fewer for the last one, whose others are zeros.
+    #[inline(always)]
+    pub fn bytes_from(&self, n: u32) -> &[u8]
+        requires behind { 3 ≤ n }
+        requires within { 8 * n < assembled_room self.now }
+        ensures words { (prev k : ℕ) → 8 * (n + k) < assembled_room self.now
+            → word_at result.now k ≡ word_at (filled self.now prev) (n + k) }
+        ensures long { assembled_room self.now ≤ 8 * n + length result.now + 7 }
+    {
+        &self.after_header()[(n as usize - 3) * 8..]
+    }
+
     // Puts the record's first words: those of the header, if there are places for all three, and
     // those behind it, which say nothing of the record before.
     #[inline(always)]
@@ -60,10 +73,10 @@ fn put_words_of(bytes: &[u8], words: &mut [u64])
     }
 }
 
-// The word of the tail behind the last whole eight bytes, which is not empty. Where there are eight
-// bytes, the last eight are read, and those that do not belong to it shifted out.
+/// The word of the tail behind the last whole eight bytes, which is not empty. If there are eight
+/// bytes, the last eight are read, and those that do not belong to it shifted out.
 #[inline(always)]
-fn last_word(bytes: &[u8], tail: &[u8]) -> u64
+pub fn last_word(bytes: &[u8], tail: &[u8]) -> u64
     requires tail { tail.now ≡ drop (length bytes.now / 8 * 8) bytes.now }
     requires some { 0 < length bytes.now % 8 }
     ensures { result ≡ from_le_bytes w64 (take 8 tail.now) }

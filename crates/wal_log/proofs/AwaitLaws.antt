@@ -2,9 +2,10 @@
 -- again.
 use Rattle.std.proofs.Common.{◌≡◌, ℕ, ◌≤◌, max, List, refl, sym, ap, ◌∙◌, subst, arith}
 use Rattle.std.proofs.Math.Nat.{le-max_left}
-use Rattle.wal_core.specs.Moves.{unlocked, with_seen}
-use Rattle.wal_core.specs.Steps.{IsResting, load_flushed, load_position}
-use Rattle.wal_core.specs.Views.{View}
+use mathlib.Core.Option.{none}
+use Rattle.wal_core.specs.Moves.{ready, unlocked, with_seen}
+use Rattle.wal_core.specs.Steps.{IsResting, load_flushed, load_position, load_written, view_behind}
+use Rattle.wal_core.specs.Views.{Away, Stage, View}
 use Rattle.wal_rule.specs.declared.seated.SeatedPass.{SeatedPass}
 use Rattle.wal_rule.specs.declared.writer.LogWriter.{LogWriter}
 use Rattle.wal_rule.specs.SeatedPasses.{HasView, StandsAtRest, Steps, view_of}
@@ -103,6 +104,50 @@ looked_at_flushed old now new flushed looked load =
         met = (looked.up).met;
         set = (looked.up).set;
       });
+    }
+
+-- the written address alone was loaded
+written_work : (written : ℕ) (old new : View) → new ≡ view_behind old load_written written none
+    → new.mapping.stage ≡ old.mapping.stage → KeepsWork old new
+written_work written old new is stage = record {
+  pass = subst (λ (w : View). KeepsPass old w) (sym is) (record {
+    opening = refl;
+    live = refl;
+    number = refl;
+    spare = refl;
+    spare_end = refl;
+    joined = refl;
+    counts = omega arith;
+    rises = omega arith;
+    down = λ faults knows. knows;
+  });
+  place = ap (λ (w : View). w.reserving.place) is;
+  working = ap (λ (w : View). w.working) is;
+  stage = stage;
+  confirmed = (let same = ap (λ (w : View). w.mapping.confirmed) is in omega (arith, same));
+}
+
+-- one look more, at the written address: the pass paused before, and maps no page
+pub looked_at_written : {D : Type 0} → (old now paused new : SeatedPass D) (written : ℕ)
+    → HasLooked old now → StaysAtWork now paused
+    → log_of_pass (view_of paused) ≡ log_of_pass (view_of now) → KnowsNoFault (view_of paused)
+    → (view_of old).mapping.stage ≡ Away → Steps load_written written paused new
+    → HasLooked old new
+looked_at_written old now paused new written looked pause same up away load =
+    let is = view_is load in
+    let before = worked_on old now paused looked.stays pause in
+    let stage : (view_of new).mapping.stage ≡ (view_of paused).mapping.stage =
+    ap (λ (v : View). v.mapping.stage) is
+    ∙ ap (λ (s : Stage). ready written s) (before.work.stage ∙ away)
+    ∙ sym (before.work.stage ∙ away) in
+    record {
+      stays = worked_on old paused new before (record {
+        stays = seat_stays load;
+        work = written_work written (view_of paused) (view_of new) is stage;
+        hold = ap (λ (w : View). w.writing.hold) is;
+      });
+      log = ap (λ (w : View). log_of_pass w) is ∙ same ∙ looked.log;
+      up = subst KnowsNoFault (sym is) (record { met = up.met; set = up.set });
     }
 
 -- a pass at rest that stayed at its work is at rest

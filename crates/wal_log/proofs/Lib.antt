@@ -23,6 +23,7 @@ pub mod Trying
 pub mod Unlocking
 pub mod Watched
 pub mod WholeLaws
+mod WriteLaws
 mod Having
 mod SwitchLaws
 pub mod Seated

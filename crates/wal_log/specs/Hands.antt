@@ -1,12 +1,13 @@
 -- The writer in hand, between taking the turn to write and giving it back.
 use Rattle.std.specs.Prelude.{◌≡◌, ◌≢◌, ℕ, ◌≤◌, All, Option}
+use mathlib.Core.Option.{some}
 use Rattle.segment_disk.specs.Tape.{Tape}
 use Rattle.wal_core.specs.Steps.{take_write_turn}
 use Rattle.wal_core.specs.Views.{FlushPromise, Idle, View}
 use Rattle.wal_rule.specs.declared.seated.SeatedPass.{SeatedPass}
 use Rattle.wal_rule.specs.SeatedPasses.{view_of}
 use Rattle.wal_rule.specs.Stepping.{Meets}
-use Rattle.page_writing.specs.InHand.{IsReady, lent_in, writer_in}
+use Rattle.page_writing.specs.InHand.{HasHand, IsReady, lent_in, writer_in}
 use Rattle.wal_log.specs.declared.turns.TurnErr.{TurnErr}
 use Rattle.wal_log.specs.declared.turns.TurnErr.TheVariants.{Down, Taken}
 use Rattle.wal_log.specs.Downs.{KnowsNoFault, MeetsDown}
@@ -39,3 +40,11 @@ pub record SetsDownAndRests (faults : ℕ) (old new : View) : Type 0 where
 pub record IsLatestPromise (upto moment : ℕ) (v : View) : Type 0 where
   pub moments : All (λ (p : FlushPromise). p.moment ≤ moment) v.writing.promises
   pub addresses : All (λ (p : FlushPromise). p.upto ≤ upto) v.writing.promises
+
+-- the writer is in hand, a call of it has failed and it keeps this count of faults, and no down
+-- value is known yet
+pub record HasFailed {D : Type 0} (tape : D → Option Tape) (moment faults : D → ℕ) (count : ℕ)
+    (p : SeatedPass D) : Type 0 where
+  pub hand : HasHand tape moment faults p
+  pub fault : (writer_in (view_of p)).fault ≡ some count
+  pub up : KnowsNoFault (view_of p)

@@ -303,7 +303,7 @@ fn wait_for_page<'p, 'a, D: Disk>(
     match write_early(seated, held, placed, upto) {
         Ok(()) => Ok(()),
         Err(WriteErr::Fault(fault)) => Err(fault),
-        Err(WriteErr::Turn { .. }) => await_page(seated, page, backoff),
+        Err(WriteErr::Turn { .. }) => await_written(seated, absent.written, backoff),
         Err(WriteErr::Behind { .. }) => wait_up(seated, backoff),
     }
 }
@@ -326,6 +326,30 @@ fn await_page<'p, D: Disk>(
     for _look in 0..LOOKS {
         wait_up(seated, backoff)?;
         if let Presence::Present = confirm(seated, page) {
+            return Ok(());
+        }
+    }
+    Ok(())
+}
+
+// Pauses, and looks at the written address, again and again until it is another one than was known,
+// but so many times at most, unless the disk has failed: then a page more may be mapped.
+fn await_written<'p, D: Disk>(
+    seated: &mut SeatedPass<'p, D>,
+    known: u64,
+    backoff: &Backoff,
+) -> Result<(), Fault>
+    requires away { (view_of seated.old).mapping.stage ≡ Away }
+    requires up { KnowsNoFault (view_of seated.old) }
+    ensures ends { MatchResult result (λ _. KnowsNoFault (view_of seated.new))
+        (λ e. FindsDown (view_of seated.old) (view_of seated.new) e) }
+    // As of `await_page`.
+    ensures stays { StaysAtWork seated.old seated.new }
+    ensures log { log_of_pass (view_of seated.new) ≡ log_of_pass (view_of seated.old) }
+{
+    for _look in 0..LOOKS {
+        wait_up(seated, backoff)?;
+        if seated.load_written() != known {
             return Ok(());
         }
     }

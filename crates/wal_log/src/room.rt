@@ -44,8 +44,9 @@ pub(crate) fn make_room<'p, D: Disk>(seated: &mut SeatedPass<'p, D>, page: u64) 
     if was_mapped(seated, ahead) {
         return Ok(());
     }
-    write_ahead(seated, (ahead + 1).saturating_sub(pages) * PAGE_SIZE)?;
-    map_ahead(seated, AHEAD);
+    if write_ahead(seated, (ahead + 1).saturating_sub(pages) * PAGE_SIZE)? {
+        map_ahead(seated, AHEAD);
+    }
     Ok(())
 }
 
@@ -60,8 +61,10 @@ fn was_mapped<'p, D: Disk>(seated: &mut SeatedPass<'p, D>, page: u64) -> bool
     }
 }
 
-// Writes all that is copied, where that reaches an address, unless somebody else writes.
-fn write_ahead<'p, D: Disk>(seated: &mut SeatedPass<'p, D>, upto: u64) -> Result<(), Fault>
+// Writes all that is copied, where that reaches an address, and tells whether it did. It does not if
+// somebody else writes, who maps too behind it: two who share the work page by page take longer, by
+// measurement, than two of whom one maps while the other writes.
+fn write_ahead<'p, D: Disk>(seated: &mut SeatedPass<'p, D>, upto: u64) -> Result<bool, Fault>
     requires rests { HasNoTurn seated.old }
     requires up { KnowsNoFault (view_of seated.old) }
     ensures ends { MatchResult result (λ _. KnowsNoFault (view_of seated.new))
@@ -71,11 +74,11 @@ fn write_ahead<'p, D: Disk>(seated: &mut SeatedPass<'p, D>, upto: u64) -> Result
 {
     for _look in 0..LOOKS {
         match write_copied(seated, upto) {
-            Ok(()) => return Ok(()),
+            Ok(()) => return Ok(true),
             Err(WriteErr::Fault(fault)) => return Err(fault),
-            Err(WriteErr::Turn { .. }) => return Ok(()),
+            Err(WriteErr::Turn { .. }) => return Ok(false),
             Err(WriteErr::Behind { .. }) => spin_loop(),
         }
     }
-    Ok(())
+    Ok(false)
 }

@@ -3,14 +3,14 @@
 // nobody is told so: a sync and two stores come behind it, in a flush alone. An insert that needs
 // the buffer of a page not written (AdvanceXLInsertBuffer) comes here with its insertion locks held
 // and its record in flight. In this order: it tells its progress under its locks, which would hold
-// its own watch back else; it watches; it takes the turn to write and the writer; it writes, stores
-// what is written, and gives writer and turn back.
+// its own watch back else; it watches; it takes the turn to write and the writer; it writes page by
+// page, stores behind each what is written, and gives writer and turn back.
 ghost use Rattle.std.specs.Prelude.{◌≡◌, ◌≤◌, MatchResult};
 ghost use Rattle.insert_locks.specs.Holding.{HasTold, locks_of};
 ghost use Rattle.page_writing.specs.InHand.{IsReady, known_copied, writer_in};
 ghost use Rattle.wal_rule.specs.SeatedPasses.{HasView, view_of};
 ghost use Rattle.wal_log.specs.Downs.{KnowsNoFault, SetsDownItself};
-ghost use Rattle.wal_log.specs.Hands.{HasAllStored};
+ghost use Rattle.wal_log.specs.Hands.{HasAllStored, HasFailed};
 ghost use Rattle.wal_log.specs.Copying.{CopyGoesOn};
 ghost use Rattle.wal_log.specs.Standing.{AddsNothing, CopiesAlone, HasNoTurn};
 ghost use Rattle.wal_log.specs.Writing.{TellsWriteErr, stored_view, write_err_of_turn};
@@ -22,7 +22,7 @@ use crate::turns::{TurnErr, give_back, go_down, take_ready};
 use byte_position::PAGE_SIZE;
 use flush_core::DiskFault;
 use insert_locks::{Held, Watched, tell, watch};
-use page_writing::{write_out, writer_now};
+use page_writing::{write_next, writer_now};
 use segment_disk::Disk;
 use wal_page::Placed;
 use wal_rule::SeatedPass;
@@ -57,8 +57,8 @@ impl From<DiskFault> for WriteErr {
     }
 }
 
-// Writes out what is known to be copied, and stores how far the log is written. Where the disk
-// fails, sets it down and gives writer and turn back.
+// Writes out what is known to be copied, and stores how far the log is written. If the disk fails,
+// sets it down and gives writer and turn back.
 pub(crate) fn write_known<'p, D: Disk>(
     seated: &mut SeatedPass<'p, D>,
     known: u64,
@@ -78,22 +78,52 @@ pub(crate) fn write_known<'p, D: Disk>(
     ensures adds_nothing { AddsNothing seated.old seated.new }
 {
     let mut bytes = [0; PAGE_SIZE as usize];
-    if let Err(fault) = write_out(seated, known, &mut bytes) {
+    if let Err(fault) = write_pages(seated, known, &mut bytes) {
         go_down(seated, fault);
         return Err(fault);
     }
-    store_written(seated);
     Ok(())
 }
 
-// Stores how far the writer in hand has written the log.
-pub(crate) fn store_written<'p, D: Disk>(seated: &mut SeatedPass<'p, D>)
+// Writes page by page what is known to be copied, and stores behind each page how far the log is
+// written: so others may map pages while this pass goes on to write.
+fn write_pages<'p, D: Disk>(
+    seated: &mut SeatedPass<'p, D>,
+    known: u64,
+    bytes: &mut [u8; PAGE_SIZE as usize],
+) -> Result<(), DiskFault>
+    requires ready { IsReady D.tape D.moment D.faults seated.old }
+    requires known { known ≡ known_copied (view_of seated.old) }
+    requires up { KnowsNoFault (view_of seated.old) }
+    // As of `write_known`, but that where the disk has failed the writer is in hand still, with the
+    // fault that is told.
+    ensures ends { MatchResult result
+        (λ _. HasAllStored D.tape D.moment D.faults seated.new
+        × (known ≤ (writer_in (view_of seated.new)).written))
+        (λ e. HasFailed D.tape D.moment D.faults e.faults seated.new) }
+    ensures adds_nothing { AddsNothing seated.old seated.new }
+{
+    let written = store_written(seated);
+    if known <= written {
+        return Ok(());
+    }
+    for page in written / PAGE_SIZE..known.div_ceil(PAGE_SIZE) {
+        write_next(seated, known, page, bytes)?;
+        store_written(seated);
+    }
+    Ok(())
+}
+
+// Stores how far the writer in hand has written the log, and tells it.
+pub(crate) fn store_written<'p, D: Disk>(seated: &mut SeatedPass<'p, D>) -> u64
     requires ready { IsReady D.tape D.moment D.faults seated.old }
     ensures ready { IsReady D.tape D.moment D.faults seated.new }
     ensures view { HasView (stored_view (view_of seated.old)) seated.old seated.new }
+    ensures written { result ≡ (writer_in (view_of seated.old)).written }
 {
     let written = writer_now(seated).written;
     seated.store_written(written);
+    written
 }
 
 // Tells how far a record's copy has come, under each of its locks: up to the address of its next

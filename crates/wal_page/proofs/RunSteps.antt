@@ -54,6 +54,15 @@ module _ (size : ℕ) (a : Assembled) (start room next passed : ℕ) (stands : S
         next_within = ends;
       }
 
+  -- what is left of the run behind some of it
+  pub run_behind : (done : ℕ) → done < count → position_of size next + 8 * count ≤ start + assembled_room a → (is_in_header size (next + 8 * done) ≡ false) × ((next + 8 * done) % 8192 + 8 * (count - done) ≤ 8192) × (position_of size (next + 8 * done) + 8 * (count - done) ≤ start + assembled_room a)
+  run_behind done less own =
+      let on = position_of-on_page size stands.valid next outside (8 * done) (omega arith) in (
+        outside_on_page size stands.valid next outside (8 * done) (omega arith),
+        omega arith,
+        omega (arith, on, own),
+      )
+
 -- further words behind those that were put
 module _ (first placed : PlacedState) (put count : ℕ) (at : placed ≡ record first { next = first.next + 8 * put }) where
   pub words_further : (words more rest : List ℕ) → count ≤ length more → put ≤ length words → HasWordsFrom first put words → HasWordsFrom placed count more → HasWordsFrom first (put + count) (take put words ++ (more ++ rest))

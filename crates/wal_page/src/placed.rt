@@ -10,9 +10,9 @@
 //! the rest of its segment too, which it gives as zeros, the headers of pages that hold nothing
 //! else among them.
 
-ghost use Rattle.std.specs.Prelude.{◌≡◌, ◌+◌, ◌-◌, ◌*◌, ◌%◌, ◌^◌, ◌<◌, ◌≤◌, ◌==◌, IfSome, IfNone, length, if◌then◌else◌};
+ghost use Rattle.std.specs.Prelude.{◌≡◌, ℕ, ◌+◌, ◌-◌, ◌*◌, ◌%◌, ◌^◌, ◌<◌, ◌≤◌, ◌==◌, true, IfSome, IfNone, length, if◌then◌else◌};
 ghost use Rattle.byte_position.specs.Position.{end_address_of, is_in_header, position_of};
-ghost use Rattle.record_spelling.specs.Spelling.{assembled_room, assembled_size};
+ghost use Rattle.record_spelling.specs.Spelling.{assembled_room, assembled_size, word_at};
 ghost use Rattle.wal_page.specs.Order.{assembled_room_at};
 ghost use Rattle.wal_page.specs.Page.{header_size};
 ghost use Rattle.wal_page.specs.Placed.{HasWordsFrom, IsWordOfLog, LieTogether, Owns, header_word, placed_end, placed_word};
@@ -243,6 +243,79 @@ impl<'a> Placed<'a> {
         while put < words.len() {
             put += self.put_some(&mut words[put..]);
         }
+    }
+
+    /// Whether so many words, from the next one on, lie together behind the header of its page, and
+    /// are the record's own.
+    #[inline(always)]
+    pub fn lie_together(&self, count: usize) -> bool
+        requires on_page { self.now.next % 8192 + 8 * count ≤ 8192 }
+        ensures { result ≡ true → LieTogether self.now count }
+    {
+        if self.passed + WORD * count as u64 > u64::from(self.body.room()) {
+            return false;
+        }
+        if self.geometry.is_in_header(Lsn(self.next)) {
+            return false;
+        }
+        true
+    }
+
+    /// Whether all words that are left are zeros behind the record's own.
+    pub fn is_behind_own(&self) -> bool
+        ensures { result ≡ true → self.now.start + assembled_room self.now.body
+            ≤ position_of self.now.size self.now.next }
+    {
+        self.own_left() == 0
+    }
+
+    /// The three words of the record's header, if they are the next ones, where so many words lie
+    /// together. It goes on behind them.
+    #[inline(always)]
+    pub fn take_header(&mut self, count: usize) -> Option<[u64; 3]>
+        requires together { LieTogether self.old count }
+        requires owned { self.old.next + 8 * count ≤ placed_end self.old }
+        ensures words { IfSome result (λ words.
+            (length words ≡ 3) × HasWordsFrom self.old 3 words) }
+        ensures within { IfSome result (λ _. 3 ≤ count) }
+        ensures placed { IfSome result (λ _. self.new
+            ≡ record self.old { next = self.old.next + 8 * 3 }) }
+        ensures together { IfSome result (λ _. 3 < count → LieTogether self.new (count - 3)) }
+        ensures none { IfNone result (self.new ≡ self.old) }
+    {
+        if self.passed > 0 {
+            return None;
+        }
+        if count < 3 {
+            return None;
+        }
+        self.passed += 3 * WORD;
+        self.next += 3 * WORD;
+        Some(self.body.header_words(self.prev))
+    }
+
+    /// The bytes of which the next words are made, so many, where they lie together behind the
+    /// record's header: eight for each word, and perhaps fewer for the last one, whose others are
+    /// zeros. It goes on behind them.
+    #[inline(always)]
+    pub fn take_bytes(&mut self, count: usize) -> Option<&'a [u8]>
+        requires some { 0 < count }
+        requires together { LieTogether self.old count }
+        requires owned { self.old.next + 8 * count ≤ placed_end self.old }
+        ensures words { IfSome result (λ bytes. (k : ℕ) → k < count
+            → word_at bytes.now k ≡ placed_word self.old (self.old.next + 8 * k)) }
+        ensures long { IfSome result (λ bytes. 8 * count ≤ length bytes.now + 7) }
+        ensures placed { IfSome result (λ _. self.new
+            ≡ record self.old { next = self.old.next + 8 * count }) }
+        ensures none { IfNone result (self.new ≡ self.old) }
+    {
+        if self.passed < 3 * WORD {
+            return None;
+        }
+        let bytes = self.body.bytes_from(self.word_number());
+        self.passed += WORD * count as u64;
+        self.next += WORD * count as u64;
+        Some(bytes)
     }
 
     // Puts at least one word: all of the record's own that lie together on a page, or one of a

@@ -11,6 +11,7 @@ pub mod RecordAt
 pub mod NextPositionLaws
 pub mod RecordReads
 pub mod RecordStages
+pub mod ReadyLaws
 pub mod RowLaws
 pub mod SettledLaws
 pub mod FailureLaws

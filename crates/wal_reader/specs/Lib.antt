@@ -10,6 +10,7 @@ pub mod PageCursor
 pub mod PagesPassed
 pub mod ReadsOn
 pub mod Gathering
+pub mod Ready
 pub mod RecordRead
 pub mod Beginning
 pub mod Steps

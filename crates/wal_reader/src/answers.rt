@@ -36,6 +36,7 @@ pub(crate) fn reaches_end(geometry: Geometry, position: u64, end: Option<Lsn>) -
 
 /// Whether nothing is read at a byte position: a given end is reached, or the last address that is
 /// read.
+#[inline(never)]
 pub(crate) fn is_out_of_reach(geometry: Geometry, position: u64, end: Option<Lsn>) -> bool
     requires { position < 2 ^ 60 }
     ensures { IsTrue result ↔ IsOutOfReach geometry (option_map (λ end. end.0) end) position }

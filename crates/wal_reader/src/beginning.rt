@@ -37,6 +37,7 @@ pub(crate) enum Front {
 
 /// Where reading begins that looks for a start address: on the page that holds it, behind the
 /// record that continues there.
+#[inline(never)]
 pub(crate) fn find_beginning<D: Disk>(
     cache: &mut PageCache,
     disk: &mut D,

@@ -4,19 +4,21 @@
 //! address asked for are read and checked as any other, and passed over: so each record that is
 //! given has a right one before it, but the first that was read.
 
-ghost use Rattle.std.specs.Prelude.{◌≡◌, ◌<◌, ◌≤◌, ◌^◌, option_map, Some, None, IfOk, IfSome};
+ghost use Rattle.std.specs.Prelude.{◌≡◌, ◌<◌, ◌≤◌, ◌^◌, option_map, Some, None, IfOk, IfSome, MatchResult};
 ghost use Rattle.byte_position.specs.Position.{address_of};
 ghost use Rattle.wal_reader.specs.Cache.{HoldsLastPage};
 ghost use Rattle.wal_reader.specs.PageCursor.{Sees};
 ghost use Rattle.wal_reader.specs.Pages.{Pages};
 ghost use Rattle.wal_reader.specs.Answered.{IsAnswered, IsNextIn};
 ghost use Rattle.wal_reader.specs.ReadFailures.{HasFailureCause};
+ghost use Rattle.wal_reader.specs.Ready.{IsReadyAt};
 ghost use Rattle.wal_reader.specs.ReadsOn.{ReadsOn};
 ghost use Rattle.wal_reader.specs.RecordPlace.{IsOutOfReach, IsReachable};
 
 use crate::beginning::find_beginning;
 use crate::buffers::Buffers;
 use crate::found::FoundRecord;
+use crate::page_cursor::PageCursor;
 use crate::read_failure::ReadFailure;
 use crate::record_place::RecordPlace;
 use crate::record_reading::read_record;
@@ -26,7 +28,9 @@ use wal_types::Lsn;
 
 /// The next record at or behind `start`, and where the one behind it stands: from a place, or
 /// where reading has not begun from where it begins. `end` is where reading ends, if it is given.
-/// The record's main data is put into `spare`.
+/// The record's main data is put into `spare`. `ready` tells where the record at the place stands,
+/// if that is known, and then where the next one does.
+#[inline(always)]
 pub(crate) fn next_given<D: Disk>(
     alloc: Global,
     spare: Vec<u8>,
@@ -35,8 +39,12 @@ pub(crate) fn next_given<D: Disk>(
     start: Lsn,
     end: Option<Lsn>,
     from: Option<RecordPlace>,
+    ready: &mut Option<PageCursor>,
 ) -> Result<(FoundRecord, RecordPlace), ReadFailure>
-    requires { IfSome from IsReachable }
+    requires reachable { IfSome from IsReachable }
+    requires ready { IfSome from (λ at. IsReadyAt buffers.old.cache at ready.old) }
+    ensures ready { MatchResult result (λ r. IsReadyAt buffers.new.cache r.1 ready.new)
+        (λ _. ready.new ≡ None) }
     // What is answered is the next record of these pages, at or behind `start`.
     ensures answered { IfOk result (IsAnswered from buffers.old.cache.geometry) }
     ensures gives { (pages : Pages) → Sees (D.tape disk.old) buffers.old.cache pages
@@ -55,12 +63,16 @@ pub(crate) fn next_given<D: Disk>(
 {
     let at = match from {
         Some(at) => at,
-        None => find_beginning(&mut buffers.cache, disk, start)?,
+        None => {
+            *ready = None;
+            find_beginning(&mut buffers.cache, disk, start)?
+        }
     };
-    read_given(alloc, spare, buffers, disk, start, end, at)
+    read_given(alloc, spare, buffers, disk, start, end, at, ready)
 }
 
 // Records before `start` are read and checked as any other, and passed over.
+#[inline(always)]
 fn read_given<D: Disk>(
     alloc: Global,
     spare: Vec<u8>,
@@ -69,8 +81,12 @@ fn read_given<D: Disk>(
     start: Lsn,
     end: Option<Lsn>,
     from: RecordPlace,
+    ready: &mut Option<PageCursor>,
 ) -> Result<(FoundRecord, RecordPlace), ReadFailure>
-    requires { IsReachable from }
+    requires reachable { IsReachable from }
+    requires ready { IsReadyAt buffers.old.cache from ready.old }
+    ensures ready { MatchResult result (λ r. IsReadyAt buffers.new.cache r.1 ready.new)
+        (λ _. ready.new ≡ None) }
     // As of `next_given`, from a place on.
     ensures answered { IfOk result (IsAnswered (Some from) buffers.old.cache.geometry) }
     ensures gives { (pages : Pages) → Sees (D.tape disk.old) buffers.old.cache pages
@@ -88,7 +104,7 @@ fn read_given<D: Disk>(
     let mut at = from;
     let mut spare = spare;
     'records: loop {
-        let (found, behind) = read_record(alloc, spare, buffers, disk, end, at)?;
+        let (found, behind) = read_record(alloc, spare, buffers, disk, end, at, ready)?;
         if found.start.0 >= start.0 {
             return Ok((found, behind));
         }

@@ -17,6 +17,7 @@ mod page_cache;
 mod page_checks;
 mod page_cursor;
 mod read_failure;
+mod ready;
 mod record_checks;
 mod record_extent;
 mod record_place;

@@ -6,10 +6,12 @@
 
 ghost use Rattle.std.specs.Prelude.{◌≡◌};
 ghost use Rattle.wal_reader.specs.Buffers.{AreFor, AreFor-prop};
+ghost use Rattle.wal_reader.specs.Ready.{IsReadyIn, IsReadyIn-prop};
 ghost use Rattle.wal_reader.specs.Standings.{IsOnWay, IsOnWay-prop};
 
 use crate::buffers::{Buffers, set_up};
 use crate::given::next_given;
+use crate::page_cursor::PageCursor;
 use crate::read_failure::ReadFailure;
 use crate::standing::{ReadErr, Standing, Step, told};
 use byte_position::Geometry;
@@ -26,8 +28,11 @@ pub struct Reader {
     standing: Standing,
     /// What it reads into, once it has begun.
     buffers: Option<Buffers>,
+    /// Where the next record stands, while that is known.
+    ready: Option<PageCursor>,
     ghost on_way: { IsOnWay standing } by { IsOnWay-prop standing },
     ghost fit: { AreFor geometry buffers } by { AreFor-prop geometry buffers },
+    ghost at_next: { IsReadyIn standing buffers ready } by { IsReadyIn-prop standing buffers ready },
 }
 
 impl Reader {
@@ -60,6 +65,7 @@ impl Reader {
             end,
             standing: Standing::NotBegun,
             buffers: None,
+            ready: None,
         }
     }
 
@@ -125,7 +131,16 @@ impl Reader {
         let Some(buffers) = &mut self.buffers else {
             unreachable!()
         };
-        match next_given(alloc, spare, buffers, disk, self.start, self.end, from) {
+        match next_given(
+            alloc,
+            spare,
+            buffers,
+            disk,
+            self.start,
+            self.end,
+            from,
+            &mut self.ready,
+        ) {
             Ok((found, behind)) => {
                 self.standing = Standing::At(behind);
                 Ok(Step::Record {

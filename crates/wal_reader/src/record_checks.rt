@@ -23,7 +23,7 @@ use crate::numbers::{u32_at, u64_at};
 use crate::record_extent::RecordExtent;
 use crate::record_place::RecordPlace;
 use byte_position::Geometry;
-use record_decode::{RecErr, decode_into};
+use record_decode::{BlockHead, RecErr, decode_into};
 use record_spelling::is_free_manager;
 use record_spelling::layout::{HEADER_LEN, RMID_AT};
 use std::alloc::{AllocError, Global};
@@ -63,7 +63,8 @@ pub(crate) fn check_crc(start: Lsn, bytes: &[u8]) -> Result<(), Answer>
 }
 
 /// What the bytes of a record say, and the place behind it: `timeline` is that of the page in which
-/// it ends. The record's main data is put into `spare`.
+/// it ends. The record's main data is put into `spare`, and the heads of its blocks are read into
+/// `heads`.
 #[tactic(auto, unfolding(crate::specs::Spelled::IsSpelled))]
 #[inline(always)]
 pub(crate) fn found(
@@ -74,6 +75,7 @@ pub(crate) fn found(
     extent: RecordExtent,
     timeline: u32,
     bytes: &[u8],
+    heads: &mut Vec<BlockHead>,
 ) -> Result<Result<(FoundRecord, RecordPlace), Answer>, AllocError>
     // The bytes are as many as the record claims, and whatever they say, the next record starts low
     // enough to have an address.
@@ -93,7 +95,7 @@ pub(crate) fn found(
     ensures behind { IfOk result (λ said. IfOk said (λ read. read.1
         ≡ behind_read geometry extent.at read.0 extent.total timeline)) }
 {
-    match decode_into(alloc, spare, bytes) {
+    match decode_into(alloc, heads, spare, bytes) {
         Ok(value) => {
             let next = extent.next_position(geometry, &value);
             let found = FoundRecord {

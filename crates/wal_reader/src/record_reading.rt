@@ -9,7 +9,7 @@
 //! what the bytes spell. So a size is believed only as far as pages have passed, and no more room
 //! is taken than those pages fill.
 
-ghost use Rattle.std.specs.Prelude.{◌≡◌, ℕ, ◌+◌, ◌*◌, ◌/◌, ◌^◌, ◌<◌, ◌≤◌, Some, length, take, drop, option_map, false, IfOk, IfErr, IfSome, MatchResult, OnOk};
+ghost use Rattle.std.specs.Prelude.{◌≡◌, ℕ, ◌+◌, ◌*◌, ◌/◌, ◌^◌, ◌<◌, ◌≤◌, Some, length, None, take, drop, option_map, false, IfOk, IfErr, IfSome, MatchResult, OnOk};
 ghost use Rattle.byte_position.specs.Position.{address_of};
 ghost use Rattle.wal_page.specs.Page.{first_fault};
 ghost use Rattle.wal_reader.specs.Cache.{HoldsLastPage};
@@ -18,21 +18,25 @@ ghost use Rattle.wal_reader.specs.Decodes.{rest_rows};
 ghost use Rattle.wal_reader.specs.Pages.{IsPage, Pages};
 ghost use Rattle.wal_reader.specs.Answered.{IsAnswered, IsReadIn};
 ghost use Rattle.wal_reader.specs.Gathering.{IsOpened};
+ghost use Rattle.wal_reader.specs.Ready.{IsReadyAt};
 ghost use Rattle.wal_reader.specs.ReadsOn.{ReadsOn};
 ghost use Rattle.wal_reader.specs.RecordRead.{IsRead, said_of};
 ghost use Rattle.wal_reader.specs.RecordPlace.{IsOutOfReach, IsReachable};
 ghost use Rattle.wal_reader.specs.ReadFailures.{HasFailureCause, IsNoDiskFault};
 
-use crate::answers::{end_of_log, is_out_of_reach};
+use crate::answers::end_of_log;
 use crate::buffers::Buffers;
 use crate::found::FoundRecord;
 use crate::gathering::{Gathering, gather};
 use crate::layout::PAGE_LEN;
 use crate::page_cache::PageCache;
+use crate::page_cursor::PageCursor;
 use crate::read_failure::ReadFailure;
+use crate::ready::{is_beyond, open_ready, ready_behind};
 use crate::record_checks::{check_crc, check_header, found};
 use crate::record_place::RecordPlace;
-use crate::record_start::{claimed, open_page};
+use crate::record_start::claimed;
+use record_decode::BlockHead;
 use record_spelling::layout::HEADER_LEN;
 use segment_disk::Disk;
 use std::alloc::Global;
@@ -41,7 +45,9 @@ use wal_types::Lsn;
 /// Reads the record at a place, and answers it with the place behind it, or what stands
 /// in its place. Where an end was given, nothing at or above it is read. Whatever size a record
 /// claims, the room takes no more of it than what pages have that passed their checks. The record's
-/// main data is put into `spare`.
+/// main data is put into `spare`. `ready` tells where the record stands, if that is known, and then
+/// where the next one does.
+#[inline(always)]
 pub(crate) fn read_record<D: Disk>(
     alloc: Global,
     spare: Vec<u8>,
@@ -49,8 +55,12 @@ pub(crate) fn read_record<D: Disk>(
     disk: &mut D,
     end: Option<Lsn>,
     at: RecordPlace,
+    ready: &mut Option<PageCursor>,
 ) -> Result<(FoundRecord, RecordPlace), ReadFailure>
-    requires { IsReachable at }
+    requires reachable { IsReachable at }
+    requires ready { IsReadyAt buffers.old.cache at ready.old }
+    ensures ready { MatchResult result (λ r. IsReadyAt buffers.new.cache r.1 ready.new)
+        (λ _. ready.new ≡ None) }
     // At Ok the place behind is where the next record would start.
     ensures answered { IfOk result (IsAnswered (Some at) buffers.old.cache.geometry) }
     ensures rises { IfOk result (λ r. address_of buffers.old.cache.geometry at.position
@@ -70,13 +80,18 @@ pub(crate) fn read_record<D: Disk>(
         buffers.old.cache buffers.new.cache }
     ensures cause { HasFailureCause (D.faults disk.old) (D.faults disk.new) result }
 {
-    if is_out_of_reach(buffers.cache.geometry, at.position, end) {
+    let known = *ready;
+    *ready = None;
+    if is_beyond(&buffers.cache, at, known, end) {
         return Err(ReadFailure::Told(end_of_log(buffers.cache.geometry, at.position)));
     }
-    let cursor = open_page(&mut buffers.cache, disk, at)?;
+    let cursor = open_ready(&mut buffers.cache, disk, at, known)?;
     let extent = claimed(&buffers.cache, cursor, at, end)?;
     if extent.total <= PAGE_LEN - cursor.offset {
-        read_in_page(alloc, spare, &buffers.cache, Gathering { extent, cursor })
+        let opened = Gathering { extent, cursor };
+        let whole = read_in_page(alloc, spare, &buffers.cache, opened, &mut buffers.heads)?;
+        *ready = ready_behind(&buffers.cache, opened, whole.1);
+        Ok(whole)
     } else {
         // Told anew, so that the room of this call's answer is not that of the other's.
         let read = read_over_pages(alloc, spare, buffers, disk, Gathering { extent, cursor })?;
@@ -91,11 +106,13 @@ fn read_in_page(
     spare: Vec<u8>,
     cache: &PageCache,
     opened: Gathering,
+    heads: &mut Vec<BlockHead>,
 ) -> Result<(FoundRecord, RecordPlace), ReadFailure>
     requires opened { IsOpened cache.now opened }
     requires within { opened.cursor.offset + opened.extent.total ≤ 8192 }
     requires whole { IsPage cache.now.bytes.value }
     ensures answered { IfOk result (IsAnswered (Some opened.extent.at) cache.now.geometry) }
+    ensures timeline { IfOk result (λ r. r.1.timeline ≡ opened.cursor.timeline) }
     ensures reads { (pages : Pages) → pages opened.cursor.page ≡ Some cache.now.bytes.value
         → IsRead cache.now.geometry pages opened.extent.at
         (said_of cache.now.geometry pages opened.extent.at opened.extent.total
@@ -116,6 +133,7 @@ fn read_in_page(
         extent,
         cursor.timeline,
         bytes,
+        heads,
     )??;
     Ok(read)
 }
@@ -175,6 +193,7 @@ fn read_over_pages<D: Disk>(
         extent,
         timeline,
         &buffers.room,
+        &mut buffers.heads,
     )??;
     Ok(read)
 }

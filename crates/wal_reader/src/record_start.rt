@@ -29,7 +29,8 @@ use segment_disk::Disk;
 use wal_types::Lsn;
 
 /// The page in which a record is to start: it is there and passes its checks, and no other record
-/// continues where this one would start.
+/// continues where this one would start. A call of its own, since few records need it.
+#[inline(never)]
 pub(crate) fn open_page<D: Disk>(
     cache: &mut PageCache,
     disk: &mut D,
@@ -41,6 +42,8 @@ pub(crate) fn open_page<D: Disk>(
         × HasGathered cache.old.geometry at.position 0 cursor) }
     ensures place { IfOk result (λ cursor. (cursor.page
         ≡ address_of cache.old.geometry at.position / 8192) × (cursor.offset + 8 ≤ 8192)) }
+    ensures opens { IfOk result (λ _. opening_fault cache.old.geometry at
+        (Some cache.new.bytes.value) ≡ None) }
     // A page that is held is not read again.
     ensures unread { cache.old.number ≡ Some (address_of cache.old.geometry at.position / 8192)
         → (disk.new ≡ disk.old) × (cache.new ≡ cache.old) }
@@ -97,7 +100,7 @@ pub(crate) fn claimed(
     if is_zero_word(cache, cursor.offset) {
         return Err(end_of_log(cache.geometry, at.position));
     }
-    let total = u32_at(&*cache.bytes, cursor.offset as usize + LEN_AT);
+    let total = size_at(&cache.bytes, cursor.offset);
     if (total as usize) < HEADER_LEN {
         let start = cache.geometry.to_lsn(at.position);
         return Err(damaged(start, DamageKind::Length));
@@ -123,5 +126,14 @@ fn word_at(page: &[u8; 8192], offset: u32) -> u64
     ensures whole { IsPage page.now }
 {
     // Cut out first, its eight bytes are one load.
-    u64_at(&page[offset as usize..(offset + 8) as usize], 0)
+    let at = offset as usize;
+    u64_at(&page[at..at + 8], 0)
+}
+
+fn size_at(page: &[u8; 8192], offset: u32) -> u32
+    requires { offset + 8 ≤ 8192 }
+    ensures { result ≡ number_at w32 page.now offset }
+{
+    let at = offset as usize + LEN_AT;
+    u32_at(&page[at..at + 4], 0)
 }

@@ -1,13 +1,12 @@
 -- Reading a script's lines from the first on.
 use Rattle.std.proofs.Common.{◌≡◌, ℕ, ◌+◌, List, [], ◌∷◌, ◌++◌, Result, Ok, Err, refl, ap, sym, ◌∙◌, subst}
 use Rattle.std.proofs.lemmas.List.{append_assoc}
-use Rattle.wal_script.specs.declared.line.Action.{Action}
 use Rattle.wal_script.specs.declared.line.Line.{Line}
 use Rattle.wal_script.specs.declared.line.Refusal.{Refusal}
 use Rattle.wal_script.specs.Asked.{Asked, AskedLine}
 use Rattle.wal_script.specs.Bodies.{AreLinesOf, IsActionOf}
-use Rattle.wal_script.specs.Meaning.{LineMeaning, asks, line_of, lines_meaning, then_line, with_line}
-use Rattle.wal_script.specs.Reading.{DoesLine}
+use Rattle.wal_script.specs.Meaning.{LineMeaning, passes, asks, refuses, line_of, lines_meaning, then_line, with_line}
+use Rattle.wal_script.specs.Reading.{JoinsLines}
 
 -- lines that were read, and what is read behind them
 abbrev pub with_front : List AskedLine → Result (List AskedLine) Refusal → Result (List AskedLine) Refusal
@@ -39,11 +38,16 @@ module _ (lines : List Line) (number : ℕ) (text : List ℕ) (rest : List (List
   at_line : (read : LineMeaning) → line_of text ≡ read → with_front before.0 (then_line number read (lines_meaning (number + 1) rest)) ≡ meaning
   at_line read is = subst (λ (m : LineMeaning). with_front before.0 (then_line number m (lines_meaning (number + 1) rest)) ≡ meaning) is before.2
 
-  -- a line that asks for something
-  pub IsReadUpto-push : (action : Action) → DoesLine action (line_of text) → IsReadUpto (lines ++ (record { number = number; action = action }) ∷ []) (number + 1) rest meaning
-  IsReadUpto-push action does =
-      let asked : AskedLine = record { number = number; asked = does.0 } in (
-        before.0 ++ asked ∷ [],
-        AreLinesOf_push before.0 lines asked (record { number = number; action = action }) before.1 refl does.2,
-        sym (with_front-push before.0 number does.0 (lines_meaning (number + 1) rest)) ∙ at_line (asks does.0) does.1,
+  by_meaning : (read : LineMeaning) → line_of text ≡ read → (new : List Line) → JoinsLines number lines new read → IsReadUpto new (number + 1) rest meaning
+  by_meaning passes is new joins = (before.0, subst (AreLinesOf before.0) (sym joins) before.1, at_line passes is)
+  by_meaning (asks asked) is new joins =
+      let line : AskedLine = record { number = number; asked = asked } in (
+        before.0 ++ line ∷ [],
+        subst (AreLinesOf (before.0 ++ line ∷ [])) (sym joins.2) (AreLinesOf_push before.0 lines line (record { number = number; action = joins.0 }) before.1 refl joins.1),
+        sym (with_front-push before.0 number asked (lines_meaning (number + 1) rest)) ∙ at_line (asks asked) is,
       )
+  by_meaning (refuses fault) is new joins = absurd joins
+
+  -- a line that was read
+  pub IsReadUpto-read : (new : List Line) → JoinsLines number lines new (line_of text) → IsReadUpto new (number + 1) rest meaning
+  IsReadUpto-read = by_meaning (line_of text) refl

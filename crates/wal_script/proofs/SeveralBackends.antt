@@ -7,7 +7,8 @@ use Rattle.wal_script.specs.declared.line.Refusal.{Refusal}
 use Rattle.wal_script.specs.declared.line.ScriptFault.{ScriptFault}
 use Rattle.wal_script.specs.Asked.{Asked, AskedLine}
 use Rattle.wal_script.specs.Bodies.{AreLinesOf, IsActionOf}
-use Rattle.wal_script.specs.Meaning.{passes, asks}
+use Rattle.wal_script.specs.Meaning.{LineMeaning, passes, asks, refuses}
+use Rattle.wal_script.specs.Reading.{JoinsLines}
 use Rattle.wal_script.specs.Replay.{ScriptLine, of_backend, begins, ends, BackendsMeaning, begin_fault, most_backends, backends_with, backends_from, script_line_of, unless_fault}
 use Rattle.wal_script.specs.ReplayReading.{AreBackendsOf}
 use Rattle.wal_script.proofs.Scripts.{AreLinesOf_push}
@@ -50,7 +51,7 @@ module _ (takes_schedule : Bool) (before : List (Vec Line)) (lines : List Line) 
   by_line : (read : ScriptLine) → script_line_of takes_schedule text ≡ read → backends_with number upto.askeds upto.asked read texts others ≡ meaning
   by_line read is = subst (λ (line : ScriptLine). backends_with number upto.askeds upto.asked line texts others ≡ meaning) is upto.whole
 
-  pub AreReadUpto-pass : script_line_of takes_schedule text ≡ of_backend passes → AreReadUpto takes_schedule before lines (number + 1) texts meaning
+  AreReadUpto-pass : script_line_of takes_schedule text ≡ of_backend passes → AreReadUpto takes_schedule before lines (number + 1) texts meaning
   AreReadUpto-pass is = record {
     askeds = upto.askeds;
     asked = upto.asked;
@@ -59,7 +60,7 @@ module _ (takes_schedule : Bool) (before : List (Vec Line)) (lines : List Line) 
     whole = by_line (of_backend passes) is;
   }
 
-  pub AreReadUpto-ask : (action : Action) (asked : Asked) → script_line_of takes_schedule text ≡ of_backend (asks asked) → IsActionOf asked action → AreReadUpto takes_schedule before (lines ++ (record { number = number; action = action }) ∷ []) (number + 1) texts meaning
+  AreReadUpto-ask : (action : Action) (asked : Asked) → script_line_of takes_schedule text ≡ of_backend (asks asked) → IsActionOf asked action → AreReadUpto takes_schedule before (lines ++ (record { number = number; action = action }) ∷ []) (number + 1) texts meaning
   AreReadUpto-ask action asked is does =
       let line : AskedLine = record { number = number; asked = asked } in
       record {
@@ -69,6 +70,12 @@ module _ (takes_schedule : Bool) (before : List (Vec Line)) (lines : List Line) 
         lines_are = AreLinesOf_push upto.asked lines line (record { number = number; action = action }) upto.lines_are refl does;
         whole = by_line (of_backend (asks asked)) is;
       }
+
+  -- a line of the backend under way
+  pub AreReadUpto-read : (line : LineMeaning) → script_line_of takes_schedule text ≡ of_backend line → (new : List Line) → JoinsLines number lines new line → AreReadUpto takes_schedule before new (number + 1) texts meaning
+  AreReadUpto-read passes is new joins = subst (λ (all : List Line). AreReadUpto takes_schedule before all (number + 1) texts meaning) (sym joins) (AreReadUpto-pass is)
+  AreReadUpto-read (asks asked) is new joins = subst (λ (all : List Line). AreReadUpto takes_schedule before all (number + 1) texts meaning) (sym joins.2) (AreReadUpto-ask joins.0 asked is joins.1)
+  AreReadUpto-read (refuses fault) is new joins = absurd joins
 
 module _ (takes_schedule : Bool) (before : List (Vec Line)) (lines : Vec Line) (number : ℕ) (text : List ℕ) (texts : List (List ℕ)) (meaning : Result BackendsMeaning Refusal) (upto : AreReadUpto takes_schedule before lines.items number (text ∷ texts) meaning) where
   abbrev next : Result BackendsMeaning Refusal

@@ -1,6 +1,7 @@
 -- What a script means: lines for each backend, or the first refusal.
 use Rattle.std.specs.Prelude.{ℕ, ◌+◌, ◌-◌, ◌^◌, List, [], ◌∷◌, length, take, Option, Some, None, Result, Ok, Err, count_by, codes, ◌==◌, nat_lt, if◌then◌else◌, option_and_then}
 use Rattle.std.specs.Int.{w64, to_le_bytes}
+use Rattle.std.specs.Option.{ok_or}
 use Rattle.wal_types.specs.declared.record.Record.{Record}
 use Rattle.wal_types.specs.declared.record.Xid.{Xid}
 use Rattle.record_spelling.specs.declared.fault.BodyErr.{BodyErr}
@@ -55,6 +56,12 @@ record_with xid manager info main fields = do
 -- the same, if it can be assembled
 abbrev pub insert_with : Xid → ℕ → ℕ → List ℕ → List (List ℕ) → Result Record ScriptFault
 insert_with xid manager info main fields = record_with xid manager info main fields >>= accepted
+
+-- the same by the field that spells the main data
+abbrev pub insert_of_data : Xid → ℕ → ℕ → List ℕ → List (List ℕ) → Result Record ScriptFault
+insert_of_data xid manager info field fields = do
+  main ← ok_or (data_of field) faults.Hex
+  insert_with xid manager info main fields
 
 -- the record that the fields behind `I` spell: a transaction's number, a manager, its info, the
 -- main data, and any block references

@@ -1,9 +1,10 @@
 -- What a reader of scripts returns, beside what they mean: want of memory is no part of the
 -- meaning.
-use Rattle.std.specs.Prelude.{◌≡◌, ℕ, List, Option, Some, None, Result, Ok, Err}
+use Rattle.std.specs.Prelude.{◌≡◌, ℕ, List, [], ◌∷◌, ◌++◌, Option, Some, None, Result, Ok, Err}
 use Rattle.std.specs.Global.{Vec}
 use Rattle.wal_script.specs.declared.line.Line.{Line}
 use Rattle.wal_script.specs.declared.line.Action.{Action}
+use Rattle.wal_script.specs.declared.line.Action.TheVariants as actions
 use Rattle.wal_script.specs.declared.line.Refusal.{Refusal}
 use Rattle.wal_script.specs.declared.parser.ParseError.{ParseError}
 use Rattle.wal_script.specs.declared.parser.ParseError.TheVariants as errors
@@ -11,7 +12,7 @@ use Rattle.wal_script.specs.declared.line_error.LineError.{LineError}
 use Rattle.wal_script.specs.declared.line_error.LineError.TheVariants as causes
 use Rattle.wal_script.specs.declared.line.ScriptFault.{ScriptFault}
 use Rattle.record_spelling.specs.declared.fault.BodyErr.{BodyErr}
-use Rattle.record_spelling.specs.Spelling.{Assembled}
+use Rattle.record_spelling.specs.Spelling.{Assembled, IsWritable, assembled}
 use Rattle.wal_types.specs.declared.record.Record.{Record}
 use Rattle.wal_script.specs.Asked.{Asked, AskedLine}
 use Rattle.wal_script.specs.Bodies.{AreLinesOf, IsActionOf, IsBodyOf}
@@ -41,16 +42,25 @@ RefusesLine (causes.Fault fault) meaning = meaning ≡ refuses fault
 abbrev pub DoesLine : Action → LineMeaning → Type 0
 DoesLine action meaning = (asked : Asked) × (meaning ≡ asks asked) × IsActionOf asked action
 
--- an action does what a line means, or none does that passes
-abbrev pub DoesAny : Option Action → LineMeaning → Type 0
-DoesAny None meaning = meaning ≡ passes
-DoesAny (Some action) meaning = DoesLine action meaning
+-- an action was read that does what a line means, and its fault is what the line means
+abbrev pub ActionGives : Result Action LineError → LineMeaning → Type 0
+ActionGives (Ok action) meaning = DoesLine action meaning
+ActionGives (Err error) meaning = RefusesLine error meaning
 
--- what was read of a line does what it means, and its fault is what it means
-abbrev pub LineGives : {X : Type 0} → (X → LineMeaning → Type 0) → Result X LineError → LineMeaning
+-- a line of this number joins those before, and does what it means; one that passes is none
+abbrev pub JoinsLines : ℕ → List Line → List Line → LineMeaning → Type 0
+JoinsLines number old new passes = new ≡ old
+JoinsLines number old new (asks asked) =
+    (action : Action) × IsActionOf asked action
+    × (new ≡ old ++ (record { number = number; action = action }) ∷ [])
+JoinsLines number old new (refuses fault) = ⊥
+
+-- a line that was read joins those before by what it means; its fault is what it means, and leaves
+-- them as they were
+abbrev pub LineGives : {X : Type 0} → ℕ → List Line → List Line → Result X LineError → LineMeaning
     → Type 0
-LineGives Does (Ok x) meaning = Does x meaning
-LineGives Does (Err error) meaning = RefusesLine error meaning
+LineGives number old new (Ok done) meaning = JoinsLines number old new meaning
+LineGives number old new (Err error) meaning = RefusesLine error meaning × (new ≡ old)
 
 -- fields with this fault mean it; nothing is said where memory ran out
 abbrev pub FailsAs : {X : Type 0} → LineError → Result X ScriptFault → Type 0
@@ -69,6 +79,22 @@ Judges = JudgesAs (λ x. x)
 abbrev pub JudgesBody : Result Assembled LineError → Result Record ScriptFault → Type 0
 JudgesBody (Ok body) meaning = (value : Record) × (meaning ≡ Ok value) × IsBodyOf value body
 JudgesBody (Err error) meaning = FailsAs error meaning
+
+-- a line that inserts the record that fields mean joins those before; their fault is what they mean,
+-- and leaves them as they were
+abbrev pub InsertGives : {X : Type 0} → ℕ → List Line → List Line → Result X LineError
+    → Result Record ScriptFault → Type 0
+InsertGives number old new (Ok done) meaning =
+    (value : Record) × (meaning ≡ Ok value) × IsWritable value
+    × (new ≡ old ++ (record { number = number; action = actions.Insert (assembled value) }) ∷ [])
+InsertGives number old new (Err error) meaning = FailsAs error meaning × (new ≡ old)
+
+-- the bytes that fields mean stand behind those before, and their fault is theirs
+abbrev pub Appends : {X : Type 0} → List ℕ → List ℕ → Result X LineError
+    → Result (List ℕ) ScriptFault → Type 0
+Appends old new (Ok done) meaning =
+    (bytes : List ℕ) × (meaning ≡ Ok bytes) × (new ≡ old ++ bytes)
+Appends old new (Err error) meaning = FailsAs error meaning
 
 -- why a line was not read, from why its record is not assembled
 abbrev pub error_or_memory : Option ScriptFault → LineError

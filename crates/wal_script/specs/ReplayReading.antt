@@ -18,10 +18,10 @@ use Rattle.wal_script.specs.declared.line_error.LineError.TheVariants as causes
 use Rattle.wal_script.specs.declared.parser.ParseError.{ParseError}
 use Rattle.wal_script.specs.declared.parser.ParseError.TheVariants as errors
 use Rattle.wal_script.specs.declared.replay.Replay.{Replay}
-use Rattle.wal_script.specs.Asked.{Asked, AskedLine}
-use Rattle.wal_script.specs.Bodies.{AreLinesOf, IsActionOf}
-use Rattle.wal_script.specs.Meaning.{asks, passes, refuses}
-use Rattle.wal_script.specs.Reading.{RefusesScript}
+use Rattle.wal_script.specs.Asked.{AskedLine}
+use Rattle.wal_script.specs.Bodies.{AreLinesOf}
+use Rattle.wal_script.specs.Meaning.{LineMeaning, refuses}
+use Rattle.wal_script.specs.Reading.{JoinsLines, RefusesScript}
 use Rattle.wal_script.specs.Replay.{ScriptLine, of_backend, begins, ends, ScheduleLines, BackendsMeaning, ReplayMeaning, most_backends}
 
 -- each backend's lines do what is asked of it, in order, and there are as many backends
@@ -43,23 +43,24 @@ abbrev pub GivesReplay : Result Replay ParseError → Result ReplayMeaning Refus
 GivesReplay (Ok replay) meaning = DoesReplay replay meaning
 GivesReplay (Err error) meaning = RefusesScript error meaning
 
--- a step does what a line means
-abbrev pub DoesStep : LineRead → ScriptLine → Type 0
-DoesStep steps.Pass meaning = meaning ≡ of_backend passes
-DoesStep (steps.Ask action) meaning =
-    (asked : Asked) × (meaning ≡ of_backend (asks asked)) × IsActionOf asked action
-DoesStep (steps.Begin is_alone) meaning = meaning ≡ begins is_alone
-DoesStep steps.End meaning = meaning ≡ ends
+-- a step does what a line means: one of the backend under way joins its lines, and no other changes
+-- them
+abbrev pub DoesStep : ℕ → List Line → List Line → LineRead → ScriptLine → Type 0
+DoesStep number old new steps.Within meaning =
+    (line : LineMeaning) × (meaning ≡ of_backend line) × JoinsLines number old new line
+DoesStep number old new (steps.Begin is_alone) meaning = (meaning ≡ begins is_alone) × (new ≡ old)
+DoesStep number old new steps.End meaning = (meaning ≡ ends) × (new ≡ old)
 
 -- a line that is refused so means that fault
 abbrev pub RefusesStep : LineError → ScriptLine → Type 0
 RefusesStep causes.Memory meaning = Unit {0}
 RefusesStep (causes.Fault fault) meaning = meaning ≡ of_backend (refuses fault)
 
--- what was read of a line does what it means, and its fault is what it means
-abbrev pub StepGives : Result LineRead LineError → ScriptLine → Type 0
-StepGives (Ok step) meaning = DoesStep step meaning
-StepGives (Err error) meaning = RefusesStep error meaning
+-- what was read of a line does what it means; its fault is what it means, and leaves the lines as
+-- they were
+abbrev pub StepGives : ℕ → List Line → List Line → Result LineRead LineError → ScriptLine → Type 0
+StepGives number old new (Ok step) meaning = DoesStep number old new step meaning
+StepGives number old new (Err error) meaning = RefusesStep error meaning × (new ≡ old)
 
 -- the lines of what stands behind a line `S`
 abbrev pub schedule_lines : Option ScheduleText → Option ScheduleLines

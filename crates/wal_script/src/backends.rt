@@ -7,12 +7,14 @@ ghost use Rattle.wal_script.specs.ReplayReading.{GivesBackends, HasReadBackends,
 ghost use Rattle.wal_script.specs.Text.{lines_of};
 
 use crate::fields::no_more;
-use crate::line::{Action, Line, ScriptFault};
+use crate::line::{Line, ScriptFault};
 use crate::line_error::LineError;
-use crate::parser::{ParseError, SCRIPT_LIMIT, action_by};
-use crate::rooms::Rooms;
+use crate::parser::{ParseError, SCRIPT_LIMIT, line_by};
+use crate::records::insert;
+use crate::rooms::LinesRead;
 use bumpalo::Bump;
 use std::alloc::Global;
+use std::mem;
 use text_parts::{Parts, cut};
 
 /// How many backends a script may have.
@@ -36,12 +38,10 @@ pub(crate) struct Backends<'a, 'b> {
 }
 
 /// What one line does.
-#[derive(Drop)]
-enum LineRead<'a> {
-    /// Nothing: it is empty or a comment.
-    Pass,
-    /// It asks this of its backend.
-    Ask(Action<'a>),
+#[derive(Clone, Copy)]
+enum LineRead {
+    /// It is one of the backend under way, and read.
+    Within,
     /// The next backend begins, if no field stands behind the letter.
     Begin { is_alone: bool },
     /// The backends end.
@@ -61,29 +61,25 @@ pub(crate) fn read_backends<'a, 'b>(
         (backends_from takes_schedule 1 [] [] (lines_of script.now)) }
     ensures within { IfOk result (HasReadBackends (length script.now)) }
 {
-    let mut rooms = Rooms::new(alloc, arena);
+    let mut read = LinesRead::new(alloc, arena);
     let mut before = Vec::new(alloc);
-    let mut lines = Vec::new(alloc);
     let mut number = 0;
     let mut rest = Some(script);
     while let Some(text) = rest {
         let (line, behind) = cut(text, b'\n');
         rest = behind;
         number += 1;
-        match read_line(alloc, &mut rooms, line, takes_schedule).map_err(|cause| cause.at(
-            number,
-        ))? {
-            LineRead::Pass => {}
-            LineRead::Ask(action) => lines.push(Line { number, action })?,
-            LineRead::Begin { is_alone } => {
+        match read_line(alloc, &mut read, number, line, takes_schedule) {
+            Err(cause) => return Err(cause.at(number)),
+            Ok(LineRead::Within) => {}
+            Ok(LineRead::Begin { is_alone }) => {
                 if let Some(fault) = begin_fault(before.len() + 1, is_alone) {
                     return Err(LineError::Fault(fault).at(number));
                 }
-                before.push(lines)?;
-                lines = Vec::new(alloc);
+                before.push(mem::replace(&mut read.lines, Vec::new(alloc)))?;
             }
-            LineRead::End => {
-                before.push(lines)?;
+            Ok(LineRead::End) => {
+                before.push(read.lines)?;
                 let schedule = Some(ScheduleText { number, text: rest });
                 return Ok(Backends {
                     lines: before,
@@ -92,7 +88,7 @@ pub(crate) fn read_backends<'a, 'b>(
             }
         }
     }
-    before.push(lines)?;
+    before.push(read.lines)?;
     Ok(Backends {
         lines: before,
         schedule: None,
@@ -112,31 +108,39 @@ fn begin_fault(backends: usize, is_alone: bool) -> Option<ScriptFault>
     }
 }
 
-// What a line does.
+// What a line does. Most insert a record.
 #[inline(always)]
 fn read_line<'a>(
     alloc: Global,
-    rooms: &mut Rooms<'a>,
+    read: &mut LinesRead<'a>,
+    number: u32,
     line: &[u8],
     takes_schedule: bool,
-) -> Result<LineRead<'a>, LineError>
-    ensures { StepGives result (script_line_of takes_schedule line.now) }
+) -> Result<LineRead, LineError>
+    ensures { StepGives number read.old.lines.items read.new.lines.items result
+        (script_line_of takes_schedule line.now) }
 {
     match line {
-        [] | [b'#', ..] => Ok(LineRead::Pass),
-        _ => read_fields(alloc, rooms, Parts::of(line, b' '), takes_schedule),
+        [b'I', b' ', fields @ ..] => {
+            insert(alloc, read, number, Parts::of(fields, b' '))?;
+            Ok(LineRead::Within)
+        }
+        [] | [b'#', ..] => Ok(LineRead::Within),
+        _ => read_fields(alloc, read, number, Parts::of(line, b' '), takes_schedule),
     }
 }
 
 // What a line does by its fields.
-#[inline(always)]
+#[inline(never)]
 fn read_fields<'a>(
     alloc: Global,
-    rooms: &mut Rooms<'a>,
+    read: &mut LinesRead<'a>,
+    number: u32,
     mut fields: Parts,
     takes_schedule: bool,
-) -> Result<LineRead<'a>, LineError>
-    ensures { StepGives result (script_line_with takes_schedule fields.entry) }
+) -> Result<LineRead, LineError>
+    ensures { StepGives number read.old.lines.items read.new.lines.items result
+        (script_line_with takes_schedule fields.entry) }
 {
     match fields.next() {
         Some(b"B") => {
@@ -147,7 +151,7 @@ fn read_fields<'a>(
             no_more(fields)?;
             Ok(LineRead::End)
         }
-        Some(word) => backend_line(alloc, rooms, word, fields, takes_schedule),
+        Some(word) => backend_line(alloc, read, number, word, fields, takes_schedule),
         None => Err(LineError::Fault(ScriptFault::Word)),
     }
 }
@@ -156,18 +160,20 @@ fn read_fields<'a>(
 #[inline(always)]
 fn backend_line<'a>(
     alloc: Global,
-    rooms: &mut Rooms<'a>,
+    read: &mut LinesRead<'a>,
+    number: u32,
     word: &[u8],
     fields: Parts,
     takes_schedule: bool,
-) -> Result<LineRead<'a>, LineError>
-    ensures { StepGives result
+) -> Result<LineRead, LineError>
+    ensures { StepGives number read.old.lines.items read.new.lines.items result
         (of_backend (backend_line_with takes_schedule word.now fields.entry)) }
 {
     if takes_schedule && is_of_runs(word) {
         return Err(LineError::Fault(ScriptFault::Word));
     }
-    Ok(LineRead::Ask(action_by(alloc, rooms, word, fields)?))
+    line_by(alloc, read, number, word, fields)?;
+    Ok(LineRead::Within)
 }
 
 // Whether a letter is one of runs alone.

@@ -1,13 +1,13 @@
 //! A line's fields, read from the left.
 
-ghost use Rattle.std.specs.Prelude.{◌≡◌, [], ◌-◌, ◌^◌, ◌≤◌, IfOk};
+ghost use Rattle.std.specs.Prelude.{◌≡◌, ◌-◌, ◌^◌, ◌≤◌, IfOk};
 ghost use Rattle.wal_script.specs.Fields.{next_as, no_more};
-ghost use Rattle.wal_script.specs.Hexadecimal.{byte_spelled, data_of};
+ghost use Rattle.wal_script.specs.Hexadecimal.{byte_spelled};
 ghost use Rattle.decimal_numbers.specs.Numbers.{number_of, time_of};
 ghost use Rattle.wal_script.specs.Reading.{Judges, JudgesAs};
 ghost use Rattle.wal_script.specs.declared.line.ScriptFault.TheVariants as faults;
 
-use crate::hexadecimal::{byte, put_data};
+use crate::hexadecimal::byte;
 use crate::line::ScriptFault;
 use crate::line_error::LineError;
 use decimal_numbers::{number, time};
@@ -64,18 +64,6 @@ pub(crate) fn next_byte(fields: &mut Parts) -> Result<u8, LineError>
 {
     let field = fields.next().ok_or(ScriptFault::Count)?;
     Ok(byte(field).ok_or(ScriptFault::Hex)?)
-}
-
-/// The next field as data, in a vector that holds nothing.
-#[inline(always)]
-pub(crate) fn next_data(bytes: &mut Vec<u8>, fields: &mut Parts) -> Result<(), LineError>
-    requires { bytes.old.items ≡ [] }
-    ensures { JudgesAs
-        (λ _. record { value = bytes.new.items; rest = fields.new }) result
-        (next_as data_of faults.Hex fields.old) }
-{
-    let field = fields.next().ok_or(ScriptFault::Count)?;
-    put_data(bytes, field)
 }
 
 /// No field is left.

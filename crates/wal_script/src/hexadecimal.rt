@@ -4,7 +4,7 @@ ghost use Rattle.std.specs.Prelude.{◌≡◌, [], ◌∷◌};
 ghost use Rattle.std.specs.Option.{ok_or};
 ghost use Rattle.decimal_numbers.specs.Hexadecimal.{hexadecimal_value};
 ghost use Rattle.wal_script.specs.Hexadecimal.{byte_spelled, bytes_of, data_of, pair_of, repeated_of};
-ghost use Rattle.wal_script.specs.Reading.{Judges, JudgesAs};
+ghost use Rattle.wal_script.specs.Reading.{Appends, Judges};
 ghost use Rattle.wal_script.specs.declared.line.ScriptFault.TheVariants as faults;
 
 use crate::line::ScriptFault;
@@ -45,11 +45,11 @@ pub(crate) fn data(alloc: Global, field: &[u8]) -> Result<Bytes, LineError>
     Ok(Bytes::of(bytes))
 }
 
-/// Puts a data field's bytes into a vector that holds nothing.
+/// Puts a data field's bytes behind what a vector holds.
 #[inline(always)]
 pub(crate) fn put_data(bytes: &mut Vec<u8>, field: &[u8]) -> Result<(), LineError>
-    requires { bytes.old.items ≡ [] }
-    ensures { JudgesAs (λ _. bytes.new.items) result (ok_or (data_of field.now) faults.Hex) }
+    ensures { Appends bytes.old.items bytes.new.items result
+        (ok_or (data_of field.now) faults.Hex) }
 {
     match field {
         [] => Err(LineError::Fault(ScriptFault::Hex)),
@@ -62,8 +62,7 @@ pub(crate) fn put_data(bytes: &mut Vec<u8>, field: &[u8]) -> Result<(), LineErro
 // Puts as many bytes as a count says.
 #[inline(always)]
 fn put_copies(bytes: &mut Vec<u8>, count: &[u8], high: u8, low: u8) -> Result<(), LineError>
-    requires { bytes.old.items ≡ [] }
-    ensures { JudgesAs (λ _. bytes.new.items) result
+    ensures { Appends bytes.old.items bytes.new.items result
         (ok_or (repeated_of count.now (high ∷ low ∷ [])) faults.Hex) }
 {
     let count = match number(count, MOST_COPIES) {
@@ -71,15 +70,15 @@ fn put_copies(bytes: &mut Vec<u8>, count: &[u8], high: u8, low: u8) -> Result<()
         Some(count) => count as usize,
     };
     let filler = pair(high, low).ok_or(ScriptFault::Hex)?;
-    bytes.resize(count, filler)?;
+    bytes.resize(bytes.len() + count, filler)?;
     Ok(())
 }
 
 // Puts the bytes of digits, two each.
 #[inline(never)]
 fn put_bytes(bytes: &mut Vec<u8>, digits: &[u8]) -> Result<(), LineError>
-    requires { bytes.old.items ≡ [] }
-    ensures { JudgesAs (λ _. bytes.new.items) result (ok_or (bytes_of digits.now) faults.Hex) }
+    ensures { Appends bytes.old.items bytes.new.items result
+        (ok_or (bytes_of digits.now) faults.Hex) }
 {
     bytes.reserve(digits.len() / 2)?;
     let mut rest = digits;

@@ -2,13 +2,13 @@ ghost use Rattle.std.specs.Prelude.{◌≡◌, ◌+◌, ◌<◌, ◌≤◌, ◌=
 ghost use Rattle.wal_script.specs.Text.{is_text, lines_of};
 ghost use Rattle.wal_script.specs.declared.parser.ParseError.TheVariants.{Refused};
 ghost use Rattle.wal_script.specs.Meaning.{line_with, line_of, lines_meaning, backend_meaning, script_limit, script_too_long};
-ghost use Rattle.wal_script.specs.Reading.{DoesAny, DoesLine, GivesLines, LineGives};
+ghost use Rattle.wal_script.specs.Reading.{ActionGives, GivesLines, LineGives};
 
 use crate::fields::no_more;
 use crate::line::{Action, Line, Refusal, ScriptFault};
 use crate::line_error::LineError;
 use crate::records::{commit, insert};
-use crate::rooms::Rooms;
+use crate::rooms::{LinesRead, Rooms};
 use record_spelling::Body;
 use std::alloc::{AllocError, AllocFailed, Global};
 use text_parts::Parts;
@@ -88,67 +88,86 @@ fn lines(alloc: Global, script: &[u8]) -> Result<Vec<Line<'static>>, ParseError>
     requires { length script.now ≤ SCRIPT_LIMIT }
     ensures { GivesLines result (lines_meaning 1 (lines_of script.now)) }
 {
-    let mut rooms = Rooms::new(alloc, None);
-    let mut lines = Vec::new(alloc);
+    let mut read = LinesRead::new(alloc, None);
     let mut number = 0;
     for line in Parts::of(script, b'\n') {
         number += 1;
-        if let Some(action) = action_of(alloc, &mut rooms, line).map_err(|cause| cause.at(
-            number,
-        ))? {
-            lines.push(Line { number, action })?;
+        if let Err(cause) = read_line(alloc, &mut read, number, line) {
+            return Err(cause.at(number));
         }
     }
-    Ok(lines)
+    Ok(read.lines)
 }
 
-// What a line asks for: nothing where it is empty or a comment.
-fn action_of<'a>(
+// Reads a line: nothing is asked for where it is empty or a comment.
+fn read_line<'a>(
     alloc: Global,
-    rooms: &mut Rooms<'a>,
+    read: &mut LinesRead<'a>,
+    number: u32,
     line: &[u8],
-) -> Result<Option<Action<'a>>, LineError>
-    ensures { LineGives DoesAny result (line_of line.now) }
+) -> Result<(), LineError>
+    ensures { LineGives number read.old.lines.items read.new.lines.items result
+        (line_of line.now) }
 {
     match line {
-        [] | [b'#', ..] => Ok(None),
-        _ => Ok(Some(action(alloc, rooms, Parts::of(line, b' '))?)),
+        [] | [b'#', ..] => Ok(()),
+        _ => read_fields(alloc, read, number, Parts::of(line, b' ')),
     }
 }
 
-// What a line's fields ask for; the first that is wrong, from the left, is its fault.
-fn action<'a>(
+// Reads a line's fields; the first that is wrong, from the left, is its fault.
+fn read_fields<'a>(
     alloc: Global,
-    rooms: &mut Rooms<'a>,
+    read: &mut LinesRead<'a>,
+    number: u32,
     mut fields: Parts,
-) -> Result<Action<'a>, LineError>
-    ensures { LineGives DoesLine result (line_with fields.entry) }
+) -> Result<(), LineError>
+    ensures { LineGives number read.old.lines.items read.new.lines.items result
+        (line_with fields.entry) }
 {
     match fields.next() {
-        Some(word) => action_by(alloc, rooms, word, fields),
+        Some(word) => line_by(alloc, read, number, word, fields),
         None => Err(LineError::Fault(ScriptFault::Word)),
     }
 }
 
-/// What a line asks for by its first field and those behind it. A record's data is spelled out in
-/// its room.
+/// Reads a line by its first field and those behind it.
 #[inline(always)]
-pub(crate) fn action_by<'a>(
+pub(crate) fn line_by<'a>(
     alloc: Global,
-    rooms: &mut Rooms<'a>,
+    read: &mut LinesRead<'a>,
+    number: u32,
     word: &[u8],
     fields: Parts,
-) -> Result<Action<'a>, LineError>
-    ensures { LineGives DoesLine result (line_with (word.now ∷ fields.entry)) }
+) -> Result<(), LineError>
+    ensures { LineGives number read.old.lines.items read.new.lines.items result
+        (line_with (word.now ∷ fields.entry)) }
 {
     match word {
-        b"I" => Ok(Action::Insert(insert(alloc, rooms, fields)?)),
-        _ => other_action(alloc, rooms, word, fields),
+        b"I" => insert(alloc, read, number, fields),
+        _ => other_line(alloc, read, number, word, fields),
     }
 }
 
 // The same of a line whose first field is not `I`.
 #[inline(never)]
+fn other_line<'a>(
+    alloc: Global,
+    read: &mut LinesRead<'a>,
+    number: u32,
+    word: &[u8],
+    fields: Parts,
+) -> Result<(), LineError>
+    requires { is_text word.now (codes "I") ≡ false }
+    ensures { LineGives number read.old.lines.items read.new.lines.items result
+        (line_with (word.now ∷ fields.entry)) }
+{
+    let action = other_action(alloc, &mut read.rooms, word, fields)?;
+    read.push(number, action)?;
+    Ok(())
+}
+
+// What such a line asks for.
 fn other_action<'a>(
     alloc: Global,
     rooms: &mut Rooms<'a>,
@@ -156,7 +175,7 @@ fn other_action<'a>(
     fields: Parts,
 ) -> Result<Action<'a>, LineError>
     requires { is_text word.now (codes "I") ≡ false }
-    ensures { LineGives DoesLine result (line_with (word.now ∷ fields.entry)) }
+    ensures { ActionGives result (line_with (word.now ∷ fields.entry)) }
 {
     match word {
         b"C" => Ok(Action::Commit(commit(alloc, rooms, fields)?)),

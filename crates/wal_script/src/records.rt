@@ -1,45 +1,50 @@
 //! The records that lines insert.
 
-ghost use Rattle.std.specs.Prelude.{◌≡◌, [], IfOk};
+ghost use Rattle.std.specs.Prelude.{◌≡◌, ◌≤◌, [], IfOk, OnOk, drop, length};
 ghost use Rattle.record_spelling.specs.Record.{plain_record};
-ghost use Rattle.wal_script.specs.Meaning.{accepted, commit_of, commit_record, insert_of, insert_with};
-ghost use Rattle.wal_script.specs.Reading.{Judges, JudgesBody};
+ghost use Rattle.wal_script.specs.Meaning.{accepted, commit_of, commit_record, insert_of, insert_of_data, insert_with};
+ghost use Rattle.wal_script.specs.Reading.{InsertGives, Judges, JudgesBody};
 
 use crate::blocks::blocks;
-use crate::fields::{next_byte, next_data, next_time, next_u8, next_u32, no_more};
+use crate::fields::{next_byte, next_time, next_u8, next_u32, no_more};
+use crate::hexadecimal::put_data;
+use crate::line::{Action, Line, ScriptFault};
 use crate::line_error::LineError;
-use crate::rooms::Rooms;
+use crate::rooms::{LinesRead, Rooms};
 use bumpalo::Bump;
-use record_spelling::Body;
+use record_spelling::{Body, FRONT, spell_plain_in};
 use std::alloc::{AllocError, Global};
 use std::mem;
 use text_parts::Parts;
 use wal_types::{BlockList, Bytes, Record, TRANSACTION_MANAGER, Xid};
 
-/// The record of a line `I`, assembled. Its data is spelled out in its room, which is there for the
-/// next line again.
+/// Reads a line `I` by its fields: its record is assembled, and the line joins those before. Its
+/// data is spelled out in its room, which is there for the next line again.
 #[inline(always)]
 pub(crate) fn insert<'a>(
     alloc: Global,
-    rooms: &mut Rooms<'a>,
+    read: &mut LinesRead<'a>,
+    number: u32,
     mut fields: Parts,
-) -> Result<Body<'a>, LineError>
-    ensures { JudgesBody result (insert_of fields.entry) }
+) -> Result<(), LineError>
+    ensures { InsertGives number read.old.lines.items read.new.lines.items result
+        (insert_of fields.entry) }
 {
     let xid = next_u32(&mut fields)?;
     let rmid = next_u8(&mut fields)?;
     let info = next_byte(&mut fields)?;
-    rooms.data.clear();
-    next_data(&mut rooms.data, &mut fields)?;
+    let Some(main) = fields.next() else {
+        return Err(LineError::Fault(ScriptFault::Count));
+    };
     let header = Header {
         xid: Xid(xid),
         rmid,
         info,
     };
     if fields.is_done() {
-        assembled_plain(alloc, rooms, header)
+        insert_plain(alloc, read, number, header, main)
     } else {
-        with_blocks(alloc, rooms, header, fields)
+        insert_with_blocks(alloc, read, number, header, main, fields)
     }
 }
 
@@ -51,47 +56,103 @@ struct Header {
     info: u8,
 }
 
-// The record of such a header and of the data that was spelled out, assembled.
+// The same by a record's header, and the field that spells its main data. The data is spelled where
+// it stands, behind room for what stands in front of it.
 #[inline(never)]
-fn assembled_plain<'a>(
+fn insert_plain<'a>(
     alloc: Global,
-    rooms: &mut Rooms<'a>,
+    read: &mut LinesRead<'a>,
+    number: u32,
     header: Header,
-) -> Result<Body<'a>, LineError>
-    ensures { JudgesBody result (accepted
-        (plain_record header.xid header.rmid header.info rooms.old.data.items)) }
+    main: &[u8],
+) -> Result<(), LineError>
+    ensures { InsertGives number read.old.lines.items read.new.lines.items result
+        (insert_of_data header.xid header.rmid header.info main.now []) }
 {
-    match rooms.arena {
-        Some(bump) => plain_in(bump, header, &rooms.data, &mut rooms.spelled),
-        None => plain_alone(alloc, header, &rooms.data),
+    clear_to_front(&mut read.rooms.spelled)?;
+    put_data(&mut read.rooms.spelled, main)?;
+    match read.rooms.arena {
+        Some(bump) => insert_plain_in(bump, read, number, header),
+        None => insert_plain_alone(alloc, read, number, header),
     }
 }
 
-// The same in an arena.
+// Nothing but free bytes in front.
 #[inline(always)]
-fn plain_in<'a>(
-    bump: &'a Bump,
-    header: Header,
-    main: &[u8],
-    room: &mut Vec<u8>,
-) -> Result<Body<'a>, LineError>
-    ensures { JudgesBody result
-        (accepted (plain_record header.xid header.rmid header.info main.now)) }
+fn clear_to_front(room: &mut Vec<u8>) -> Result<(), AllocError>
+    ensures { OnOk result (length room.new.items ≡ FRONT) }
 {
-    Ok(Body::assemble_plain_in(bump, room, header.xid, header.rmid, header.info, main)?)
+    room.truncate(FRONT);
+    if room.len() < FRONT {
+        room.resize(FRONT, 0)?;
+    }
+    Ok(())
+}
+
+// The same of data in its room, in an arena. The body is made where it is to lie, since it is large.
+#[inline(always)]
+fn insert_plain_in<'a>(
+    bump: &'a Bump,
+    read: &mut LinesRead<'a>,
+    number: u32,
+    header: Header,
+) -> Result<(), LineError>
+    requires { FRONT ≤ length read.old.rooms.spelled.items }
+    ensures { InsertGives number read.old.lines.items read.new.lines.items result
+        (accepted (plain_record header.xid header.rmid header.info
+        (drop FRONT read.old.rooms.spelled.items))) }
+{
+    let Header { xid, rmid, info } = header;
+    let bytes = spell_plain_in(bump, &mut read.rooms.spelled, rmid, info)?;
+    read.lines.reserve(1)?;
+    let body = Body::of_plain_in(xid, rmid, info, &read.rooms.spelled[FRONT..], bytes);
+    read.lines.push_reserved(Line {
+        number,
+        action: Action::Insert(body),
+    });
+    Ok(())
 }
 
 // The same with bytes of its own.
 #[inline(never)]
-fn plain_alone<'a>(alloc: Global, header: Header, main: &[u8]) -> Result<Body<'a>, LineError>
-    ensures { JudgesBody result
-        (accepted (plain_record header.xid header.rmid header.info main.now)) }
+fn insert_plain_alone<'a>(
+    alloc: Global,
+    read: &mut LinesRead<'a>,
+    number: u32,
+    header: Header,
+) -> Result<(), LineError>
+    requires { FRONT ≤ length read.old.rooms.spelled.items }
+    ensures { InsertGives number read.old.lines.items read.new.lines.items result
+        (accepted (plain_record header.xid header.rmid header.info
+        (drop FRONT read.old.rooms.spelled.items))) }
 {
-    Ok(Body::assemble_plain(alloc, header.xid, header.rmid, header.info, main)?)
+    let Header { xid, rmid, info } = header;
+    let body = Body::assemble_plain(alloc, xid, rmid, info, &read.rooms.spelled[FRONT..])?;
+    read.push(number, Action::Insert(body))?;
+    Ok(())
 }
 
 // The same with the blocks that the fields behind the data spell.
 #[inline(never)]
+fn insert_with_blocks<'a>(
+    alloc: Global,
+    read: &mut LinesRead<'a>,
+    number: u32,
+    header: Header,
+    main: &[u8],
+    fields: Parts,
+) -> Result<(), LineError>
+    ensures { InsertGives number read.old.lines.items read.new.lines.items result
+        (insert_of_data header.xid header.rmid header.info main.now fields.entry) }
+{
+    read.rooms.data.clear();
+    put_data(&mut read.rooms.data, main)?;
+    let body = with_blocks(alloc, &mut read.rooms, header, fields)?;
+    read.push(number, Action::Insert(body))?;
+    Ok(())
+}
+
+// Its record, assembled.
 fn with_blocks<'a>(
     alloc: Global,
     rooms: &mut Rooms<'a>,

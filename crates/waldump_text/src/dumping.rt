@@ -146,6 +146,7 @@ fn put_statistics<O: Sink>(quiet: bool, tally: &Tally, out: &mut O) -> Result<()
 }
 
 // Puts a record's line, unless nothing is to be printed.
+#[inline(always)]
 fn print<O: Sink>(
     buffer: &mut LineBuffer,
     filter: &Filter,

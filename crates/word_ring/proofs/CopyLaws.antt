@@ -1,9 +1,13 @@
 -- The next word of a copy: whether one is left, where its place in the ring is, and what it is; and
 -- runs of such words on one page.
-use Rattle.std.proofs.Common.{◌≡◌, ℕ, ◌+◌, ◌-◌, ◌*◌, ◌/◌, ◌%◌, ◌<◌, ◌≤◌, List, length, slice_index, map, refl, sym, ap, ◌∙◌, subst, arith}
+use Rattle.std.proofs.Common.{◌≡◌, ℕ, zero, suc, ◌+◌, ◌-◌, ◌*◌, ◌/◌, ◌%◌, ◌<◌, ◌≤◌, List, [], length, get_or, slice_index, take, drop, map, refl, sym, ap, ◌∙◌, subst, arith}
+use Rattle.std.specs.Int.{w64, from_le_bytes}
+use Rattle.std.specs.Simd.{first_chunks}
+use Rattle.std.proofs.lemmas.List.{drop-drop, get_or-take}
 use Rattle.std.proofs.Math.Logic.{∥∥₁_elim}
 use Rattle.std.specs.Coded.{Coded-set, coded_ℕ, le_prop, ×_prop}
 use Rattle.atomic_table.proofs.Lists.{at_map}
+use Rattle.record_spelling.specs.Spelling.{word_at}
 use Rattle.wal_page.specs.EntryWords.{address_of_word, words_owned}
 use Rattle.wal_page.specs.Placed.{PlacedState, placed_end, placed_word}
 use Rattle.wal_core.specs.declared.setup.Setup.{Setup}
@@ -15,7 +19,7 @@ use Rattle.machine_laws.proofs.RingLaws.{copy-whole, first_word-whole, last_word
 use Rattle.wal_rule.specs.declared.seated.SeatedPass.{SeatedPass}
 use Rattle.wal_rule.specs.SeatedPasses.{HasView, hand_of, setup_of, view_of}
 use Rattle.wal_rule.specs.Stepping.{Stands}
-use Rattle.word_ring.specs.CopyRuns.{HasCopied, MayCopy, MayStoreRun, StoresNext}
+use Rattle.word_ring.specs.CopyRuns.{HasCopied, MayCopy, MayStoreRun, MayStoreWords, StoresNext, chunk_word}
 use Rattle.word_ring.proofs.Steps.{has_same_view, same_setup, then_view, view_is}
 use Rattle.word_ring.specs.Copied.{IsPlaceOf, IsRestOf, copied_view, further, page_end_at, rest_of}
 use Rattle.word_ring.specs.Ring.{confirmed_view}
@@ -306,3 +310,97 @@ run_may place words p a may given n q below x =
     stores_there (view_of q) (place + n) (place + n) (slice_index words n)
     (slice_index words (0 + n)) refl (ap (slice_index words) same)
     (run_stores (length words) place p q a n (slice_index words n) may x below (given n below))
+
+-- so may those that are some numbers' words
+pub words_may : {D : Type 0} (count place : ℕ) (words : ℕ → ℕ) (p : SeatedPass D)
+    (a : PlacedState) → MayCopy count place p a
+    → ((n : ℕ) → n < count → words n ≡ placed_word a (a.next + 8 * n))
+    → MayStoreWords place words count p
+words_may count place words p a may given n q below x =
+    run_stores count place p q a n (words n) may x below (given n below)
+
+-- and others that are the same
+pub words_as : {D : Type 0} (place count all : ℕ) (words others : ℕ → ℕ) (p : SeatedPass D)
+    → MayStoreWords place words all p → count ≤ all
+    → ((n : ℕ) → n < count → words n ≡ others n) → MayStoreWords place others count p
+words_as place count all words others p may within same n q below x =
+    stores_there (view_of q) (place + n) (place + n) (words n) (others n) refl (same n below)
+    (may n q (omega (arith, within, below)) x)
+
+-- what is left of them may be stored behind the first
+pub words_on : {D : Type 0} (place done count all : ℕ) (words : ℕ → ℕ) (p q : SeatedPass D)
+    → MayStoreWords place words all p → HasView (copied_view done (view_of p)) p q
+    → done + count ≤ all → MayStoreWords (place + done) (λ n. words (done + n)) count q
+words_on place done count all words p q may within fits n r below y =
+    let there : place + (done + n) ≡ place + done + n = omega arith in
+    stores_there (view_of r) (place + (done + n)) (place + done + n) (words (done + n))
+    (words (done + n)) there refl
+    (may (done + n) r (omega (arith, fits, below)) (behind_run done n p q r within y))
+
+-- so many words were copied, and then more
+pub copied_more : {D : Type 0} (done n : ℕ) (p q r : SeatedPass D) (a b e : PlacedState)
+    → IsRestOf (setup_of p) (view_of p) a → HasCopied done p q a b → HasCopied n q r b e
+    → HasCopied (done + n) p r a e
+copied_more done n p q r a b e rest x y =
+    let sum : a.next + 8 * done + 8 * n ≡ a.next + 8 * (done + n) = omega arith in
+    has_copied (done + n) p r a e rest (behind_run done n p q r x.view y.view)
+    (y.placed_is ∙ ap (λ (s : PlacedState). record s { next = s.next + 8 * n }) x.placed_is
+    ∙ ap (λ (k : ℕ). record a { next = k }) sum)
+
+-- fewer words may be copied too
+pub fewer_may : {D : Type 0} (count n place : ℕ) (p : SeatedPass D) (a : PlacedState)
+    → MayCopy count place p a → n ≤ count → MayCopy n place p a
+fewer_may count n place p a may few =
+    let left = may.left in
+    let on = may.on_page in record {
+      rest = may.rest;
+      left = omega (arith, left, few);
+      on_page = omega (arith, on, few);
+      met = may.met;
+      place_is = may.place_is;
+    }
+
+-- none was copied
+pub copied_nothing : {D : Type 0} (p : SeatedPass D) (a b : PlacedState)
+    → IsRestOf (setup_of p) (view_of p) a → b ≡ a → HasCopied 0 p p a b
+copied_nothing p a b rest same =
+    let none : a.next ≡ a.next + 8 * 0 = omega arith in
+    has_copied 0 p p a b rest
+    (record {
+      same_table = refl;
+      me_is = ap (λ (w : View). (w, hand_of p)) (copied_none (view_of p));
+    })
+    (same ∙ ap (λ (n : ℕ). record a { next = n }) none)
+
+-- so many were, by another count
+pub copied_as : {D : Type 0} (m n : ℕ) (p q : SeatedPass D) (a b : PlacedState) → m ≡ n
+    → HasCopied m p q a b → HasCopied n p q a b
+copied_as m n p q a b same x = subst (λ (k : ℕ). HasCopied k p q a b) same x
+
+-- ---- words of bytes
+
+chunk_at : (count : ℕ) (bytes : List ℕ) (k : ℕ) → k < count
+    → get_or (first_chunks 8 count bytes) k [] ≡ take 8 (drop (8 * k) bytes)
+chunk_at zero bytes k below = absurd (omega arith)
+chunk_at (suc count) bytes zero below = refl
+chunk_at (suc count) bytes (suc k) below =
+    let place : 8 + 8 * k ≡ 8 * suc k = omega arith in
+    chunk_at count (drop 8 bytes) k (omega arith)
+    ∙ ap (take 8) (drop-drop (8 * k) 8 bytes ∙ ap (λ (m : ℕ). drop m bytes) place)
+
+-- those of whole chunks
+pub chunk_words : (bytes : List ℕ) (chunks : List (List ℕ)) (whole n : ℕ)
+    → chunks ≡ first_chunks 8 (length bytes / 8) bytes → whole ≤ length bytes / 8 → n < whole
+    → word_at bytes n ≡ chunk_word (take whole chunks) n
+chunk_words bytes chunks whole n cut within below =
+    sym (ap (from_le_bytes w64) (get_or-take whole chunks n [] below
+    ∙ ap (λ (cs : List (List ℕ)). get_or cs n []) cut
+    ∙ chunk_at (length bytes / 8) bytes n (omega (arith, within, below))))
+
+-- that of the bytes behind them
+pub tail_word : (bytes tail : List ℕ) (whole : ℕ) → tail ≡ drop (length bytes / 8 * 8) bytes
+    → whole ≡ length bytes / 8 → from_le_bytes w64 (take 8 tail) ≡ word_at bytes whole
+tail_word bytes tail whole is all =
+    let place : length bytes / 8 * 8 ≡ 8 * whole = omega (arith, all) in
+    ap (λ (t : List ℕ). from_le_bytes w64 (take 8 t))
+    (is ∙ ap (λ (m : ℕ). drop m bytes) place)

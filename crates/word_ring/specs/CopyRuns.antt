@@ -1,5 +1,6 @@
 -- A run of words that a pass may copy to a page, and what is so behind it.
-use Rattle.std.specs.Prelude.{◌≡◌, ◌≢◌, ℕ, ◌+◌, ◌*◌, ◌<◌, ◌≤◌, List, min, slice_index}
+use Rattle.std.specs.Prelude.{◌≡◌, ◌≢◌, ℕ, ◌+◌, ◌*◌, ◌<◌, ◌≤◌, List, [], min, slice_index, slice_index_or}
+use Rattle.std.specs.Int.{w64, from_le_bytes}
 use Rattle.wal_page.specs.Placed.{PlacedState, placed_end}
 use Rattle.wal_core.specs.Steps.{store_ring_word, MayStep, value_behind, word_of_step}
 use Rattle.wal_core.specs.Views.{View}
@@ -48,3 +49,13 @@ abbrev pub MayStoreRun : {D : Type 0} → (place : ℕ) → List ℕ → (done c
 MayStoreRun {D} place words done count p = (n : ℕ) (q : SeatedPass D) → n < count
     → HasView (copied_view n (view_of p)) p q
     → StoresNext (view_of q) (place + n) (slice_index words (done + n))
+
+-- the first `count` of these words may be stored one behind another, from this place on
+abbrev pub MayStoreWords : {D : Type 0} → (place : ℕ) → (ℕ → ℕ) → (count : ℕ) → SeatedPass D
+    → Type 0
+MayStoreWords {D} place words count p = (n : ℕ) (q : SeatedPass D) → n < count
+    → HasView (copied_view n (view_of p)) p q → StoresNext (view_of q) (place + n) (words n)
+
+-- the word of the n-th of some chunks of eight bytes
+abbrev pub chunk_word : List (List ℕ) → ℕ → ℕ
+chunk_word chunks n = from_le_bytes w64 (slice_index_or chunks n [])

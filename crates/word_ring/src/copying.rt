@@ -5,24 +5,26 @@
 // them. So what is copied is a front of the record, and the address of the next word is the
 // progress that may be told under the lock. A word that was stored is the log's: this copy does not
 // come back to it, and no other record owns it.
-ghost use Rattle.std.specs.Prelude.{◌≡◌, ◌+◌, ◌<◌, ◌≤◌, ◌^◌, length, min};
-ghost use Rattle.wal_page.specs.Placed.{placed_end};
+ghost use Rattle.std.specs.Prelude.{◌≡◌, ◌+◌, ◌-◌, ◌*◌, ◌<◌, ◌≤◌, ◌^◌, length, min};
+ghost use Rattle.record_spelling.specs.Spelling.{word_at};
+ghost use Rattle.wal_page.specs.Placed.{LieTogether, placed_end};
 ghost use Rattle.wal_rule.specs.SeatedPasses.{HasView, StaysSeated, setup_of, view_of};
 ghost use Rattle.word_ring.specs.Copied.{CopiesPage, IsPlaceOf, IsRestOf, copied_view, left_on_page, page_end_at};
-ghost use Rattle.word_ring.specs.CopyRuns.{CopiesPresent, HasCopied, MayCopy, MayStoreRun};
+ghost use Rattle.word_ring.specs.CopyRuns.{CopiesPresent, HasCopied, MayCopy, MayStoreRun, MayStoreWords, chunk_word};
 
 use byte_position::{PAGE_SIZE, PAGE_WORDS, WORD};
 use machine_words::LogShape;
 use machine_words::layout::BUFFER_ENDS;
+use record_spelling::last_word;
 use segment_disk::Disk;
 use wal_page::Placed;
 use wal_rule::{LogTable, SeatedPass};
 
-// How many words are made of a record at once, before they are stored one by one.
+// How many words of those that lie not together are made at once, before they are stored.
 const RUN: usize = 64;
 
-// So many at most are a short record's: less room has to be cleared for them.
-const SHORT: usize = 20;
+// So many words has a page's header, where no segment begins.
+const HEADER_WORDS: usize = 3;
 
 // So many words are stored in a row, without a test between.
 const FEW: usize = 4;
@@ -117,7 +119,8 @@ fn copy_from<'p, 'a, D: Disk>(
     count
 }
 
-// Copies so many words, which lie on one page, the first of them to this place.
+// Copies so many words, which lie on one page, the first of them to this place. Most records' lie
+// together there, and are made of the record's bytes as they are stored.
 #[inline(always)]
 fn copy_words<'p, 'a, D: Disk>(
     seated: &mut SeatedPass<'p, D>,
@@ -129,15 +132,126 @@ fn copy_words<'p, 'a, D: Disk>(
     requires low { place + count < 2 ^ 20 }
     ensures copied { HasCopied count seated.old seated.new placed.old placed.new }
 {
-    if count > SHORT {
-        copy_long(seated, placed, place, count);
-        return;
+    if placed.lie_together(count) {
+        copy_together(seated, placed, place, count);
+    } else {
+        copy_mixed(seated, placed, place, count);
     }
-    let mut words = [0; SHORT];
-    copy_run(seated, placed, place, &mut words[..count]);
 }
 
-// The same, run by run.
+// Copies so many words, which lie together.
+#[inline(always)]
+fn copy_together<'p, 'a, D: Disk>(
+    seated: &mut SeatedPass<'p, D>,
+    placed: &mut Placed<'a>,
+    place: usize,
+    count: usize,
+)
+    requires may { MayCopy count place seated.old placed.old }
+    requires together { LieTogether placed.old count }
+    requires low { place + count < 2 ^ 20 }
+    ensures copied { HasCopied count seated.old seated.new placed.old placed.new }
+{
+    let done = copy_header(seated, placed, place, count);
+    if done < count {
+        copy_bytes(seated, placed, place + done, count - done);
+    }
+}
+
+// Copies the three words of the record's header, if they are the next ones, and answers how many
+// words it copied.
+#[inline(always)]
+fn copy_header<'p, 'a, D: Disk>(
+    seated: &mut SeatedPass<'p, D>,
+    placed: &mut Placed<'a>,
+    place: usize,
+    count: usize,
+) -> usize
+    requires may { MayCopy count place seated.old placed.old }
+    requires together { LieTogether placed.old count }
+    requires low { place + count < 2 ^ 20 }
+    ensures copied { HasCopied result seated.old seated.new placed.old placed.new }
+    ensures within { result ≤ count }
+    ensures together { result < count → LieTogether placed.new (count - result) }
+{
+    match placed.take_header(count) {
+        Some(header) => {
+            let table = seated.table;
+            store_some(seated, table, place, &header, 0, 3);
+            3
+        }
+        None => 0,
+    }
+}
+
+// Copies so many words, which lie together: those behind the header are made of the record's bytes.
+#[inline(always)]
+fn copy_bytes<'p, 'a, D: Disk>(
+    seated: &mut SeatedPass<'p, D>,
+    placed: &mut Placed<'a>,
+    place: usize,
+    count: usize,
+)
+    requires some { 0 < count }
+    requires may { MayCopy count place seated.old placed.old }
+    requires together { LieTogether placed.old count }
+    requires low { place + count < 2 ^ 20 }
+    ensures copied { HasCopied count seated.old seated.new placed.old placed.new }
+{
+    match placed.take_bytes(count) {
+        Some(bytes) => store_bytes(seated, place, bytes, count),
+        None => copy_long(seated, placed, place, count),
+    }
+}
+
+// Copies so many words, among which are a page's header or zeros behind the record, or which begin
+// within the record's header.
+#[inline(never)]
+fn copy_mixed<'p, 'a, D: Disk>(
+    seated: &mut SeatedPass<'p, D>,
+    placed: &mut Placed<'a>,
+    place: usize,
+    count: usize,
+)
+    requires may { MayCopy count place seated.old placed.old }
+    requires low { place + count < 2 ^ 20 }
+    ensures copied { HasCopied count seated.old seated.new placed.old placed.new }
+{
+    let mut done = 0;
+    while done < count {
+        done += copy_next(seated, placed, place + done, count - done);
+    }
+}
+
+// Copies at least one of so many words: all, or as many as a page's header has.
+#[inline(always)]
+fn copy_next<'p, 'a, D: Disk>(
+    seated: &mut SeatedPass<'p, D>,
+    placed: &mut Placed<'a>,
+    place: usize,
+    count: usize,
+) -> usize
+    requires some { 0 < count }
+    requires may { MayCopy count place seated.old placed.old }
+    requires low { place + count < 2 ^ 20 }
+    ensures copied { HasCopied result seated.old seated.new placed.old placed.new }
+    ensures within { (0 < result) × (result ≤ count) }
+{
+    if placed.lie_together(count) {
+        copy_together(seated, placed, place, count);
+        return count;
+    }
+    if placed.is_behind_own() {
+        copy_long(seated, placed, place, count);
+        return count;
+    }
+    let mut words = [0; HEADER_WORDS];
+    let run = HEADER_WORDS.min(count);
+    copy_run(seated, placed, place, &mut words[..run]);
+    run
+}
+
+// Copies so many words, run by run.
 #[inline(never)]
 fn copy_long<'p, 'a, D: Disk>(
     seated: &mut SeatedPass<'p, D>,
@@ -210,6 +324,72 @@ fn store_some<'p, D: Disk>(
 {
     for n in 0..count {
         seated.store_ring_word_at(table, place + n, words[done + n]);
+    }
+}
+
+// Stores so many words, which are made of these bytes, from this place on.
+#[inline(always)]
+fn store_bytes<'p, D: Disk>(
+    seated: &mut SeatedPass<'p, D>,
+    place: usize,
+    bytes: &[u8],
+    count: usize,
+)
+    requires run { MayStoreWords place (word_at bytes.now) count seated.old }
+    requires within { 8 * count ≤ length bytes.now + 7 }
+    requires low { place + count < 2 ^ 20 }
+    ensures { HasView (copied_view count (view_of seated.old)) seated.old seated.new }
+{
+    let table = seated.table;
+    let (chunks, tail) = bytes.as_chunks::<8>();
+    let whole = chunks.len().min(count);
+    store_chunks(seated, table, place, &chunks[..whole]);
+    if whole < count {
+        seated.store_ring_word_at(table, place + whole, last_word(bytes, tail));
+    }
+}
+
+// Stores the words of chunks of eight bytes from this place on, some in a row.
+#[inline(always)]
+fn store_chunks<'p, D: Disk>(
+    seated: &mut SeatedPass<'p, D>,
+    table: &LogTable<D>,
+    place: usize,
+    chunks: &[[u8; 8]],
+)
+    requires run { MayStoreWords place (chunk_word chunks.now) (length chunks.now) seated.old }
+    requires low { place + length chunks.now < 2 ^ 20 }
+    requires table { table.now ≡ seated.old.table.now }
+    ensures { HasView (copied_view (length chunks.now) (view_of seated.old)) seated.old seated.new }
+{
+    let count = chunks.len();
+    let mut done = 0;
+    while FEW <= count - done {
+        store_few(seated, table, place + done, chunks, done, FEW);
+        done += FEW;
+    }
+    store_few(seated, table, place + done, chunks, done, count - done);
+}
+
+// Stores the words of so many chunks, those behind the first `done`, from this place on.
+#[inline(always)]
+fn store_few<'p, D: Disk>(
+    seated: &mut SeatedPass<'p, D>,
+    table: &LogTable<D>,
+    place: usize,
+    chunks: &[[u8; 8]],
+    done: usize,
+    count: usize,
+)
+    requires within { done + count ≤ length chunks.now }
+    requires run { MayStoreWords place (λ n. chunk_word chunks.now (done + n)) count seated.old }
+    requires low { place + count < 2 ^ 20 }
+    requires table { table.now ≡ seated.old.table.now }
+    ensures { HasView (copied_view count (view_of seated.old)) seated.old seated.new }
+{
+    for n in 0..count {
+        let word = u64::from_le_bytes(chunks[done + n]);
+        seated.store_ring_word_at(table, place + n, word);
     }
 }
 

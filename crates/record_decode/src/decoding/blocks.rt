@@ -10,7 +10,6 @@ use super::unread::Unread;
 use crate::fault::{RecErr, RecKind};
 use crate::head::{BlockHead, ForkFlags, ImageFlags, ImageHead};
 use record_spelling::layout::*;
-use std::alloc::Global;
 use wal_types::Rel;
 
 fn fork_flags(byte: u8) -> ForkFlags
@@ -205,19 +204,19 @@ fn block_item<'a>(
     ))
 }
 
-/// The headers of blocks that stand here.
+/// The headers of blocks that stand here, put into `heads`.
 #[tactic(auto, unfolding(crate::specs::Reading::block_items))]
 pub(super) fn block_items<'a>(
-    alloc: Global,
+    heads: &mut Vec<BlockHead>,
     start: Unread<'a>,
-) -> Result<(Vec<BlockHead>, Unread<'a>), RecErr>
+) -> Result<Unread<'a>, RecErr>
     requires { start.owed ≡ 0 }
-    ensures exact { GivesAs (λ x. record { value = x.0.items; next = cursor_of x.1 }) result
+    ensures exact { GivesAs (λ x. record { value = heads.new.items; next = cursor_of x }) result
         (block_items (length start.entry.bytes.now) None [] (cursor_of start.entry)) }
-    ensures promised { IfOk result (λ x. x.1.owed ≡ sum_by payload_len x.0.items) }
-    ensures owed_fits { IfOk result (λ x. x.1.owed < 2 ^ 23) }
+    ensures promised { IfOk result (λ x. x.owed ≡ sum_by payload_len heads.new.items) }
+    ensures owed_fits { IfOk result (λ x. x.owed < 2 ^ 23) }
 {
-    let mut heads = Vec::new(alloc);
+    heads.clear();
     let mut before = None;
     let mut unread = start;
     while unread.is_at_block() {
@@ -226,5 +225,5 @@ pub(super) fn block_items<'a>(
         before = Some(head);
         unread = behind;
     }
-    Ok((heads, unread))
+    Ok(unread)
 }

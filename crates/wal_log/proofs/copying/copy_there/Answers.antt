@@ -1,4 +1,4 @@
-use Rattle.std.proofs.Common.{◌≡◌, ℕ, List, ◌+◌, ◌*◌, ◌≤◌, refl, sym, ap, ◌∙◌, arith}
+use Rattle.std.proofs.Common.{◌≡◌, ℕ, List, refl, sym, ap, ◌∙◌, arith}
 use Rattle.wal_page.specs.Placed.{PlacedState, placed_end}
 use Rattle.wal_rule.specs.SeatedPasses.{setup_of, view_of}
 use Rattle.word_ring.proofs.CopyLaws.{words-left}

@@ -8,9 +8,3 @@ await_page-requires-clause-low g c =
     let low = alone_low c.args.seated.now (locks_of c.args.held) c.args.placed.now
     c.requires.copies in
     omega (arith, low, c.next_lsn-page.ensures)
-
-pub await_page-requires-in-Err-Turn-clause-low : goal.await_page-requires-in-Err-Turn-clause-low
-await_page-requires-in-Err-Turn-clause-low g c =
-    let low = alone_low c.args.seated.now (locks_of c.args.held) c.args.placed.now
-    c.requires.copies in
-    omega (arith, low, c.next_lsn-page.ensures)

@@ -88,21 +88,21 @@ module _ (g : Over) (c : After-map_ahead g)
       (further_maps c.write_ahead.new.seated c.map_ahead.new.seated c.map_ahead.ensures.stays
       c.map_ahead.ensures.maps)
 
-pub returns-clause-ends : goal.returns-clause-ends
-returns-clause-ends g c =
-    let path = goal.at.returns-clause-ends g c in
+pub returns-then-branch-clause-ends : goal.returns-then-branch-clause-ends
+returns-then-branch-clause-ends g c =
+    let path = goal.at.returns-then-branch-clause-ends g c in
     (mapped g path.After-map_ahead (written g path.After-write_ahead
     (looked g path.After-was_mapped) c.in_ok-write_ahead.ensures.ends)).up
 
-pub returns-clause-log : goal.returns-clause-log
-returns-clause-log g c =
-    let path = goal.at.returns-clause-log g c in
+pub returns-then-branch-clause-log : goal.returns-then-branch-clause-log
+returns-then-branch-clause-log g c =
+    let path = goal.at.returns-then-branch-clause-log g c in
     ((mapped g path.After-map_ahead (written g path.After-write_ahead
     (looked g path.After-was_mapped) c.in_ok-write_ahead.ensures.ends)).adds).log
 
-pub returns-clause-rests : goal.returns-clause-rests
-returns-clause-rests g c =
-    let path = goal.at.returns-clause-rests g c in
+pub returns-then-branch-clause-rests : goal.returns-then-branch-clause-rests
+returns-then-branch-clause-rests g c =
+    let path = goal.at.returns-then-branch-clause-rests g c in
     let made = mapped g path.After-map_ahead (written g path.After-write_ahead
     (looked g path.After-was_mapped) c.in_ok-write_ahead.ensures.ends) in
     comes_to_rest c.args.seated.now c.map_ahead.new.seated c.requires.rests made.adds made.rests

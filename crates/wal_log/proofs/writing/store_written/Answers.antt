@@ -54,3 +54,6 @@ returns-clause-view g c =
     has_view (c.store_written.ensures.steps.same_table ∙ same.same_table)
     (stored g at is ∙ ap (λ (x : View). stored_view x) (view_is same))
     (hand_is c.store_written.ensures.steps ∙ hand_is same)
+
+pub returns-clause-written : goal.returns-clause-written
+returns-clause-written g c = c.writer_now-written.ensures.read.written

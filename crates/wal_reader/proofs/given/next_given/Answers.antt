@@ -61,3 +61,11 @@ returns-clause-last_page g c =
       | in-Some w ↦ rw w.in-Some.is (λ last. c.read_given.ensures.last_page (rw (w.buffers-is, w.at-is) last) ∙ w.disk-is)
       | in-None+in_ok-at-in-None w ↦ rw w.in-None.is tt
     ]
+
+pub read_given-requires-clause-ready : goal.read_given-requires-clause-ready
+read_given-requires-clause-ready g c =
+    elim c.match-from.branch [
+      | in-Some w ↦ (let ready = rw w.in-Some.is at c.requires.ready in
+          rw (w.buffers-is, w.at-is, w.ready-is) ready)
+      | in-None+in_ok-at-in-None w ↦ rw w.ready-is tt
+    ]

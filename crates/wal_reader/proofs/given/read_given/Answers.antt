@@ -110,6 +110,7 @@ records-preserved g c = record {
   reads_on = reads_more c.records.invariant.reads_on c.in_ok-found.ensures.reads_on;
   faults = c.in_ok-found.ensures.cause ∙ c.records.invariant.faults;
   reachable = c.in_ok-found.ensures.answered.further.1;
+  ready = c.in_ok-found.ensures.ready;
   further = (let further = c.in_ok-found.ensures.answered.further.0 in
       omega arith);
   unread = λ out. (let first = c.records.invariant.unread out in

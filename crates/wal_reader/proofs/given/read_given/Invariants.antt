@@ -6,6 +6,7 @@ use Rattle.wal_reader.specs.declared.found.FoundRecord.{FoundRecord}
 use Rattle.wal_reader.specs.declared.found.Answer.{Answer}
 use Rattle.wal_types.specs.declared.lsn.Lsn.{Lsn}
 use Rattle.wal_reader.specs.Pages.{Pages}
+use Rattle.wal_reader.specs.Ready.{IsReadyAt}
 use Rattle.wal_reader.specs.ReadsOn.{ReadsOn}
 use Rattle.wal_reader.specs.RecordRead.{IsRoomAfterStep}
 use Rattle.wal_reader.specs.RecordPlace.{IsOutOfReach, IsReachable}
@@ -17,6 +18,7 @@ invariant-records g l = record {
   reads_on : ReadsOn g.D.Disk.tape g.D.Disk.moment l.fn.disk l.disk l.fn.buffers.cache l.buffers.cache;
   faults : g.D.Disk.faults l.disk ≡ g.D.Disk.faults l.fn.disk;
   reachable : IsReachable l.at;
+  ready : IsReadyAt l.buffers.cache l.at l.ready;
   further : l.fn.from.position ≤ l.at.position;
   unread : IsOutOfReach l.fn.buffers.cache.geometry (option_map (λ (e : Lsn). e.0) l.fn.end) l.fn.from.position → (l.at ≡ l.fn.from) × (l.disk ≡ l.fn.disk);
   last_page : HoldsLastPage l.fn.buffers.cache.number (address_of l.fn.buffers.cache.geometry l.fn.from.position) → (l.disk ≡ l.fn.disk) × (l.buffers.cache ≡ l.fn.buffers.cache) × (address_of l.fn.buffers.cache.geometry l.fn.from.position ≤ address_of l.fn.buffers.cache.geometry l.at.position);

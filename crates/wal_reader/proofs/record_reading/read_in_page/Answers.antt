@@ -61,6 +61,13 @@ returns-clause-answered c =
       spelled = of_found c.in_ok-found.field-0 (λ (read : FoundRecord × RecordPlace). IsSpelled read.0) read c.in_ok-read.was c.in_ok-found.ensures.spelled;
     }
 
+pub returns-clause-timeline : goal.returns-clause-timeline
+returns-clause-timeline c =
+    let size = c.args.cache.now.geometry in
+    let extent = c.args.opened.extent in
+    let behind = of_found c.in_ok-found.field-0 (λ (read : FoundRecord × RecordPlace). read.1 ≡ behind_read size extent.at read.0 extent.total c.args.opened.cursor.timeline) c.in_ok-read.read c.in_ok-read.was c.in_ok-found.ensures.behind in
+    ap (λ (next : RecordPlace). next.timeline) behind
+
 pub returns-clause-reads : goal.returns-clause-reads
 returns-clause-reads c = λ pages here.
     let before = (goal.at.returns-clause-reads c).After-part_of_page-bytes in

@@ -70,6 +70,20 @@ passes : (g : _) (c : After-check_held g) (pages : Pages) → Sees (g.D.Disk.tap
 unfolding checks_of
 passes g c pages sees told last = rw (← c.in_ok-load.ensures.reads_on.geometry) (opening_passes c.load.new.self.geometry c.args.at _ _ (there g c pages sees) (marked g c) told last)
 
+opens_here : (g : _) (c : After-check_held g) → checks_of g c None → (opens_page c.load.new.self.geometry c.args.at.position && is_continued c.load.new.self.bytes.value) ≡ false → opening_fault c.args.cache.now.geometry c.args.at (Some c.load.new.self.bytes.value) ≡ None
+unfolding checks_of
+opens_here g c told last = subst (λ (size : ℕ). opening_fault size c.args.at (Some c.load.new.self.bytes.value) ≡ None) c.in_ok-load.ensures.reads_on.geometry (opening_passes c.load.new.self.geometry c.args.at (Some c.load.new.self.bytes.value) c.load.new.self.bytes.value refl (marked g c) told last)
+
+pub returns-clause-opens : goal.returns-clause-opens
+returns-clause-opens g c =
+    let before = (goal.at.returns-clause-opens g c).After-check_held in
+    let last : (opens_page c.load.new.self.geometry c.args.at.position && is_continued c.load.new.self.bytes.value) ≡ false =
+    elim c.else-opens-2.branch [
+      | else-opens-2-via-then-opens-2+else-is_continued w ↦ and_right _ _ (sym c.in_ok-info.ensures.continued ∙ sym w.is_continued.ensures ∙ w.if-is_continued.false)
+      | else-opens-2-via-else-opens-2 w ↦ rw (opens g before, ne_eqb _ _ w.if-opens-2.false) refl
+    ] in
+    opens_here g before (checks_at g before None c.in_ok-info.ensures.checks) last
+
 pub returns-clause-checks : goal.returns-clause-checks
 returns-clause-checks g c = λ pages sees.
     let before = (goal.at.returns-clause-checks g c).After-check_held in

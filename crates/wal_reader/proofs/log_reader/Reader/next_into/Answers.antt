@@ -17,6 +17,9 @@ use Rattle.wal_reader.specs.declared.found.FoundRecord.{FoundRecord}
 use Rattle.wal_reader.specs.declared.record_place.RecordPlace.{RecordPlace}
 use Rattle.wal_reader.specs.declared.read_failure.ReadFailure.{ReadFailure}
 use Rattle.wal_reader.specs.declared.read_failure.ReadFailure.TheVariants as failures
+use Rattle.wal_reader.specs.declared.standing.Standing.{Standing}
+use Rattle.wal_reader.specs.Ready.{IsReadyIn}
+use Rattle.wal_reader.proofs.ReadyLaws.{ready_in}
 use Rattle.wal_reader.proofs.LogReaderLaws.{standing_from, Gives-comes, IsNext-told, Leaves-told, OnEnd-told, SpelledIn-told, StandsAfter-told}
 use Rattle.wal_reader.proofs.log_reader.Reader.next_into.Given.{Over}
 use Rattle.wal_reader.proofs.log_reader.Reader.next_into.Goals as goal
@@ -56,6 +59,15 @@ stands g c =
     elim c.match-self.branch [
       | in-NotBegun w ↦ w.in-NotBegun.is ∙ ap standing_from (sym w.from-is)
       | in-At w ↦ w.in-At.is ∙ ap standing_from (sym w.from-is)
+    ]
+
+pub next_given-requires-clause-ready : goal.next_given-requires-clause-ready
+next_given-requires-clause-ready g c =
+    let self = c.args.self.now in
+    elim c.match-self.branch [
+      | in-NotBegun w ↦ rw w.from-is tt
+      | in-At w ↦ (let here = subst (λ (standing : Standing). IsReadyIn standing self.buffers self.ready) w.in-At.is self.at_next in
+          rw w.from-is (ready_in w.in-At.at self.buffers c.in-Some.buffers c.set_up.new.buffers self.ready here c.set_up.ensures.same c.in-Some.is))
     ]
 
 pub returns-in-Ok-clause-gives : goal.returns-in-Ok-clause-gives

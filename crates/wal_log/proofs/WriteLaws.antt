@@ -1,0 +1,90 @@
+-- Pages are written one behind another, and behind each it is stored how far the log is written.
+use Rattle.std.proofs.Common.{◌≡◌, ℕ, ◌+◌, ◌*◌, ◌/◌, ◌<◌, ◌≤◌, sym, ap, ◌∙◌, arith}
+use Rattle.std.specs.Prelude.{Option}
+use Rattle.segment_disk.specs.Tape.{Tape}
+use Rattle.wal_core.specs.Views.{View}
+use Rattle.wal_rule.specs.declared.seated.SeatedPass.{SeatedPass}
+use Rattle.wal_rule.specs.SeatedPasses.{HasView, view_of}
+use Rattle.page_writing.specs.InHand.{ChangesHand, IsReady, known_copied, lent_in, writer_in}
+use Rattle.page_writing.specs.Written.{IsPageWritten}
+use Rattle.page_writing.proofs.HandLaws.{known_kept}
+use Rattle.wal_log.specs.Downs.{KnowsNoFault}
+use Rattle.wal_log.specs.Hands.{HasAllStored}
+use Rattle.wal_log.specs.Standing.{AddsNothing}
+use Rattle.wal_log.specs.Writing.{stored_view}
+use Rattle.wal_log.proofs.AddingNothing.{adds_on, hand_changed, held_else}
+use Rattle.wal_log.proofs.Keeping.{changes_up, still_up}
+use Rattle.wal_log.proofs.Seated.{view_is}
+
+-- all pages below one are written up to what is known, and stored as written
+pub record HasWrittenTo {D : Type 0} (tape : D → Option Tape) (moment faults : D → ℕ)
+    (known page : ℕ) (old now : SeatedPass D) : Type 0 where
+  pub all : HasAllStored tape moment faults now
+  pub adds : AddsNothing old now
+  pub copied : known ≡ known_copied (view_of now)
+  pub begun : page * 8192 < known
+      → ((writer_in (view_of now)).written / 8192 ≡ page) × ((writer_in (view_of now)).written < known)
+  pub full : known ≤ page * 8192 → known ≤ (writer_in (view_of now)).written
+
+module _ {D : Type 0} (tape : D → Option Tape) (moment faults : D → ℕ) where
+  -- behind a store
+  module _ (old new : SeatedPass D) (ready : IsReady tape moment faults new)
+      (view : HasView (stored_view (view_of old)) old new) where
+    pub stored_up : KnowsNoFault (view_of old) → KnowsNoFault (view_of new)
+    stored_up up = still_up (view_of old) _ (view_of new) (view_is view) up
+
+    pub all_stored : KnowsNoFault (view_of old) → HasAllStored tape moment faults new
+    all_stored up = record {
+      ready = ready;
+      stored = ap (λ (v : View). (lent_in v.writing.hold).stored) (view_is view)
+          ∙ sym (ap (λ (v : View). (writer_in v).written) (view_is view));
+      up = stored_up up;
+    }
+
+    pub store_adds : AddsNothing old new
+    store_adds = held_else old new _ view.same_table (view_is view)
+
+    pub store_keeps : (writer_in (view_of new)).written ≡ (writer_in (view_of old)).written
+    store_keeps = ap (λ (v : View). (writer_in v).written) (view_is view)
+
+    pub store_knows : known_copied (view_of new) ≡ known_copied (view_of old)
+    store_knows = ap (λ (v : View). known_copied v) (view_is view)
+
+  -- before the first page
+  pub written_first : (known page : ℕ) (old new : SeatedPass D) → IsReady tape moment faults new
+      → HasView (stored_view (view_of old)) old new → KnowsNoFault (view_of old)
+      → known ≡ known_copied (view_of old) → page ≡ (writer_in (view_of old)).written / 8192
+      → (writer_in (view_of old)).written < known
+      → HasWrittenTo tape moment faults known page old new
+  written_first known page old new ready view up copied is left =
+      let same = store_keeps old new ready view in
+      record {
+        all = all_stored old new ready view up;
+        adds = store_adds old new ready view;
+        copied = copied ∙ sym (store_knows old new ready view);
+        begun = λ some. (omega (arith, same, is), omega (arith, same, left));
+        full = λ over. absurd (omega (arith, over, is, left));
+      }
+
+  -- one page more
+  pub written_next : (size known page : ℕ) (old now put new : SeatedPass D)
+      → HasWrittenTo tape moment faults known page old now → page * 8192 < known
+      → ChangesHand now put
+      → IsPageWritten size known (writer_in (view_of now)) (writer_in (view_of put))
+      → IsReady tape moment faults new → HasView (stored_view (view_of put)) put new
+      → HasWrittenTo tape moment faults known (page + 1) old new
+  written_next size known page old now put new before some changes wrote ready view =
+      let same = store_keeps put new ready view in
+      let here = (before.begun some).0 in
+      let written = wrote.written in
+      record {
+        all = all_stored put new ready view (changes_up now put changes before.all.up);
+        adds = adds_on old put new (adds_on old now put before.adds (hand_changed now put changes))
+            (store_adds put new ready view);
+        copied = before.copied ∙ sym (store_knows put new ready view ∙ known_kept now put changes);
+        begun = λ more. (
+          omega (arith, same, here, written, more),
+          omega (arith, same, here, written, more),
+        );
+        full = λ over. omega (arith, same, here, written, over, some);
+      }

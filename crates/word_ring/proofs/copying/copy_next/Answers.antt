@@ -1,0 +1,13 @@
+use Rattle.std.proofs.Common.{◌≡◌, length, take, sym, arith}
+use Rattle.std.proofs.lemmas.List.{length-take}
+use Rattle.word_ring.specs.CopyRuns.{MayCopy}
+use Rattle.word_ring.proofs.CopyLaws.{copied_as, fewer_may}
+use Rattle.word_ring.proofs.copying.copy_next.Goals as goal
+
+pub lie_together-requires : goal.lie_together-requires
+lie_together-requires g c =
+    let on = c.requires.may.on_page in
+    record { on_page = omega (arith, on) }
+
+pub copy_together-requires-clause-together : goal.copy_together-requires-clause-together
+copy_together-requires-clause-together g c = c.lie_together.ensures c.if-lie_together.true
