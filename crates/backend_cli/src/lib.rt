@@ -24,5 +24,5 @@ pub use laws::{
 pub use outcome::Outcome;
 pub use program::{Ended, pgwal};
 pub use told::ToldLists;
-pub use told_lines::Told;
+pub use told_lines::{KeptTold, Told};
 pub use wal_types::Cause;

@@ -8,7 +8,7 @@ ghost use Rattle.backend_cli.specs.Printing.{HasAnswers, found_line, told_lines,
 
 use backend_lanes::AnsweredLines;
 use segment_disk::Sink;
-use told_lines::Told;
+use told_lines::{KeptTold, Told};
 use wal_log::Found;
 use wal_script::Line;
 use wal_types::{Cause, Lsn};
@@ -19,8 +19,16 @@ pub(crate) fn put_told<O: Sink>(
     out: &mut O,
     backend: u32,
     line: u32,
-    told: &Told,
+    told: &KeptTold,
 ) -> Result<(), SinkFault>
+    ensures { Puts (O.taken out.old) (O.taken out.new) (O.faults out.old) (O.faults out.new)
+        (told_line backend line told.now) result }
+{
+    put_answer(out, backend, line, &told.told())
+}
+
+// The same of what was told.
+fn put_answer<O: Sink>(out: &mut O, backend: u32, line: u32, told: &Told) -> Result<(), SinkFault>
     ensures { Puts (O.taken out.old) (O.taken out.new) (O.faults out.old) (O.faults out.new)
         (told_line backend line told.now) result }
 {
@@ -216,7 +224,7 @@ pub(crate) fn put_told_lines<O: Sink>(
     out: &mut O,
     backend: u32,
     lines: &[Line],
-    told: &[Told],
+    told: &[KeptTold],
 ) -> Result<(), SinkFault>
     requires { length lines.now ≡ length told.now }
     ensures { Puts (O.taken out.old) (O.taken out.new) (O.faults out.old) (O.faults out.new)

@@ -35,7 +35,7 @@ use segment_disk::{Disk, Sink, Source};
 use std::alloc::{AllocError, Global};
 use std::sync::Wait;
 use std::thread::Threads;
-use told_lines::Told;
+use told_lines::KeptTold;
 use wal_log::{Closed, OpenFault, OpenFaultKind, Pass, Wal};
 use wal_script::{Line, parse_run};
 use wal_types::Lsn;
@@ -83,7 +83,7 @@ pub(crate) fn prepare<'a, S: Source>(
 }
 
 // How many lines reserved a record.
-fn records_in(told: &[Told]) -> u64
+fn records_in(told: &[KeptTold]) -> u64
     ensures { result ≡ reserved_count told.now }
 {
     let mut count = 0;
@@ -96,7 +96,7 @@ fn records_in(told: &[Told]) -> u64
 }
 
 // How many lines were told that their commit is durable.
-fn commits_in(told: &[Told]) -> u64
+fn commits_in(told: &[KeptTold]) -> u64
     ensures { result ≡ commits_of told.now }
 {
     let mut count = 0;

@@ -4,12 +4,12 @@ ghost use Rattle.backend_lanes.specs.Backends.{lists_of};
 use backend_lanes::AnsweredLines;
 use std::alloc::Global;
 use std::marker::Model;
-use told_lines::Told;
+use told_lines::KeptTold;
 
 /// What each backend's lines were told, in order, seen by contracts as a list of lists.
 #[derive(Debug, Drop)]
 pub struct ToldLists {
-    lists: Vec<Vec<Told>>,
+    lists: Vec<Vec<KeptTold>>,
 }
 
 impl Model for ToldLists {
@@ -34,7 +34,7 @@ impl ToldLists {
     }
 
     // What the lines of these backends were told, in the room there is.
-    pub(crate) fn of_backends(room: Vec<Vec<Told>>, backends: Vec<AnsweredLines>) -> ToldLists
+    pub(crate) fn of_backends(room: Vec<Vec<KeptTold>>, backends: Vec<AnsweredLines>) -> ToldLists
         requires none { room.items ≡ [] }
         requires room { vec_len backends ≤ vec_capacity room }
         requires few { length backends.items < 2 ^ 32 }
@@ -61,7 +61,7 @@ impl ToldLists {
     }
 
     /// What a backend's lines were told.
-    pub fn of(&self, backend: u32) -> &[Told]
+    pub fn of(&self, backend: u32) -> &[KeptTold]
         requires { backend < length self.now }
         ensures { result.now ≡ slice_index_or self.now backend [] }
     {

@@ -3,14 +3,14 @@ ghost use Rattle.std.specs.Prelude.{◌≡◌, IfOk};
 ghost use Rattle.backend_lanes.specs.Backends.{HasRoom};
 
 use std::alloc::{AllocError, Global};
-use told_lines::Told;
+use told_lines::KeptTold;
 use wal_script::Line;
 
 /// A backend: its lines, and what they were told, in order.
 #[derive(Debug, Drop)]
 pub struct AnsweredLines<'a> {
     pub lines: Vec<Line<'a>>,
-    pub told: Vec<Told>,
+    pub told: Vec<KeptTold>,
 }
 
 impl<'a> AnsweredLines<'a> {

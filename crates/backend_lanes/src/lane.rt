@@ -19,7 +19,7 @@ use crate::session::Session;
 use run_laws::laws::lines_are_played_one_by_one;
 use segment_disk::Disk;
 use std::sync::Wait;
-use told_lines::Told;
+use told_lines::KeptTold;
 use wal_log::Wal;
 use wal_script::Line;
 
@@ -59,7 +59,7 @@ fn play_lines<R: Wait, D: Disk, G: Gate>(
     gate: &G,
     session: &mut Session,
     lines: &[Line],
-    told: &mut Vec<Told>,
+    told: &mut Vec<KeptTold>,
 )
     // The session's pass is the log's and about nothing; it has no entry and no promise, and no
     // line was told anything.
@@ -86,6 +86,6 @@ fn play_lines<R: Wait, D: Disk, G: Gate>(
     for line in lines {
         gate.pass(backend, line.number);
         let answer = session.answer(rt, log, &line.action);
-        told.push_reserved(answer);
+        told.push_reserved(KeptTold::of(answer));
     }
 }

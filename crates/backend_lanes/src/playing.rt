@@ -20,7 +20,7 @@ use segment_disk::Disk;
 use std::alloc::{AllocError, Global};
 use std::sync::Wait;
 use std::thread::Threads;
-use told_lines::Told;
+use told_lines::KeptTold;
 use wal_log::numbers::calls_keep_numbers;
 use wal_log::shared_numbers::passes_share_numbers;
 use wal_log::{Closed, Pass, Wal};
@@ -35,7 +35,7 @@ pub struct Room<'a> {
     lanes: Vec<Lane<'a>>,
     played: Vec<AnsweredLines<'a>>,
     /// For who keeps what lines were told without the lines.
-    told: Vec<Vec<Told>>,
+    told: Vec<Vec<KeptTold>>,
 }
 
 impl<'a> Room<'a> {
@@ -65,7 +65,7 @@ pub struct PlayedRun<'a, D> {
     pub closed: Closed<D>,
     pub backends: Vec<AnsweredLines<'a>>,
     /// Room for what each backend's lines were told.
-    pub told: Vec<Vec<Told>>,
+    pub told: Vec<Vec<KeptTold>>,
 }
 
 /// Plays the lines of all backends side by side, by passes that are split off the first one and

@@ -45,12 +45,12 @@ impl Session {
         ensures leaves { LeavesSession log.now result self.old self.new }
     {
         match action {
-            Action::Insert(body) => self.insert(rt, log, body),
-            Action::Commit(body) => self.commit(rt, log, body),
+            Action::Insert(body) => self.insert(rt, log, body.as_body()),
+            Action::Commit(body) => self.commit(rt, log, body.as_body()),
             Action::Flush => self.flush(rt, log),
-            Action::CommitAsync(body) => self.commit_async(rt, log, body),
+            Action::CommitAsync(body) => self.commit_async(rt, log, body.as_body()),
             Action::WriteBehind => self.write_behind(rt, log),
-            Action::Switch(body) => self.switch(rt, log, body),
+            Action::Switch(body) => self.switch(rt, log, body.as_body()),
         }
     }
 

@@ -1,6 +1,6 @@
 //! What backends were told.
 
-use backend_cli::{Cause, Told, ToldLists};
+use backend_cli::{Cause, KeptTold, Told, ToldLists};
 use std::alloc::Global;
 use std::test::Fail;
 use wal_types::Lsn;
@@ -62,16 +62,16 @@ pub fn durable(told: &ToldLists, latest: u64) -> Which {
 }
 
 // The highest address that a backend's answers tell so.
-fn durable_of(told: &[Told], latest: u64) -> Lsn {
+fn durable_of(told: &[KeptTold], latest: u64) -> Lsn {
     let mut address = Lsn(0);
     for answer in told {
-        address = address.max(durable_by(answer, latest));
+        address = address.max(durable_by(&answer.told(), latest));
     }
     address
 }
 
 // Adds where the records of a backend start. An error if they do not rise.
-fn add_starts(starts: &mut Vec<Lsn>, told: &[Told], which: Which) -> Result<(), Fail> {
+fn add_starts(starts: &mut Vec<Lsn>, told: &[KeptTold], which: Which) -> Result<(), Fail> {
     let mut last = Lsn(0);
     for answer in told {
         if let Some(start) = answer.reserved() {
@@ -79,7 +79,7 @@ fn add_starts(starts: &mut Vec<Lsn>, told: &[Told], which: Which) -> Result<(), 
                 return Err(Fail::from("records in the order of the lines"));
             }
             last = start;
-            if is_one(answer, which) {
+            if is_one(&answer.told(), which) {
                 starts.push(start)?;
             }
         }
@@ -101,16 +101,16 @@ pub fn starts_told(alloc: Global, told: &ToldLists, which: Which) -> Result<Vec<
 pub const OWN_FAULT: Option<Cause> = Some(Cause::Disk { faults: 1 });
 
 /// Why a line was refused.
-pub fn cause_of(answer: &Told) -> Option<Cause> {
-    match answer {
-        Told::Refused { cause, .. } => Some(*cause),
+pub fn cause_of(answer: &KeptTold) -> Option<Cause> {
+    match answer.told() {
+        Told::Refused { cause, .. } => Some(cause),
         _ => None,
     }
 }
 
 // Whether all lines of a backend were refused for this cause behind the first that was refused;
 // that one may have been refused for a fault of its own.
-fn is_refused_for(told: &[Told], refused: Option<Cause>) -> bool {
+fn is_refused_for(told: &[KeptTold], refused: Option<Cause>) -> bool {
     let mut is_refused = false;
     for answer in told {
         let cause = cause_of(answer);

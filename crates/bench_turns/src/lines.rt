@@ -5,7 +5,7 @@ ghost use Rattle.record_spelling.specs.Spelling.{is_assembled_switch};
 ghost use Rattle.machine_core.specs.Lines.{InsertsNoSwitch};
 
 use machine_core::{PlainLine, Script};
-use record_spelling::{Body, BodyErr};
+use record_spelling::{Body, BodyErr, KeptBody};
 use std::alloc::Global;
 use wal_types::{BlockList, Bytes, Record, Xid};
 
@@ -44,7 +44,7 @@ fn line(alloc: Global, number: u32) -> Result<PlainLine, BodyErr>
     }
 }
 
-fn body(alloc: Global, rmid: u8, len: usize) -> Result<Body<'static>, BodyErr>
+fn body(alloc: Global, rmid: u8, len: usize) -> Result<KeptBody<'static>, BodyErr>
     ensures { IfOk result (λ body. is_assembled_switch body ≡ false) }
 {
     let record = Record {
@@ -56,5 +56,6 @@ fn body(alloc: Global, rmid: u8, len: usize) -> Result<Body<'static>, BodyErr>
         blocks: BlockList::of(Vec::new(alloc)),
         main: Bytes::of(vec![in alloc; 0x5a; len]?),
     };
-    Body::assemble(alloc, &record)
+    let body = Body::assemble(alloc, &record)?;
+    Ok(KeptBody::boxed(alloc, body)?)
 }

@@ -6,7 +6,7 @@ ghost use Rattle.record_spelling.specs.Spelling.{IsWritable};
 ghost use Rattle.wal_script.specs.Bodies.{IsActionOf, IsBodyOf};
 ghost use Rattle.wal_script.specs.Meaning.{commit_record};
 
-use record_spelling::{Body, BodyErr};
+use record_spelling::{Body, BodyErr, KeptBody};
 use std::alloc::{AllocError, Global};
 use wal_script::Action;
 use wal_types::{Block, BlockList, Bytes, Image, Record, Rel, TRANSACTION_MANAGER, Xid};
@@ -56,12 +56,12 @@ pub(crate) fn action(alloc: Global, backend: u32, index: u32) -> Result<Action<'
 }
 
 // A record that can be written, assembled: only memory may run out.
-fn assembled(alloc: Global, value: &Record) -> Result<Body<'static>, AllocError>
+fn assembled(alloc: Global, value: &Record) -> Result<KeptBody<'static>, AllocError>
     requires { IsWritable value.now }
     ensures { IfOk result (IsBodyOf value.now) }
 {
     match Body::assemble(alloc, value) {
-        Ok(body) => Ok(body),
+        Ok(body) => KeptBody::boxed(alloc, body),
         Err(error) => {
             prove!(matches!(error, BodyErr::Memory));
             Err(AllocError)

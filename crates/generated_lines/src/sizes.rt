@@ -9,7 +9,7 @@ fn sizes_of(alloc: Global, backends: &[Vec<Line>]) -> Result<Vec<u32>, AllocErro
     for lines in backends {
         for line in lines {
             if let Action::Insert(body) = &line.action {
-                sizes.push(body.len())?;
+                sizes.push(body.as_body().len())?;
             }
         }
     }

@@ -3,6 +3,7 @@ use Rattle.std.specs.Prelude.{ℕ, Bool, true, false, not, ◌&&◌, ◌||◌, �
 use Rattle.std.specs.List.{list_any}
 use Rattle.wal_types.specs.declared.lsn.Lsn.{Lsn}
 use Rattle.wal_types.specs.declared.record.Block.{Block}
+use Rattle.wal_types.specs.declared.record.Record.{Record}
 use Rattle.wal_types.specs.declared.record.Rel.{Rel}
 use Rattle.listing_filter.specs.declared.Filter.{Filter}
 use Rattle.listing_filter.specs.declared.listed.Listed.{Listed}
@@ -30,6 +31,19 @@ asks_for_block filter = is_some filter.rel || is_some filter.blk || is_some filt
 -- whether one of a record's blocks has an image
 abbrev pub has_page_image : List Block → Bool
 has_page_image blocks = list_any (λ b. is_some b.image) blocks
+
+-- whether a rule is given beside the start
+abbrev pub has_rules : Filter → Bool
+has_rules filter =
+    is_some filter.rmid || is_some filter.xid || filter.fullpage || asks_for_block filter
+
+-- whether what a record carries meets all rules beside the start
+abbrev pub meets_rules : Filter → Record → Bool
+meets_rules filter value =
+    is_none_or filter.rmid (λ rmid. value.rmid == rmid)
+    && is_none_or filter.xid (λ xid. value.xid.0 == xid.0)
+    && (not (asks_for_block filter) || list_any (meets_block filter) value.blocks)
+    && (not filter.fullpage || has_page_image value.blocks)
 
 -- whether a filter keeps a record: it starts at the filter's start or behind it, its manager and
 -- transaction are those that are asked for, one block of it meets the rules on blocks where one is

@@ -3,14 +3,14 @@
 
 ghost use Rattle.std.specs.Prelude.{◌≡◌, nat_le};
 ghost use Rattle.std.specs.List.{list_any};
-ghost use Rattle.listing_filter.specs.Keeping.{asks_for_block, everything_from, has_page_image, is_reached, is_relation, keeps, meets_block};
+ghost use Rattle.listing_filter.specs.Keeping.{asks_for_block, everything_from, has_page_image, has_rules, is_reached, is_relation, keeps, meets_block, meets_rules};
 
 mod listed;
 mod names;
 
 pub use listed::Listed;
 pub use names::{fork, fork_name, own_manager, own_manager_name};
-use wal_types::{Block, Lsn, Rel, Xid};
+use wal_types::{Block, Lsn, Record, Rel, Xid};
 
 /// What a listing keeps and how much of it it prints (`pg_waldump`'s options). A rule that is not
 /// given keeps every record. The rules on a relation, a block's number and a fork are met by one
@@ -66,16 +66,12 @@ impl Filter {
 
     /// Whether a record meets all rules but the end and the limit, which no record meets by itself
     /// (PostgreSQL's pg_waldump.c, XLogRecordMatchesRelationBlock and XLogRecordHasFPW).
+    #[inline(always)]
     #[tactic(auto, unfolding(crate::specs::Keeping::keeps))]
     pub fn keeps(&self, r: &Listed) -> bool
         ensures { result ≡ keeps self.now r.now }
     {
-        let blocks = r.value.blocks.as_slice();
-        self.start.0 <= r.start.0
-            && self.rmid.is_none_or(|rmid| r.value.rmid == rmid)
-            && self.xid.is_none_or(|xid| r.value.xid.0 == xid.0)
-            && (!self.asks_for_block() || self.is_met_by_one(blocks))
-            && (!self.fullpage || has_page_image(blocks))
+        self.start.0 <= r.start.0 && (!self.has_rules() || self.meets_rules(&r.value))
     }
 
     /// Whether so many listed records are as many as are to be listed.
@@ -83,6 +79,25 @@ impl Filter {
         ensures { result ≡ is_reached self.now.limit count }
     {
         self.limit.is_some_and(|limit| limit <= count)
+    }
+
+    // Whether a rule is given beside the start.
+    fn has_rules(&self) -> bool
+        ensures { result ≡ has_rules self.now }
+    {
+        self.rmid.is_some() || self.xid.is_some() || self.fullpage || self.asks_for_block()
+    }
+
+    // A call of its own, so that a listing without rules pays nothing for them.
+    #[inline(never)]
+    fn meets_rules(&self, value: &Record) -> bool
+        ensures { result ≡ meets_rules self.now value.now }
+    {
+        let blocks = value.blocks.as_slice();
+        self.rmid.is_none_or(|rmid| value.rmid == rmid)
+            && self.xid.is_none_or(|xid| value.xid.0 == xid.0)
+            && (!self.asks_for_block() || self.is_met_by_one(blocks))
+            && (!self.fullpage || has_page_image(blocks))
     }
 
     fn asks_for_block(&self) -> bool

@@ -8,7 +8,7 @@ ghost use Rattle.machine_core.specs.Lines.{InsertsNoSwitch};
 use crate::played::Played;
 use byte_position::Geometry;
 use machine_core::{PlainLine, Script};
-use record_spelling::Body;
+use record_spelling::{Body, KeptBody};
 use segment_disk::Pick;
 use std::alloc::{AllocError, Global};
 use std::test::Fail;
@@ -48,6 +48,13 @@ impl Planned {
         Ok(Body::assemble(alloc, &record)?)
     }
 
+    fn kept_body(self, alloc: Global) -> Result<KeptBody<'static>, Fail>
+        ensures { IfOk result (λ body. is_assembled_switch body ≡ false) }
+    {
+        let body = self.body(alloc)?;
+        Ok(KeptBody::boxed(alloc, body)?)
+    }
+
     /// Whether it asks that the backend's records be durable.
     pub fn flushes(self) -> bool {
         matches!(self.ask, Ask::Commit | Ask::Flush)
@@ -57,8 +64,8 @@ impl Planned {
         ensures { IfOk result InsertsNoSwitch }
     {
         match self.ask {
-            Ask::Insert => Ok(PlainLine::Insert(self.body(alloc)?)),
-            Ask::Commit => Ok(PlainLine::Commit(self.body(alloc)?)),
+            Ask::Insert => Ok(PlainLine::Insert(self.kept_body(alloc)?)),
+            Ask::Commit => Ok(PlainLine::Commit(self.kept_body(alloc)?)),
             Ask::Flush => Ok(PlainLine::Flush),
         }
     }

@@ -5,16 +5,16 @@ ghost use Rattle.std.specs.Prelude.{◌≡◌, ◌≤◌, option_map};
 ghost use Rattle.machine_turns.specs.Lanes.{is_commit};
 ghost use Rattle.machine_turns.specs.Scripts.{InsertsLogRecord, body_of, room_of_line};
 
-use record_spelling::Body;
+use record_spelling::{Body, KeptBody};
 use std::marker::Model;
 
 /// What a line asks for, with its record assembled.
 #[derive(Debug, Drop)]
 pub enum PlainLine {
     /// Insert this record.
-    Insert(Body<'static>),
+    Insert(KeptBody<'static>),
     /// Insert this commit's record, then flush to its end.
-    Commit(Body<'static>),
+    Commit(KeptBody<'static>),
     /// Flush to the end of the backend's last record, or to the log's start where it has none.
     Flush,
 }
@@ -25,7 +25,7 @@ impl PlainLine {
         ensures { option_map (λ body. body.now) result ≡ body_of self.now }
     {
         match self {
-            PlainLine::Insert(body) | PlainLine::Commit(body) => Some(body),
+            PlainLine::Insert(body) | PlainLine::Commit(body) => Some(body.as_body()),
             PlainLine::Flush => None,
         }
     }
@@ -45,7 +45,7 @@ impl PlainLine {
         ensures known { InsertsLogRecord self.now }
     {
         match self {
-            PlainLine::Insert(body) | PlainLine::Commit(body) => u64::from(body.room()),
+            PlainLine::Insert(body) | PlainLine::Commit(body) => u64::from(body.as_body().room()),
             PlainLine::Flush => 0,
         }
     }

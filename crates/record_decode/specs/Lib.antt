@@ -1,4 +1,5 @@
 pub mod Reading
+pub mod Filled
 pub mod Unread
 pub mod Headers
 pub mod Items

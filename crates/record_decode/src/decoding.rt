@@ -15,18 +15,19 @@ ghost use Rattle.record_decode.specs.Headers.{headers_said};
 ghost use Rattle.record_decode.specs.Reading.{GivesReading, GivesAs, headers_of, items_of, payload_len, reading_of, record_of, start_of_headers};
 ghost use Rattle.record_decode.specs.Fails.{FailsAt, TellsFirstFault};
 ghost use Rattle.record_decode.specs.Spells.{Spells};
+ghost use Rattle.record_decode.specs.Filled.{held_after};
 
 use crate::fault::{RecErr, RecKind};
 use crate::head::BlockHead;
 use blocks::block_items;
 use cursor::malformed;
 use items::{main_item, optional_u16, optional_u32};
-use payload::blocks_of;
+use payload::put_blocks;
 use record_spelling::is_free_manager;
 use record_spelling::layout::*;
 use std::alloc::Global;
 use unread::Unread;
-use wal_types::{BlockList, Bytes, Record, Xid};
+use wal_types::{Record, Xid};
 
 /// What a record's headers say that are no blocks', and the payload behind them all.
 #[derive(Clone, Copy)]
@@ -71,54 +72,51 @@ fn u32_at(bytes: &[u8], at: usize) -> u32
     u32::from_le_bytes([bytes[at], bytes[at + 1], bytes[at + 2], bytes[at + 3]])
 }
 
-fn record_of(
+fn put_record(
     alloc: Global,
-    mut spare: Vec<u8>,
+    record: &mut Record,
     bytes: &[u8],
     heads: &[BlockHead],
     headers: Headers,
-) -> Result<Record, RecErr>
+) -> Result<(), RecErr>
     requires header { 24 ≤ length bytes.now }
     requires promised { sum_by payload_len heads.now ≤ length headers.payload.now }
-    ensures { GivesReading result (Ok (record_of bytes.now (headers_said heads.now headers.entry))) }
+    ensures { GivesReading (held_after «record».new result)
+        (Ok (record_of bytes.now (headers_said heads.now headers.entry))) }
 {
-    let (blocks, main) = blocks_of(alloc, heads, headers.payload)?;
-    spare.clear();
-    spare.extend_from_slice(main)?;
-    Ok(Record {
-        xid: Xid(u32_at(bytes, XID_AT)),
-        rmid: bytes[RMID_AT],
-        info: bytes[INFO_AT],
-        origin: headers.origin,
-        top_xid: headers.top_xid.map(Xid),
-        blocks: BlockList::of(blocks),
-        main: Bytes::of(spare),
-    })
+    let main = put_blocks(alloc, &mut record.blocks, heads, headers.payload)?;
+    record.main.put(main)?;
+    record.xid = Xid(u32_at(bytes, XID_AT));
+    record.rmid = bytes[RMID_AT];
+    record.info = bytes[INFO_AT];
+    record.origin = headers.origin;
+    record.top_xid = headers.top_xid.map(Xid);
+    Ok(())
 }
 
 #[tactic(auto, unfolding(crate::specs::Reading::items_of))]
 fn read_items(
     alloc: Global,
     heads: &mut Vec<BlockHead>,
-    spare: Vec<u8>,
+    record: &mut Record,
     bytes: &[u8],
-) -> Result<Record, RecErr>
+) -> Result<(), RecErr>
     requires { 24 ≤ length bytes.now }
-    ensures { GivesReading result (items_of bytes.now) }
+    ensures { GivesReading (held_after «record».new result) (items_of bytes.now) }
 {
     let (_, behind_header) = bytes.split_at(HEADER_LEN);
     let headers = read_headers(heads, behind_header)?;
-    record_of(alloc, spare, bytes, heads, headers)
+    put_record(alloc, record, bytes, heads, headers)
 }
 
 #[tactic(auto, unfolding(crate::specs::Reading::reading_of))]
 fn reading(
     alloc: Global,
     heads: &mut Vec<BlockHead>,
-    spare: Vec<u8>,
+    record: &mut Record,
     bytes: &[u8],
-) -> Result<Record, RecErr>
-    ensures { GivesReading result (reading_of bytes.now) }
+) -> Result<(), RecErr>
+    ensures { GivesReading (held_after «record».new result) (reading_of bytes.now) }
 {
     if bytes.len() < HEADER_LEN || u32_at(bytes, LEN_AT) as usize != bytes.len() {
         return Err(malformed(0, RecKind::Length));
@@ -126,7 +124,7 @@ fn reading(
     if is_free_manager(bytes[RMID_AT]) {
         return Err(malformed(RMID_AT as u64, RecKind::Rmgr));
     }
-    read_items(alloc, heads, spare, bytes)
+    read_items(alloc, heads, record, bytes)
 }
 
 /// Reads a record's bytes, all of them: the headers of its items from left to right, as long as
@@ -144,23 +142,28 @@ pub fn decode(alloc: Global, bytes: &[u8]) -> Result<Record, RecErr>
     // All of it as one reading from left to right.
     ensures as_reading { GivesReading result (reading_of bytes.now) }
 {
-    decode_into(alloc, &mut Vec::new(alloc), Vec::new(alloc), bytes)
+    let mut record = Record::blank(alloc);
+    decode_into(alloc, &mut Vec::new(alloc), &mut record, bytes)?;
+    Ok(record)
 }
 
-/// `decode`, with the main data put into a vector that the caller has, and the heads of blocks into
-/// another, whatever both held: so those whose room is large enough spare taking memory.
+/// `decode`, with the record put into one that the caller has, and the heads of blocks into a
+/// vector, whatever both held: where their room is large enough no memory is taken for main data
+/// and for lists. Behind an error the record means nothing.
 pub fn decode_into(
     alloc: Global,
     heads: &mut Vec<BlockHead>,
-    spare: Vec<u8>,
+    record: &mut Record,
     bytes: &[u8],
-) -> Result<Record, RecErr>
-    // As of `decode`, whatever the vectors held.
-    ensures spelled { IfOk result (λ r. Spells bytes.now r) }
-    ensures reads { (r : Record) → Spells bytes.now r → GivesReading result (Ok r) }
+) -> Result<(), RecErr>
+    // As of `decode`, whatever the record and the vector held.
+    ensures spelled { IfOk (held_after «record».new result) (λ r. Spells bytes.now r) }
+    ensures reads { (r : Record) → Spells bytes.now r
+        → GivesReading (held_after «record».new result) (Ok r) }
     ensures fails { IfErr result (TellsFirstFault bytes.now) }
-    ensures refuses { (e : RecErr) → FailsAt bytes.now e → GivesReading result (Err e) }
-    ensures as_reading { GivesReading result (reading_of bytes.now) }
+    ensures refuses { (e : RecErr) → FailsAt bytes.now e
+        → GivesReading (held_after «record».new result) (Err e) }
+    ensures as_reading { GivesReading (held_after «record».new result) (reading_of bytes.now) }
 {
-    reading(alloc, heads, spare, bytes)
+    reading(alloc, heads, record, bytes)
 }

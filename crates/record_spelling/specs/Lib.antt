@@ -8,3 +8,4 @@ pub mod Refusal
 pub mod Fitting
 pub mod Header
 pub mod Plain
+pub mod Kept

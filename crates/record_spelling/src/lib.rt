@@ -5,6 +5,7 @@ mod assembly;
 mod blocks;
 mod body;
 mod fault;
+mod kept_body;
 pub mod laws;
 pub mod layout;
 mod manager;
@@ -15,6 +16,7 @@ mod segment_switch;
 
 pub use body::Body;
 pub use fault::BodyErr;
+pub use kept_body::KeptBody;
 pub use manager::is_free_manager;
 pub use plain::{FRONT, spell_plain_in};
 pub use putting::last_word;

@@ -39,3 +39,27 @@ fn sums_are_those_known(rt: HostRuntime) {
         assert_eq!(rt; sums, [*sum; 2], "{bytes:?}");
     }
 }
+
+// Bytes of which no two stretches are alike.
+fn varied() -> [u8; 2500] {
+    let mut bytes = [0; 2500];
+    let mut state = 1u32;
+    for byte in &mut bytes {
+        state = state.wrapping_mul(0x0019_660d).wrapping_add(0x3c6e_f35f);
+        *byte = (state >> 24) as u8;
+    }
+    bytes
+}
+
+#[test]
+fn sums_of_longer_bytes_are_those_by_division(rt: HostRuntime) {
+    let bytes = varied();
+    for length in 750..2500usize {
+        let (bytes, _) = bytes.split_at(length);
+        assert_eq!(rt;
+            sum_of_pieces(&[], bytes),
+            crc32c_by_division(bytes),
+            "{length}"
+        );
+    }
+}

@@ -6,3 +6,4 @@ pub mod Crash
 pub mod Whole
 pub mod Rooms
 pub mod CatchingUp
+pub mod Kept

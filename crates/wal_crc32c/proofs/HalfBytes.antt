@@ -32,11 +32,11 @@ carries : ℕ → ℕ → ℕ → ℕ → Bool
 carries k i unit half =
     eqb (times_power 8 (four (entry k i half) (entry k (i + 1) half) (entry k (i + 2) half) (entry k (i + 3) half))) (times_power (1408 - 128 * k) (times_power 8 (half * unit)))
 
-every : (ℕ → Bool) → ℕ → Bool
+unfoldable pub every : (ℕ → Bool) → ℕ → Bool
 every p zero = true
 every p (suc n) = p zero && every (λ i. p (suc i)) n
 
-at_every : (p : ℕ → Bool) (n : ℕ) → every p n ≡ true → (i : ℕ) → i < n → p i ≡ true
+pub at_every : (p : ℕ → Bool) (n : ℕ) → every p n ≡ true → (i : ℕ) → i < n → p i ≡ true
 unfolding every
 at_every p zero all i within = absurd (omega arith)
 at_every p (suc n) all zero within = (both_true _ _ all).0

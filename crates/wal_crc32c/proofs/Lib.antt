@@ -1,6 +1,7 @@
 mod HalfBytes
 mod Lookups
 mod Remainders
+mod SparseMultiple
 mod Spread
 mod Words
 pub mod LaneLaws

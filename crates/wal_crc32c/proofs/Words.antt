@@ -1,6 +1,7 @@
 -- The remainder of several bytes taken as one number, the first byte lowest.
-use Rattle.std.proofs.Common.{w32, subst, replicate, ◌≡◌, ℕ, zero, suc, ◌+◌, ◌*◌, ◌/◌, ◌%◌, ◌^◌, ◌<◌, List, [], ◌∷◌, ◌++◌, length, get_or, fold, refl, sym, ap, ◌∙◌, arith}
+use Rattle.std.proofs.Common.{w32, subst, replicate, ◌≡◌, ℕ, zero, suc, ◌+◌, ◌-◌, ◌*◌, ◌/◌, ◌%◌, ◌^◌, ◌<◌, ◌≤◌, List, [], ◌∷◌, ◌++◌, length, take, drop, get_or, fold, refl, sym, ap, ◌∙◌, arith}
 use Rattle.std.proofs.Math.Nat.{div-one, div-div-eq-div-mul, pow-suc, add-zero}
+use Rattle.std.proofs.lemmas.List.{take_all}
 use Rattle.std.proofs.lemmas.List.Sums.{fold-append}
 use Rattle.std.proofs.lemmas.Nat.{from_le_bytes-to_le_bytes_4, from_le_bytes-to_le_bytes_8, xor_comm}
 use Rattle.std.proofs.lemmas.Simd.{Each1-replicate}
@@ -11,6 +12,7 @@ use Rattle.std.specs.Int.{w64, from_le_bytes, to_le_bytes, byte_at, bytes_low_fi
 use Rattle.std.specs.Int.Bits.{bit_xor, xor_assoc, xor_zero_r, xor_shifted}
 use Rattle.wal_crc32c.specs.Crc32c.{times_power, after_byte, remainder_of}
 use Rattle.wal_crc32c.proofs.Remainders.{times_power-add, times_power-xor, times_power-shifted, times_power-split}
+use Rattle.wal_crc32c.proofs.Spread.{times_power-zero, zero_xor}
 
 -- n bytes of 0 and one more
 times_power-bytes : (n r : ℕ) → times_power (8 * suc n) r ≡ times_power (8 * n) (times_power 8 r)
@@ -55,6 +57,54 @@ fold-four r bytes e small =
     fold-after_byte r bytes small
     ∙ ap (λ n. times_power (8 * n) (bit_xor r (number_of bytes))) e
     ∙ ap (λ half. times_power 32 (bit_xor r half)) (number_of_four bytes e)
+
+-- four bytes as half a word, and what stands behind them
+pub fold-four_then : (r : ℕ) (four others : List ℕ) → length four ≡ 4 → ((i : ℕ) → get_or four i 0 < 2 ^ 8)
+    → fold after_byte r (four ++ others) ≡ fold after_byte (times_power 32 (bit_xor r (from_le_bytes w32 four))) others
+fold-four_then r four others e small = fold-append after_byte r four others ∙ ap (λ s. fold after_byte s others) (fold-four r four e small)
+
+after_one_more : (n x a : ℕ) → after_byte (times_power n x) a ≡ bit_xor (times_power (8 + n) x) (times_power 8 a)
+after_one_more n x a = times_power-xor 8 (times_power n x) a ∙ ap (λ y. bit_xor y (times_power 8 a)) (sym (times_power-add 8 n x))
+
+after_two_more : (x a b : ℕ) → after_byte (after_byte (times_power 32 x) a) b ≡ bit_xor (bit_xor (times_power 48 x) (times_power 16 a)) (times_power 8 b)
+after_two_more x a b =
+    ap (λ y. after_byte y b) (after_one_more 32 x a)
+    ∙ times_power-xor 8 (bit_xor (times_power 40 x) (times_power 8 a)) b
+    ∙ ap (λ y. bit_xor y (times_power 8 b)) (times_power-xor 8 (times_power 40 x) (times_power 8 a))
+    ∙ ap (λ y. bit_xor (bit_xor y (times_power 8 (times_power 8 a))) (times_power 8 b)) (sym (times_power-add 8 40 x))
+    ∙ ap (λ y. bit_xor (bit_xor (times_power 48 x) y) (times_power 8 b)) (sym (times_power-add 8 8 a))
+
+after_three_more : (x a b c : ℕ) → after_byte (after_byte (after_byte (times_power 32 x) a) b) c ≡ bit_xor (bit_xor (bit_xor (times_power 56 x) (times_power 24 a)) (times_power 16 b)) (times_power 8 c)
+after_three_more x a b c =
+    ap (λ y. after_byte y c) (after_two_more x a b)
+    ∙ times_power-xor 8 (bit_xor (bit_xor (times_power 48 x) (times_power 16 a)) (times_power 8 b)) c
+    ∙ ap (λ y. bit_xor y (times_power 8 c))
+    (times_power-xor 8 (bit_xor (times_power 48 x) (times_power 16 a)) (times_power 8 b)
+    ∙ ap (λ y. bit_xor y (times_power 8 (times_power 8 b))) (times_power-xor 8 (times_power 48 x) (times_power 16 a))
+    ∙ ap (λ y. bit_xor (bit_xor y (times_power 8 (times_power 16 a))) (times_power 8 (times_power 8 b))) (sym (times_power-add 8 48 x))
+    ∙ ap (λ y. bit_xor (bit_xor (times_power 56 x) y) (times_power 8 (times_power 8 b))) (sym (times_power-add 8 16 a))
+    ∙ ap (bit_xor (bit_xor (times_power 56 x) (times_power 24 a))) (sym (times_power-add 8 8 b)))
+
+pub fold-none_more : (x : ℕ) (others : List ℕ) → length others < 1 → fold after_byte (times_power 32 x) others ≡ times_power 32 x
+fold-none_more x [] e = refl
+fold-none_more x (a ∷ others) e = absurd (omega arith)
+
+pub fold-one_more : (x : ℕ) (others : List ℕ) → length others ≡ 1 → fold after_byte (times_power 32 x) others ≡ bit_xor (times_power 40 x) (times_power 8 (get_or others 0 0))
+fold-one_more x (a ∷ []) e = after_one_more 32 x a
+fold-one_more x _ e = absurd (omega arith)
+
+pub fold-two_more : (x : ℕ) (others : List ℕ) → length others ≡ 2
+    → fold after_byte (times_power 32 x) others ≡ bit_xor (bit_xor (times_power 48 x) (times_power 16 (get_or others 0 0))) (times_power 8 (get_or others 1 0))
+fold-two_more x (a ∷ b ∷ []) e = after_two_more x a b
+fold-two_more x _ e = absurd (omega arith)
+
+pub fold-three_more : (x : ℕ) (others : List ℕ) → 3 ≤ length others
+    → fold after_byte (times_power 32 x) others
+    ≡ fold after_byte (bit_xor (bit_xor (bit_xor (times_power 56 x) (times_power 24 (get_or others 0 0))) (times_power 16 (get_or others 1 0))) (times_power 8 (get_or others 2 0))) (take (length others - 3) (drop 3 others))
+fold-three_more x (a ∷ b ∷ c ∷ behind) e =
+    ap (λ s. fold after_byte s behind) (after_three_more x a b c)
+    ∙ ap (fold after_byte (bit_xor (bit_xor (bit_xor (times_power 56 x) (times_power 24 a)) (times_power 16 b)) (times_power 8 c))) (sym (take_all (length (a ∷ b ∷ c ∷ behind) - 3) behind (omega arith)))
+fold-three_more x _ e = absurd (omega arith)
 
 -- the remainders of bytes, each with the further ones after it, taken off one after another
 abbrev xor_lookups : ℕ → List ℕ → ℕ
@@ -130,6 +180,23 @@ lookups_before_half w small =
     ∙ ap (times_power 32) (lookups_of_word w small)
     ∙ lookups_further 4 0 (to_le_bytes w64 w)
     ∙ ap (λ s. xor_lookups_ahead 4 s (to_le_bytes w64 w)) none_before_half
+
+-- half a word with so many bytes of 0 behind it
+pub lookups_of_half_before : (n w : ℕ) → w < 2 ^ 32
+    → times_power (8 * (n + 4)) w ≡ bit_xor (bit_xor (bit_xor (times_power (8 * (n + 3 + 1)) (byte_at 0 w)) (times_power (8 * (n + 2 + 1)) (byte_at 1 w))) (times_power (8 * (n + 1 + 1)) (byte_at 2 w))) (times_power (8 * (n + 1)) (byte_at 3 w))
+lookups_of_half_before n w small =
+    let four : 8 * (n + 4) ≡ 8 * (n + 3 + 1) = omega arith in
+    let three : 8 * (n + 3) ≡ 8 * (n + 2 + 1) = omega arith in
+    let two : 8 * (n + 2) ≡ 8 * (n + 1 + 1) = omega arith in
+    ap (λ k. times_power k w) (omega arith)
+    ∙ times_power-add (8 * n) 32 w
+    ∙ ap (times_power (8 * n)) (lookups_of_half w small)
+    ∙ lookups_further n 0 (to_le_bytes w32 w)
+    ∙ ap (λ s. xor_lookups_ahead n s (to_le_bytes w32 w)) (times_power-zero (8 * n))
+    ∙ ap (λ x. bit_xor (bit_xor (bit_xor x (times_power (8 * (n + 3)) (byte_at 1 w))) (times_power (8 * (n + 2)) (byte_at 2 w))) (times_power (8 * (n + 1)) (byte_at 3 w))) (zero_xor (times_power (8 * (n + 4)) (byte_at 0 w)))
+    ∙ ap (λ k. bit_xor (bit_xor (bit_xor (times_power k (byte_at 0 w)) (times_power (8 * (n + 3)) (byte_at 1 w))) (times_power (8 * (n + 2)) (byte_at 2 w))) (times_power (8 * (n + 1)) (byte_at 3 w))) four
+    ∙ ap (λ k. bit_xor (bit_xor (bit_xor (times_power (8 * (n + 3 + 1)) (byte_at 0 w)) (times_power k (byte_at 1 w))) (times_power (8 * (n + 2)) (byte_at 2 w))) (times_power (8 * (n + 1)) (byte_at 3 w))) three
+    ∙ ap (λ k. bit_xor (bit_xor (bit_xor (times_power (8 * (n + 3 + 1)) (byte_at 0 w)) (times_power (8 * (n + 2 + 1)) (byte_at 1 w))) (times_power k (byte_at 2 w))) (times_power (8 * (n + 1)) (byte_at 3 w))) two
 
 pub lookups_ahead : (w : ℕ) → w < 2 ^ 64 → times_power 128 w ≡ xor_lookups_ahead 8 0 (to_le_bytes w64 w)
 lookups_ahead w small =

@@ -1,2 +1,3 @@
 pub mod Crc32c
 pub mod Folding
+pub mod SparseMultiple

@@ -5,14 +5,18 @@ ghost use Rattle.std.specs.Int.{w32, w64, to_le_bytes};
 ghost use Rattle.wal_crc32c.specs.Crc32c.{HasFed, after_byte, crc32c};
 
 use crate::folding::after_blocks;
+use crate::sparse_multiple::after_longer_bytes;
 use crate::tables::{
-    byte_remainder, half_word_remainder, word_remainder, word_remainder_ahead,
-    word_remainder_before_half,
+    byte_remainder, half_word_remainder, half_word_remainder_before, word_remainder,
+    word_remainder_ahead, word_remainder_before_half,
 };
 use std::marker::Model;
 
 // From so many bytes on vectors pay: two blocks of them.
 const LONG: usize = 192;
+
+// From so many bytes on it pays to take bytes away.
+const LONGER: usize = 768;
 
 /// A CRC-32C under way. Contracts see its remainder.
 #[derive(Clone, Copy, Debug)]
@@ -83,12 +87,14 @@ fn after_bytes(remainder: u32, bytes: &[u8]) -> u32
 {
     if bytes.len() < LONG {
         after_short_bytes(remainder, bytes)
-    } else {
+    } else if bytes.len() < LONGER {
         after_long_bytes(remainder, bytes)
+    } else {
+        after_longer_bytes(remainder, bytes)
     }
 }
 
-fn after_long_bytes(remainder: u32, bytes: &[u8]) -> u32
+pub(crate) fn after_long_bytes(remainder: u32, bytes: &[u8]) -> u32
     ensures { result ≡ fold after_byte remainder bytes.now }
 {
     match bytes.split_first_chunk::<96>() {
@@ -100,25 +106,57 @@ fn after_long_bytes(remainder: u32, bytes: &[u8]) -> u32
     }
 }
 
-// Sixteen bytes at a time, and the fewer than sixteen that are left: eight where there are so many,
-// four where there are so many, and then one by one.
+// Thirty-two bytes at a time, and the fewer that are left: sixteen where there are so many, eight
+// where there are so many, and the last ones.
 fn after_short_bytes(mut remainder: u32, bytes: &[u8]) -> u32
     ensures { result ≡ fold after_byte remainder bytes.now }
 {
     let mut rest = bytes;
-    while let Some((sixteen, others)) = rest.split_first_chunk::<16>() {
-        remainder = after_sixteen_bytes(remainder, sixteen);
+    while let Some((piece, others)) = rest.split_first_chunk::<32>() {
+        remainder = after_piece(remainder, piece);
         rest = others;
     }
     after_few_bytes(remainder, rest)
 }
 
+// Behind two times sixteen, none of the thirty-two is left.
+#[inline(always)]
+fn after_piece(remainder: u32, bytes: &[u8; 32]) -> u32
+    ensures { result ≡ fold after_byte remainder bytes.now }
+{
+    let (remainder, rest) = after_a_sixteen(remainder, bytes);
+    let (remainder, rest) = after_a_sixteen(remainder, rest);
+    after_each_byte(remainder, rest)
+}
+
+#[inline(always)]
 fn after_few_bytes(remainder: u32, bytes: &[u8]) -> u32
     ensures { result ≡ fold after_byte remainder bytes.now }
 {
+    let (remainder, rest) = after_a_sixteen(remainder, bytes);
+    let (remainder, rest) = after_an_eight(remainder, rest);
+    after_fewer_bytes(remainder, rest)
+}
+
+// After sixteen bytes, where there are so many, with the bytes that are left.
+#[inline(always)]
+fn after_a_sixteen(remainder: u32, bytes: &[u8]) -> (u32, &[u8])
+    ensures { fold after_byte result.0 result.1.now ≡ fold after_byte remainder bytes.now }
+{
+    match bytes.split_first_chunk::<16>() {
+        Some((sixteen, others)) => (after_sixteen_bytes(remainder, sixteen), others),
+        None => (remainder, bytes),
+    }
+}
+
+// After eight bytes, where there are so many, with the bytes that are left.
+#[inline(always)]
+fn after_an_eight(remainder: u32, bytes: &[u8]) -> (u32, &[u8])
+    ensures { fold after_byte result.0 result.1.now ≡ fold after_byte remainder bytes.now }
+{
     match bytes.split_first_chunk::<8>() {
-        Some((eight, others)) => after_fewer_bytes(after_eight_bytes(remainder, eight), others),
-        None => after_fewer_bytes(remainder, bytes),
+        Some((eight, others)) => (after_eight_bytes(remainder, eight), others),
+        None => (remainder, bytes),
     }
 }
 
@@ -127,8 +165,45 @@ fn after_fewer_bytes(remainder: u32, bytes: &[u8]) -> u32
     ensures { result ≡ fold after_byte remainder bytes.now }
 {
     match bytes.split_first_chunk::<4>() {
-        Some((four, others)) => after_each_byte(after_four_bytes(remainder, four), others),
-        None => after_each_byte(remainder, bytes),
+        Some((four, others)) => after_four_and_others(remainder, four, others),
+        None => after_three_bytes(remainder, bytes),
+    }
+}
+
+// The four bytes and up to three more are looked up side by side, none after another.
+#[inline(always)]
+fn after_four_and_others(remainder: u32, four: &[u8; 4], others: &[u8]) -> u32
+    ensures { result ≡ fold after_byte remainder (four.now ++ others.now) }
+{
+    let half = remainder ^ u32::from_le_bytes(*four);
+    match others {
+        [] => half_word_remainder(half),
+        [b0] => half_word_remainder_before(half, 1) ^ byte_remainder(*b0, 0),
+        [b0, b1] => {
+            half_word_remainder_before(half, 2) ^ byte_remainder(*b0, 1) ^ byte_remainder(*b1, 0)
+        }
+        [b0, b1, b2, behind @ ..] => after_each_byte(
+            half_word_remainder_before(half, 3)
+                ^ byte_remainder(*b0, 2)
+                ^ byte_remainder(*b1, 1)
+                ^ byte_remainder(*b2, 0),
+            behind,
+        ),
+    }
+}
+
+#[inline(always)]
+fn after_three_bytes(remainder: u32, bytes: &[u8]) -> u32
+    ensures { result ≡ fold after_byte remainder bytes.now }
+{
+    match bytes {
+        [] => remainder,
+        [b0] => after_byte(remainder, *b0),
+        [b0, b1] => after_byte(after_byte(remainder, *b0), *b1),
+        [b0, b1, b2, behind @ ..] => {
+            let remainder = after_byte(after_byte(after_byte(remainder, *b0), *b1), *b2);
+            after_each_byte(remainder, behind)
+        }
     }
 }
 
@@ -146,12 +221,6 @@ fn after_byte(remainder: u32, byte: u8) -> u32
 {
     let mixed = remainder ^ u32::from(byte);
     byte_remainder((mixed & 0xff) as u8, 0) ^ (mixed >> 8)
-}
-
-fn after_four_bytes(remainder: u32, bytes: &[u8; 4]) -> u32
-    ensures { result ≡ fold after_byte remainder bytes.now }
-{
-    half_word_remainder(remainder ^ u32::from_le_bytes(*bytes))
 }
 
 fn after_eight_bytes(remainder: u32, bytes: &[u8; 8]) -> u32

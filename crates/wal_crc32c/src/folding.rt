@@ -92,7 +92,7 @@ fn after_block(before: Six, block: &[u8; 96]) -> Six
 
 // A vector with a remainder before it, which its first four bytes take in.
 #[inline(always)]
-fn mixed(before: u32, v: u8x16) -> u8x16
+pub(crate) fn mixed(before: u32, v: u8x16) -> u8x16
     ensures { remainder result ≡ bit_xor (times_power 128 before) (remainder v) }
 {
     let [r0, r1, r2, r3] = before.to_le_bytes();

@@ -6,6 +6,7 @@ mod crc;
 mod division;
 mod folding;
 mod half_bytes;
+mod sparse_multiple;
 mod tables;
 
 pub use crc::Crc;

@@ -651,6 +651,19 @@ pub(crate) fn half_word_remainder(half: u32) -> u32
     byte_remainder(b0, 3) ^ byte_remainder(b1, 2) ^ byte_remainder(b2, 1) ^ byte_remainder(b3, 0)
 }
 
+/// The remainder that four bytes leave when so many bytes stand after them.
+#[inline(always)]
+pub(crate) fn half_word_remainder_before(half: u32, bytes_after: usize) -> u32
+    requires { bytes_after < 13 }
+    ensures { result ≡ times_power (8 * (bytes_after + 4)) half }
+{
+    let [b0, b1, b2, b3] = half.to_le_bytes();
+    byte_remainder(b0, bytes_after + 3)
+        ^ byte_remainder(b1, bytes_after + 2)
+        ^ byte_remainder(b2, bytes_after + 1)
+        ^ byte_remainder(b3, bytes_after)
+}
+
 /// The remainder that eight bytes leave, taken as one word.
 #[inline]
 pub(crate) fn word_remainder(word: u64) -> u32

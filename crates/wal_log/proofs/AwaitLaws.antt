@@ -193,6 +193,22 @@ sees_on {D} a b c met sees load = record {
   };
 }
 
+-- as a look at the reserved end tells it
+pub sees_further : {D : Type 0} → (a b c : SeatedPass D) → SeesMore a b
+    → (view_of b).reserving.seen ≤ (view_of c).reserving.seen
+    → HasView (with_sight (view_of c).reserving.seen (view_of b)) b c → SeesMore a c
+sees_further {D} a b c sees rises has = record {
+  seen = (view_of c).reserving.seen;
+  rises = (let same = ap (λ (w : View). w.reserving.seen) (view_is sees.view) in
+      let before = sees.rises in omega (arith, same, before, rises));
+  view = record {
+    same_table = has.same_table ∙ (sees.view).same_table;
+    me_is = has.me_is
+        ∙ ap (λ (m : View × List (ℕ × LogWriter D)).
+        (with_sight (view_of c).reserving.seen m.0, m.1)) (sees.view).me_is;
+  };
+}
+
 -- tries that told nothing, and then a look
 sight_keeps : (seen : ℕ) (v : View) → (v.reserving).seen ≤ seen → KeepsPass v (with_sight seen v)
 sight_keeps seen v rises = record {

@@ -16,7 +16,7 @@ ghost use Rattle.wal_log.specs.Logs.{IsPassOfLog, setup_of_log};
 ghost use Rattle.wal_log.specs.Standing.{ComesToRest, KeepsPass};
 ghost use Rattle.wal_log.specs.declared.inserting.InsertErr.TheVariants.{Down};
 
-use crate::inserting::{InsertErr, insert_on};
+use crate::inserting::{InsertErr, insert_on, note_place};
 use crate::wal::Wal;
 use crossbeam_utils::Backoff;
 use record_spelling::Body;
@@ -54,6 +54,7 @@ impl<D: Disk> Wal<D> {
     {
         let mut seated = pass.seat(&self.table);
         let answer = commit_async_on(rt, &mut seated, body);
+        note_place(&mut pass.company, &answer);
         pass.put_back(seated);
         answer
     }

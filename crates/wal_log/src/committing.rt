@@ -17,7 +17,7 @@ use crate::wal::Wal;
 use record_spelling::Body;
 use segment_disk::Disk;
 use std::sync::Wait;
-use wal_rule::{Pass, SeatedPass};
+use wal_rule::{Company, Pass, SeatedPass};
 use wal_types::{Cause, Receipt, Refused, Sealed};
 
 impl From<InsertErr> for Refused {
@@ -60,17 +60,18 @@ impl<D: Disk> Wal<D> {
         ensures pass { IsPassOfLog self.now pass.new }
     {
         let mut seated = pass.seat(&self.table);
-        let answer = commit_on(rt, &mut seated, body);
+        let answer = commit_on(rt, &mut seated, &mut pass.company, body);
         pass.put_back(seated);
         answer
     }
 }
 
 // The commit of a pass, which is about nothing before it and behind it. It leaves of the pass what
-// `Wal::commit` says.
+// `Wal::commit` says. In company the flush lets others come first (PostgreSQL's commit_siblings).
 fn commit_on<'p, D: Disk, R: Wait>(
     rt: &R,
     seated: &mut SeatedPass<'p, D>,
+    company: &mut Company,
     body: &Body,
 ) -> Result<Sealed, Refused>
     requires rests { StandsAtRest seated.old }
@@ -82,7 +83,8 @@ fn commit_on<'p, D: Disk, R: Wait>(
     ensures rests { ComesToRest seated.old seated.new }
 {
     let Receipt { start, end } = insert_on(rt, seated, body)?;
-    match flush_on(rt, seated, end) {
+    company.note(start, end);
+    match flush_on(rt, seated, end, company.is_there()) {
         Ok(hard) => Ok(Sealed {
             start,
             end,

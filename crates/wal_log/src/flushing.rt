@@ -19,7 +19,7 @@ ghost use Rattle.wal_log.specs.Flushing.{AnswersFlush, AnswersFlushTry, IsToldHa
 ghost use Rattle.wal_log.specs.Hands.{HasAllStored};
 ghost use Rattle.wal_log.specs.Logs.{IsPassOfLog};
 ghost use Rattle.wal_log.specs.PassLogs.{log_of_pass};
-ghost use Rattle.wal_log.specs.Standing.{ComesToRest, HasNoTurn, KeepsPass, StaysAtWork, WorksOn};
+ghost use Rattle.wal_log.specs.Standing.{ComesToRest, HasNoTurn, KeepsPass, SeesMore, StaysAtWork, WorksOn};
 ghost use Rattle.wal_log.specs.declared.fault.Fault.TheVariants.{Disk};
 ghost use Rattle.wal_log.specs.declared.flushing.TryFlushErr.TheVariants.{Fault};
 
@@ -29,16 +29,22 @@ use crate::turns::{TurnErr, give_back, go_down, take_ready};
 use crate::wal::Wal;
 use crate::writing::{store_written, write_known};
 use flush_core::DiskFault;
-use insert_locks::{Watched, see_end, watch};
+use insert_locks::{Watched, see_end, see_reserved, watch};
 use page_writing::{sync_written, writer_now};
 use segment_disk::Disk;
 use std::sync::Wait;
+use std::thread;
 use wal_rule::{Pass, SeatedPass};
 use wal_types::{Hard, Lsn};
 
 // How often the flushed address is looked at before the turn is tried again, which also an insert
 // may have that makes room.
 const LOOKS: u32 = 64;
+
+// How often others are let come before a try, at most, and how often in a row nobody does.
+const GATHERS: u32 = 4;
+
+const STILL: u32 = 2;
 
 /// Why one try of a flush told nothing. It looks in this order: whether the disk has failed before,
 /// whether the address is reserved, whether it is flushed already, at the locks, at the turn; with
@@ -117,7 +123,7 @@ impl<D: Disk> Wal<D> {
         ensures pass { IsPassOfLog self.now pass.new }
     {
         let mut seated = pass.seat(&self.table);
-        let answer = flush_on(rt, &mut seated, upto);
+        let answer = flush_on(rt, &mut seated, upto, false);
         pass.put_back(seated);
         answer
     }
@@ -144,11 +150,13 @@ impl<D: Disk> Wal<D> {
 }
 
 // The flush of a pass, by as many tries as it takes; between two of them nothing is held. It leaves
-// of the pass what `Wal::flush` says.
+// of the pass what `Wal::flush` says. In company others are let come before the first try, and
+// always before another one behind a sync that did not reach the address.
 pub(crate) fn flush_on<'p, D: Disk, R: Wait>(
     rt: &R,
     seated: &mut SeatedPass<'p, D>,
     upto: Lsn,
+    is_in_company: bool,
 ) -> Result<Hard, FlushErr>
     requires rests { StandsAtRest seated.old }
     ensures flushes { AnswersFlush upto.0 (view_of seated.old) result (view_of seated.new) }
@@ -158,16 +166,48 @@ pub(crate) fn flush_on<'p, D: Disk, R: Wait>(
 {
     let mut patience = Patience::new();
     let mut flushed = 0;
+    gather(seated, is_in_company);
     for _ in rt.forever() {
         match try_flush(seated, upto) {
             Ok(hard) => return Ok(hard),
             Err(TryFlushErr::Fault(fault)) => return Err(FlushErr::from(fault)),
             Err(TryFlushErr::Unreserved { end }) => return Err(FlushErr::Unreserved { end }),
             Err(TryFlushErr::Behind { .. }) => patience.pause(rt),
-            Err(TryFlushErr::Turn { .. }) => await_flush(rt, seated, &mut flushed, &mut patience),
+            Err(TryFlushErr::Turn { .. }) => {
+                await_flush(rt, seated, &mut flushed, &mut patience);
+                gather(seated, flushed < upto.0);
+            }
         }
     }
     unreachable!()
+}
+
+// Lets others come, where there are any, since one sync makes durable what all of them have
+// inserted: yields until nobody has inserted meanwhile, but so many times at most (PostgreSQL's
+// commit_delay, which sleeps). It does not spin: who is waited for may stand behind this thread on
+// its own processor, as who waits for a sync mostly does when the sync ends.
+fn gather<'p, D: Disk>(seated: &mut SeatedPass<'p, D>, is_in_company: bool)
+    // The pass has seen what was reserved then, and is else as it was.
+    ensures sees { SeesMore seated.old seated.new }
+{
+    if !is_in_company {
+        return;
+    }
+    let mut end = see_reserved(seated);
+    let mut still = 0u32;
+    for _look in 0..GATHERS {
+        thread::yield_now();
+        let seen = see_reserved(seated);
+        still = if seen == end {
+            still.saturating_add(1)
+        } else {
+            0
+        };
+        if still == STILL {
+            return;
+        }
+        end = seen;
+    }
 }
 
 // Looks at the flushed address until it is another one than was known, but so many times at most,

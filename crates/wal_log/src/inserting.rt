@@ -24,7 +24,7 @@ use record_spelling::Body;
 use segment_disk::Disk;
 use std::hint::spin_loop;
 use std::sync::Wait;
-use wal_rule::{Pass, SeatedPass};
+use wal_rule::{Company, Pass, SeatedPass};
 use wal_types::{Lsn, Receipt};
 
 // How often a busy position is looked at before a pause.
@@ -85,8 +85,17 @@ impl<D: Disk> Wal<D> {
     {
         let mut seated = pass.seat(&self.table);
         let answer = insert_on(rt, &mut seated, body);
+        note_place(&mut pass.company, &answer);
         pass.put_back(seated);
         answer
+    }
+}
+
+// Takes in where a record was inserted.
+#[inline(always)]
+pub(crate) fn note_place(company: &mut Company, answer: &Result<Receipt, InsertErr>) {
+    if let Ok(receipt) = answer {
+        company.note(receipt.start, receipt.end);
     }
 }
 

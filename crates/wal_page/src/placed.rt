@@ -10,7 +10,7 @@
 //! the rest of its segment too, which it gives as zeros, the headers of pages that hold nothing
 //! else among them.
 
-ghost use Rattle.std.specs.Prelude.{◌≡◌, ℕ, ◌+◌, ◌-◌, ◌*◌, ◌%◌, ◌^◌, ◌<◌, ◌≤◌, ◌==◌, true, IfSome, IfNone, length, if◌then◌else◌};
+ghost use Rattle.std.specs.Prelude.{◌≡◌, ℕ, ◌+◌, ◌-◌, ◌*◌, ◌%◌, ◌^◌, ◌<◌, ◌≤◌, ◌↔◌, ◌==◌, IfSome, IfNone, IsSome, IsTrue, length, if◌then◌else◌};
 ghost use Rattle.byte_position.specs.Position.{end_address_of, is_in_header, position_of};
 ghost use Rattle.record_spelling.specs.Spelling.{assembled_room, assembled_size, word_at};
 ghost use Rattle.wal_page.specs.Order.{assembled_room_at};
@@ -250,7 +250,7 @@ impl<'a> Placed<'a> {
     #[inline(always)]
     pub fn lie_together(&self, count: usize) -> bool
         requires on_page { self.now.next % 8192 + 8 * count ≤ 8192 }
-        ensures { result ≡ true → LieTogether self.now count }
+        ensures { IsTrue result ↔ LieTogether self.now count }
     {
         if self.passed + WORD * count as u64 > u64::from(self.body.room()) {
             return false;
@@ -263,8 +263,8 @@ impl<'a> Placed<'a> {
 
     /// Whether all words that are left are zeros behind the record's own.
     pub fn is_behind_own(&self) -> bool
-        ensures { result ≡ true → self.now.start + assembled_room self.now.body
-            ≤ position_of self.now.size self.now.next }
+        ensures { IsTrue result ↔ (self.now.start + assembled_room self.now.body
+            ≤ position_of self.now.size self.now.next) }
     {
         self.own_left() == 0
     }
@@ -275,6 +275,8 @@ impl<'a> Placed<'a> {
     pub fn take_header(&mut self, count: usize) -> Option<[u64; 3]>
         requires together { LieTogether self.old count }
         requires owned { self.old.next + 8 * count ≤ placed_end self.old }
+        ensures when { IsSome result
+            ↔ (position_of self.old.size self.old.next ≡ self.old.start) × (3 ≤ count) }
         ensures words { IfSome result (λ words.
             (length words ≡ 3) × HasWordsFrom self.old 3 words) }
         ensures within { IfSome result (λ _. 3 ≤ count) }
@@ -302,6 +304,8 @@ impl<'a> Placed<'a> {
         requires some { 0 < count }
         requires together { LieTogether self.old count }
         requires owned { self.old.next + 8 * count ≤ placed_end self.old }
+        ensures when { IsSome result
+            ↔ (self.old.start + 24 ≤ position_of self.old.size self.old.next) }
         ensures words { IfSome result (λ bytes. (k : ℕ) → k < count
             → word_at bytes.now k ≡ placed_word self.old (self.old.next + 8 * k)) }
         ensures long { IfSome result (λ bytes. 8 * count ≤ length bytes.now + 7) }

@@ -1,6 +1,7 @@
 pub mod Pages
 pub mod Decodes
 pub mod ReadAt
+pub mod Filled
 pub mod Names
 pub mod Spelled
 pub mod Cache

@@ -23,6 +23,15 @@ pub struct FoundRecord {
     pub value: Record,
 }
 
+/// A record that was read, without what it carries, which is put into a record that the caller has.
+#[derive(Clone, Copy, Debug)]
+pub(crate) struct FoundHead {
+    pub(crate) start: Lsn,
+    pub(crate) end: Lsn,
+    pub(crate) prev: Lsn,
+    pub(crate) total: u32,
+}
+
 /// Which check failed.
 #[derive(Clone, Copy, Debug, PartialEq, Eq)]
 pub enum DamageKind {

@@ -10,6 +10,7 @@ ghost use Rattle.wal_reader.specs.Cache.{HoldsLastPage};
 ghost use Rattle.wal_reader.specs.PageCursor.{Sees};
 ghost use Rattle.wal_reader.specs.Pages.{Pages};
 ghost use Rattle.wal_reader.specs.Answered.{IsAnswered, IsNextIn};
+ghost use Rattle.wal_reader.specs.Filled.{read_with};
 ghost use Rattle.wal_reader.specs.ReadFailures.{HasFailureCause};
 ghost use Rattle.wal_reader.specs.Ready.{IsReadyAt};
 ghost use Rattle.wal_reader.specs.ReadsOn.{ReadsOn};
@@ -17,39 +18,40 @@ ghost use Rattle.wal_reader.specs.RecordPlace.{IsOutOfReach, IsReachable};
 
 use crate::beginning::find_beginning;
 use crate::buffers::Buffers;
-use crate::found::FoundRecord;
+use crate::found::FoundHead;
 use crate::page_cursor::PageCursor;
 use crate::read_failure::ReadFailure;
 use crate::record_place::RecordPlace;
 use crate::record_reading::read_record;
 use segment_disk::Disk;
 use std::alloc::Global;
-use wal_types::Lsn;
+use wal_types::{Lsn, Record};
 
 /// The next record at or behind `start`, and where the one behind it stands: from a place, or
 /// where reading has not begun from where it begins. `end` is where reading ends, if it is given.
-/// The record's main data is put into `spare`. `ready` tells where the record at the place stands,
+/// The record is put into `value`. `ready` tells where the record at the place stands,
 /// if that is known, and then where the next one does.
 #[inline(always)]
 pub(crate) fn next_given<D: Disk>(
     alloc: Global,
-    spare: Vec<u8>,
+    value: &mut Record,
     buffers: &mut Buffers,
     disk: &mut D,
     start: Lsn,
     end: Option<Lsn>,
     from: Option<RecordPlace>,
     ready: &mut Option<PageCursor>,
-) -> Result<(FoundRecord, RecordPlace), ReadFailure>
+) -> Result<(FoundHead, RecordPlace), ReadFailure>
     requires reachable { IfSome from IsReachable }
     requires ready { IfSome from (λ at. IsReadyAt buffers.old.cache at ready.old) }
     ensures ready { MatchResult result (λ r. IsReadyAt buffers.new.cache r.1 ready.new)
         (λ _. ready.new ≡ None) }
     // What is answered is the next record of these pages, at or behind `start`.
-    ensures answered { IfOk result (IsAnswered from buffers.old.cache.geometry) }
+    ensures answered { IfOk (read_with value.new result)
+        (IsAnswered from buffers.old.cache.geometry) }
     ensures gives { (pages : Pages) → Sees (D.tape disk.old) buffers.old.cache pages
         → IsNextIn buffers.old.cache.geometry pages start.0 (option_map (λ e. e.0) end) from
-        buffers.old.room.items buffers.new.room.items result }
+        buffers.old.room.items buffers.new.room.items (read_with value.new result) }
     // Where nothing is to be read, or all that may be is held already, the disk is untouched.
     ensures unread { IfSome from (λ at. IsOutOfReach buffers.old.cache.geometry
         (option_map (λ e. e.0) end) at.position → disk.new ≡ disk.old) }
@@ -68,30 +70,31 @@ pub(crate) fn next_given<D: Disk>(
             find_beginning(&mut buffers.cache, disk, start)?
         }
     };
-    read_given(alloc, spare, buffers, disk, start, end, at, ready)
+    read_given(alloc, value, buffers, disk, start, end, at, ready)
 }
 
 // Records before `start` are read and checked as any other, and passed over.
 #[inline(always)]
 fn read_given<D: Disk>(
     alloc: Global,
-    spare: Vec<u8>,
+    value: &mut Record,
     buffers: &mut Buffers,
     disk: &mut D,
     start: Lsn,
     end: Option<Lsn>,
     from: RecordPlace,
     ready: &mut Option<PageCursor>,
-) -> Result<(FoundRecord, RecordPlace), ReadFailure>
+) -> Result<(FoundHead, RecordPlace), ReadFailure>
     requires reachable { IsReachable from }
     requires ready { IsReadyAt buffers.old.cache from ready.old }
     ensures ready { MatchResult result (λ r. IsReadyAt buffers.new.cache r.1 ready.new)
         (λ _. ready.new ≡ None) }
     // As of `next_given`, from a place on.
-    ensures answered { IfOk result (IsAnswered (Some from) buffers.old.cache.geometry) }
+    ensures answered { IfOk (read_with value.new result)
+        (IsAnswered (Some from) buffers.old.cache.geometry) }
     ensures gives { (pages : Pages) → Sees (D.tape disk.old) buffers.old.cache pages
         → IsNextIn buffers.old.cache.geometry pages start.0 (option_map (λ e. e.0) end) (Some from)
-        buffers.old.room.items buffers.new.room.items result }
+        buffers.old.room.items buffers.new.room.items (read_with value.new result) }
     ensures unread { IsOutOfReach buffers.old.cache.geometry
         (option_map (λ e. e.0) end) from.position → disk.new ≡ disk.old }
     ensures last_page { HoldsLastPage buffers.old.cache.number
@@ -102,13 +105,11 @@ fn read_given<D: Disk>(
     ensures cause { HasFailureCause (D.faults disk.old) (D.faults disk.new) result }
 {
     let mut at = from;
-    let mut spare = spare;
     'records: loop {
-        let (found, behind) = read_record(alloc, spare, buffers, disk, end, at, ready)?;
+        let (found, behind) = read_record(alloc, value, buffers, disk, end, at, ready)?;
         if found.start.0 >= start.0 {
             return Ok((found, behind));
         }
         at = behind;
-        spare = found.value.main.into_vec();
     }
 }

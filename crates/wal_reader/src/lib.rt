@@ -31,4 +31,4 @@ pub use laws::{
     switches_end_their_segment,
 };
 pub use log_reader::Reader;
-pub use standing::{ReadErr, Step};
+pub use standing::{Comes, ReadErr, Step};

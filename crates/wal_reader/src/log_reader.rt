@@ -13,11 +13,11 @@ use crate::buffers::{Buffers, set_up};
 use crate::given::next_given;
 use crate::page_cursor::PageCursor;
 use crate::read_failure::ReadFailure;
-use crate::standing::{ReadErr, Standing, Step, told};
+use crate::standing::{Comes, ReadErr, Standing, Step, step_with, told};
 use byte_position::Geometry;
 use segment_disk::Disk;
 use std::alloc::Global;
-use wal_types::Lsn;
+use wal_types::{Lsn, Record};
 
 /// Reads the records of a disk's log, one behind another.
 #[derive(Drop)]
@@ -42,6 +42,7 @@ impl Reader {
     ghost use Rattle.wal_reader.specs.Pages.{Pages};
     ghost use Rattle.wal_reader.specs.PageCursor.{IsLogOf};
     ghost use Rattle.wal_reader.specs.LogReader.{HoldsNoPage, Knows, LeavesReader, NeedsNoPage, OnEnd, StandsAfter, reader_page, reader_state};
+    ghost use Rattle.wal_reader.specs.Filled.{step_with};
     ghost use Rattle.wal_reader.specs.Spelled.{GivesSpelled};
     ghost use Rattle.wal_reader.specs.Standings.{HasReadCause, IsToldAgain};
     ghost use Rattle.wal_reader.specs.StepIn.{IsStepIn};
@@ -94,33 +95,38 @@ impl Reader {
         ensures uncalled { IsUncalled D.tape D.moment disk.old disk.new }
         ensures cause { HasReadCause (D.faults disk.old) (D.faults disk.new) result }
     {
-        self.next_into(alloc, disk, Vec::new(alloc))
+        let mut value = Record::blank(alloc);
+        let comes = self.next_into(alloc, disk, &mut value);
+        step_with(value, comes)
     }
 
-    /// `next`, with the record's main data put into a vector that the caller has, whatever it held.
-    /// Who gives the vector of a record that it is done with takes no memory for the next one.
+    /// `next`, with the record put into one that the caller has, whatever it held: where its room is
+    /// large enough no memory is taken for main data. Where no record comes it means nothing.
     #[inline(always)]
     pub fn next_into<D: Disk>(
         &mut self,
         alloc: Global,
         disk: &mut D,
-        spare: Vec<u8>,
-    ) -> Result<Step, ReadErr>
-        // As of `next`, whatever the vector held.
+        value: &mut Record,
+    ) -> Result<Comes, ReadErr>
+        // As of `next`, by the step that they make together.
         ensures gives { (pages : Pages) → IsLogOf (D.tape disk.old)
             (reader_state self.old).size pages → Knows self.old pages
-            → IsStepIn pages self.old self.new result }
-        ensures leaves { LeavesReader (reader_state self.old) (reader_state self.new) result }
+            → IsStepIn pages self.old self.new (step_with value.new result) }
+        ensures leaves { LeavesReader (reader_state self.old) (reader_state self.new)
+            (step_with value.new result) }
         ensures behind { StandsAfter (reader_state self.old).size
-            (reader_state self.new).standing result }
-        ensures forgets { OnEnd result (HoldsNoPage self.new) }
+            (reader_state self.new).standing (step_with value.new result) }
+        ensures forgets { OnEnd (step_with value.new result) (HoldsNoPage self.new) }
         ensures unread { NeedsNoPage (reader_state self.old) (reader_page self.old)
             self.old.standing → disk.new ≡ disk.old }
-        ensures spelled { IfOk result GivesSpelled }
-        ensures stopped { IsToldAgain (reader_state self.old).standing result disk.old disk.new }
+        ensures spelled { IfOk (step_with value.new result) GivesSpelled }
+        ensures stopped { IsToldAgain (reader_state self.old).standing (step_with value.new result)
+            disk.old disk.new }
 
         ensures uncalled { IsUncalled D.tape D.moment disk.old disk.new }
-        ensures cause { HasReadCause (D.faults disk.old) (D.faults disk.new) result }
+        ensures cause { HasReadCause (D.faults disk.old) (D.faults disk.new)
+            (step_with value.new result) }
     {
         let from = match self.standing {
             Standing::NotBegun => None,
@@ -133,7 +139,7 @@ impl Reader {
         };
         match next_given(
             alloc,
-            spare,
+            value,
             buffers,
             disk,
             self.start,
@@ -143,12 +149,11 @@ impl Reader {
         ) {
             Ok((found, behind)) => {
                 self.standing = Standing::At(behind);
-                Ok(Step::Record {
+                Ok(Comes::Record {
                     start: found.start,
                     end: found.end,
                     prev: found.prev,
                     total: found.total,
-                    value: found.value,
                 })
             }
             Err(ReadFailure::Told(answer)) => {

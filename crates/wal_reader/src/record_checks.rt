@@ -11,13 +11,14 @@ ghost use Rattle.wal_page.specs.Page.{first_fault};
 ghost use Rattle.record_spelling.specs.Numbers.{number_at};
 ghost use Rattle.record_decode.specs.Reading.{reading_of};
 ghost use Rattle.wal_reader.specs.Decodes.{crc_rows, header_rows, next_position};
+ghost use Rattle.wal_reader.specs.Filled.{read_with};
 ghost use Rattle.wal_reader.specs.ReadAt.{found_or};
 ghost use Rattle.wal_reader.specs.RecordRead.{behind_read, without_place};
 ghost use Rattle.wal_reader.specs.Spelled.{IsSpelled};
 ghost use Rattle.wal_reader.specs.ReadFailures.{Passes};
 
 use crate::answers::damaged;
-use crate::found::{Answer, DamageKind, FoundRecord, Stopped};
+use crate::found::{Answer, DamageKind, FoundHead, Stopped};
 use crate::layout::{CRC_AT, PREV_AT};
 use crate::numbers::{u32_at, u64_at};
 use crate::record_extent::RecordExtent;
@@ -28,7 +29,7 @@ use record_spelling::is_free_manager;
 use record_spelling::layout::{HEADER_LEN, RMID_AT};
 use std::alloc::{AllocError, Global};
 use wal_crc32c::Crc;
-use wal_types::Lsn;
+use wal_types::{Lsn, Record};
 
 /// Whether a header has a manager that there is, and names the right record before it (PostgreSQL's
 /// ValidXLogRecordHeader of xlogreader.c).
@@ -63,20 +64,19 @@ pub(crate) fn check_crc(start: Lsn, bytes: &[u8]) -> Result<(), Answer>
 }
 
 /// What the bytes of a record say, and the place behind it: `timeline` is that of the page in which
-/// it ends. The record's main data is put into `spare`, and the heads of its blocks are read into
-/// `heads`.
+/// it ends. The record is put into `value`, and the heads of its blocks are read into `heads`.
 #[tactic(auto, unfolding(crate::specs::Spelled::IsSpelled))]
 #[inline(always)]
 pub(crate) fn found(
     alloc: Global,
-    spare: Vec<u8>,
+    value: &mut Record,
     geometry: Geometry,
     start: Lsn,
     extent: RecordExtent,
     timeline: u32,
     bytes: &[u8],
     heads: &mut Vec<BlockHead>,
-) -> Result<Result<(FoundRecord, RecordPlace), Answer>, AllocError>
+) -> Result<Result<(FoundHead, RecordPlace), Answer>, AllocError>
     // The bytes are as many as the record claims, and whatever they say, the next record starts low
     // enough to have an address.
     requires at { extent.at.position < 2 ^ 60 }
@@ -86,24 +86,25 @@ pub(crate) fn found(
     requires end { (value : Record)
         → next_position geometry extent.at.position extent.total value < 2 ^ 60 }
     // What the bytes spell, or why they spell nothing; with the record's place.
-    ensures read { IfOk result (λ said. without_place said ≡ found_or geometry extent.at
-        extent.total (number_at w64 bytes.now 8) (reading_of bytes.now)) }
-    ensures spelled { IfOk result (λ said. IfOk said (λ read. IsSpelled read.0)) }
+    ensures read { IfOk result (λ said. without_place (read_with value.new said)
+        ≡ found_or geometry extent.at extent.total (number_at w64 bytes.now 8)
+        (reading_of bytes.now)) }
+    ensures spelled { IfOk result (λ said. IfOk (read_with value.new said)
+        (λ read. IsSpelled read.0)) }
     ensures start { IfOk result (λ said. IfOk said (λ read. read.0.start ≡ start)) }
     ensures end { IfOk result (λ said. IfOk said (λ read. read.0.end.0
         ≡ end_address_of geometry read.1.position)) }
-    ensures behind { IfOk result (λ said. IfOk said (λ read. read.1
+    ensures behind { IfOk result (λ said. IfOk (read_with value.new said) (λ read. read.1
         ≡ behind_read geometry extent.at read.0 extent.total timeline)) }
 {
-    match decode_into(alloc, heads, spare, bytes) {
-        Ok(value) => {
-            let next = extent.next_position(geometry, &value);
-            let found = FoundRecord {
+    match decode_into(alloc, heads, value, bytes) {
+        Ok(()) => {
+            let next = extent.next_position(geometry, value);
+            let found = FoundHead {
                 start,
                 end: extent.end(geometry, start, next),
                 prev: Lsn(u64_at(bytes, PREV_AT)),
                 total: extent.total,
-                value,
             };
             let behind = RecordPlace {
                 position: next,

@@ -22,11 +22,12 @@ ghost use Rattle.wal_reader.specs.Ready.{IsReadyAt};
 ghost use Rattle.wal_reader.specs.ReadsOn.{ReadsOn};
 ghost use Rattle.wal_reader.specs.RecordRead.{IsRead, said_of};
 ghost use Rattle.wal_reader.specs.RecordPlace.{IsOutOfReach, IsReachable};
+ghost use Rattle.wal_reader.specs.Filled.{read_with};
 ghost use Rattle.wal_reader.specs.ReadFailures.{HasFailureCause, IsNoDiskFault};
 
 use crate::answers::end_of_log;
 use crate::buffers::Buffers;
-use crate::found::FoundRecord;
+use crate::found::FoundHead;
 use crate::gathering::{Gathering, gather};
 use crate::layout::PAGE_LEN;
 use crate::page_cache::PageCache;
@@ -40,29 +41,30 @@ use record_decode::BlockHead;
 use record_spelling::layout::HEADER_LEN;
 use segment_disk::Disk;
 use std::alloc::Global;
-use wal_types::Lsn;
+use wal_types::{Lsn, Record};
 
 /// Reads the record at a place, and answers it with the place behind it, or what stands
 /// in its place. Where an end was given, nothing at or above it is read. Whatever size a record
-/// claims, the room takes no more of it than what pages have that passed their checks. The record's
-/// main data is put into `spare`. `ready` tells where the record stands, if that is known, and then
+/// claims, the room takes no more of it than what pages have that passed their checks. The record
+/// is put into `value`. `ready` tells where the record stands, if that is known, and then
 /// where the next one does.
 #[inline(always)]
 pub(crate) fn read_record<D: Disk>(
     alloc: Global,
-    spare: Vec<u8>,
+    value: &mut Record,
     buffers: &mut Buffers,
     disk: &mut D,
     end: Option<Lsn>,
     at: RecordPlace,
     ready: &mut Option<PageCursor>,
-) -> Result<(FoundRecord, RecordPlace), ReadFailure>
+) -> Result<(FoundHead, RecordPlace), ReadFailure>
     requires reachable { IsReachable at }
     requires ready { IsReadyAt buffers.old.cache at ready.old }
     ensures ready { MatchResult result (λ r. IsReadyAt buffers.new.cache r.1 ready.new)
         (λ _. ready.new ≡ None) }
     // At Ok the place behind is where the next record would start.
-    ensures answered { IfOk result (IsAnswered (Some at) buffers.old.cache.geometry) }
+    ensures answered { IfOk (read_with value.new result)
+        (IsAnswered (Some at) buffers.old.cache.geometry) }
     ensures rises { IfOk result (λ r. address_of buffers.old.cache.geometry at.position
         ≤ address_of buffers.old.cache.geometry r.1.position) }
     // Where nothing is to be read, or all that may be is held already, the disk is untouched.
@@ -74,7 +76,7 @@ pub(crate) fn read_record<D: Disk>(
     // It answers what is computed of these pages at this place.
     ensures reads { (pages : Pages) → Sees (D.tape disk.old) buffers.old.cache pages
         → IsReadIn buffers.old.cache.geometry pages (option_map (λ end. end.0) end) at
-        buffers.old.room.items buffers.new.room.items result }
+        buffers.old.room.items buffers.new.room.items (read_with value.new result) }
 
     ensures reads_on { ReadsOn D.tape D.moment disk.old disk.new
         buffers.old.cache buffers.new.cache }
@@ -89,12 +91,12 @@ pub(crate) fn read_record<D: Disk>(
     let extent = claimed(&buffers.cache, cursor, at, end)?;
     if extent.total <= PAGE_LEN - cursor.offset {
         let opened = Gathering { extent, cursor };
-        let whole = read_in_page(alloc, spare, &buffers.cache, opened, &mut buffers.heads)?;
+        let whole = read_in_page(alloc, value, &buffers.cache, opened, &mut buffers.heads)?;
         *ready = ready_behind(&buffers.cache, opened, whole.1);
         Ok(whole)
     } else {
         // Told anew, so that the room of this call's answer is not that of the other's.
-        let read = read_over_pages(alloc, spare, buffers, disk, Gathering { extent, cursor })?;
+        let read = read_over_pages(alloc, value, buffers, disk, Gathering { extent, cursor })?;
         Ok(read)
     }
 }
@@ -103,21 +105,22 @@ pub(crate) fn read_record<D: Disk>(
 #[inline(always)]
 fn read_in_page(
     alloc: Global,
-    spare: Vec<u8>,
+    value: &mut Record,
     cache: &PageCache,
     opened: Gathering,
     heads: &mut Vec<BlockHead>,
-) -> Result<(FoundRecord, RecordPlace), ReadFailure>
+) -> Result<(FoundHead, RecordPlace), ReadFailure>
     requires opened { IsOpened cache.now opened }
     requires within { opened.cursor.offset + opened.extent.total ≤ 8192 }
     requires whole { IsPage cache.now.bytes.value }
-    ensures answered { IfOk result (IsAnswered (Some opened.extent.at) cache.now.geometry) }
+    ensures answered { IfOk (read_with value.new result)
+        (IsAnswered (Some opened.extent.at) cache.now.geometry) }
     ensures timeline { IfOk result (λ r. r.1.timeline ≡ opened.cursor.timeline) }
     ensures reads { (pages : Pages) → pages opened.cursor.page ≡ Some cache.now.bytes.value
         → IsRead cache.now.geometry pages opened.extent.at
         (said_of cache.now.geometry pages opened.extent.at opened.extent.total
         (first_fault (rest_rows cache.now.geometry pages
-        opened.extent.at opened.extent.total))) result }
+        opened.extent.at opened.extent.total))) (read_with value.new result) }
     ensures no_disk { IfErr result IsNoDiskFault }
 {
     let Gathering { extent, cursor } = opened;
@@ -127,7 +130,7 @@ fn read_in_page(
     check_crc(start, bytes)?;
     let read = found(
         alloc,
-        spare,
+        value,
         cache.geometry,
         start,
         extent,
@@ -151,14 +154,14 @@ fn part_of_page(page: &[u8; 8192], offset: u32, count: u32) -> &[u8]
 #[inline(never)]
 fn read_over_pages<D: Disk>(
     alloc: Global,
-    spare: Vec<u8>,
+    value: &mut Record,
     buffers: &mut Buffers,
     disk: &mut D,
     opened: Gathering,
-) -> Result<(FoundRecord, RecordPlace), ReadFailure>
+) -> Result<(FoundHead, RecordPlace), ReadFailure>
     requires { IsOpened buffers.old.cache opened }
     // As of `read_record`, for a record that goes on on further pages.
-    ensures answered { IfOk result
+    ensures answered { IfOk (read_with value.new result)
         (IsAnswered (Some opened.extent.at) buffers.old.cache.geometry) }
     ensures beyond { 2 ^ 47 ≤ opened.cursor.page + 1
         → (disk.new ≡ disk.old) × (buffers.new.cache ≡ buffers.old.cache) }
@@ -166,7 +169,7 @@ fn read_over_pages<D: Disk>(
         → IsRead buffers.old.cache.geometry pages opened.extent.at
         (said_of buffers.old.cache.geometry pages opened.extent.at opened.extent.total
         (first_fault (rest_rows buffers.old.cache.geometry pages
-        opened.extent.at opened.extent.total))) result }
+        opened.extent.at opened.extent.total))) (read_with value.new result) }
     ensures room { (pages : Pages) → Sees (D.tape disk.old) buffers.old.cache pages
         → HoldsPassed buffers.old.cache.geometry pages opened.extent.at opened.extent.total
         (address_of buffers.old.cache.geometry opened.extent.at.position / 8192)
@@ -187,7 +190,7 @@ fn read_over_pages<D: Disk>(
     let timeline = cursor.timeline;
     let read = found(
         alloc,
-        spare,
+        value,
         geometry,
         start,
         extent,

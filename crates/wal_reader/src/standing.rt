@@ -2,6 +2,8 @@
 //! log may go on there later. Damage is no end of the log, and is told from then on.
 
 ghost use Rattle.std.specs.Prelude.{◌≡◌};
+ghost use Rattle.wal_types.specs.declared.record.Record.{Record};
+ghost use Rattle.wal_reader.specs.Filled.{step_with};
 ghost use Rattle.wal_reader.specs.Standings.{standing_after, told};
 
 use crate::found::{Answer, Stopped};
@@ -55,6 +57,22 @@ pub enum Step {
     },
 }
 
+/// What a step of reading gives whose record is put into one that the caller has.
+#[derive(Clone, Copy, Debug, PartialEq, Eq)]
+pub enum Comes {
+    /// The next record was put, and stands here; as of `Step::Record`.
+    Record {
+        start: Lsn,
+        end: Lsn,
+        prev: Lsn,
+        total: u32,
+    },
+    /// As of `Step::End`.
+    End {
+        at: Lsn,
+    },
+}
+
 /// Why a step of reading gives nothing.
 #[derive(Clone, Copy, Debug, PartialEq, Eq, Error)]
 pub enum ReadErr {
@@ -78,12 +96,36 @@ impl From<AllocError> for ReadErr {
     }
 }
 
+/// A step that put its record into this one, as a step that gives it.
+pub(crate) fn step_with(value: Record, comes: Result<Comes, ReadErr>) -> Result<Step, ReadErr>
+    ensures { result ≡ step_with value comes }
+{
+    match comes {
+        Ok(
+            Comes::Record {
+                start,
+                end,
+                prev,
+                total,
+            },
+        ) => Ok(Step::Record {
+            start,
+            end,
+            prev,
+            total,
+            value,
+        }),
+        Ok(Comes::End { at }) => Ok(Step::End { at }),
+        Err(error) => Err(error),
+    }
+}
+
 /// An answer as a step tells it.
-pub(crate) fn told(answer: Answer) -> Result<Step, ReadErr>
-    ensures { result ≡ told answer }
+pub(crate) fn told(answer: Answer) -> Result<Comes, ReadErr>
+    ensures { (value : Record) → step_with value result ≡ told answer }
 {
     match answer {
-        Answer::End { at } => Ok(Step::End { at }),
+        Answer::End { at } => Ok(Comes::End { at }),
         Answer::Stopped(stopped) => Err(ReadErr::Stopped(stopped)),
     }
 }

@@ -11,6 +11,7 @@
 
 pub mod beginnings;
 mod closing;
+mod company;
 mod device;
 pub mod downs;
 mod found;
@@ -34,6 +35,7 @@ mod turns;
 mod unbegun;
 mod writer;
 
+pub use company::Company;
 pub use found::{FoundEntries, PicksEntries};
 pub use opening::OpenErr;
 pub use pass::Pass;

@@ -13,6 +13,7 @@ ghost use Rattle.wal_rule.specs.Stepping.{IsSeatOf};
 ghost use Rattle.wal_rule.specs.SeatedPasses.{hand_of, view_of};
 ghost use Rattle.wal_rule.specs.Tables.{IsPassOn};
 
+use crate::company::Company;
 use crate::seated::SeatedPass;
 use crate::seats::PassView;
 use crate::table::{LogSeat, LogTable};
@@ -28,6 +29,7 @@ pub struct Pass {
     pub number: u32,
     pub spare: u32,
     pub spare_end: u32,
+    pub company: Company,
 }
 
 impl Pass {
@@ -44,6 +46,7 @@ impl Pass {
             number,
             spare,
             spare_end,
+            company: Company::new(),
         }
     }
 

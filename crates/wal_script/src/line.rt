@@ -1,22 +1,22 @@
 ghost use Rattle.std.specs.Prelude.{◌≡◌};
 
-use record_spelling::Body;
+use record_spelling::KeptBody;
 
 /// What a line asks for, with its record assembled.
 #[derive(Debug, Drop)]
 pub enum Action<'a> {
     /// Insert this record.
-    Insert(Body<'a>),
+    Insert(KeptBody<'a>),
     /// Insert this commit's record, then flush to its end.
-    Commit(Body<'a>),
+    Commit(KeptBody<'a>),
     /// Flush to the end of the backend's last record.
     Flush,
     /// Insert this commit's record, and answer before it is durable.
-    CommitAsync(Body<'a>),
+    CommitAsync(KeptBody<'a>),
     /// Flush behind, as a log writer does: whole pages first, else what was answered.
     WriteBehind,
     /// End the segment with this record, unless the log stands at a segment's start.
-    Switch(Body<'a>),
+    Switch(KeptBody<'a>),
 }
 
 /// A line of a script. Lines are numbered from 1, all of them.

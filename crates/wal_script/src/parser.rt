@@ -9,7 +9,7 @@ use crate::line::{Action, Line, Refusal, ScriptFault};
 use crate::line_error::LineError;
 use crate::records::{commit, insert};
 use crate::rooms::{LinesRead, Rooms};
-use record_spelling::Body;
+use record_spelling::{Body, KeptBody};
 use std::alloc::{AllocError, AllocFailed, Global};
 use text_parts::Parts;
 
@@ -190,7 +190,8 @@ fn other_action<'a>(
         }
         b"W" => {
             no_more(fields)?;
-            Ok(Action::Switch(Body::switch(alloc)))
+            let body = KeptBody::boxed(alloc, Body::switch(alloc))?;
+            Ok(Action::Switch(body))
         }
         b"B" => Err(LineError::Fault(ScriptFault::Backends)),
         _ => Err(LineError::Fault(ScriptFault::Word)),

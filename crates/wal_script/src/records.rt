@@ -12,7 +12,7 @@ use crate::line::{Action, Line, ScriptFault};
 use crate::line_error::LineError;
 use crate::rooms::{LinesRead, Rooms};
 use bumpalo::Bump;
-use record_spelling::{Body, FRONT, spell_plain_in};
+use record_spelling::{Body, FRONT, KeptBody, spell_plain_in};
 use std::alloc::{AllocError, Global};
 use std::mem;
 use text_parts::Parts;
@@ -89,7 +89,7 @@ fn clear_to_front(room: &mut Vec<u8>) -> Result<(), AllocError>
     Ok(())
 }
 
-// The same of data in its room, in an arena. The body is made where it is to lie, since it is large.
+// The same of data in its room, in an arena, into which its body goes too.
 #[inline(always)]
 fn insert_plain_in<'a>(
     bump: &'a Bump,
@@ -105,7 +105,10 @@ fn insert_plain_in<'a>(
     let Header { xid, rmid, info } = header;
     let bytes = spell_plain_in(bump, &mut read.rooms.spelled, rmid, info)?;
     read.lines.reserve(1)?;
-    let body = Body::of_plain_in(xid, rmid, info, &read.rooms.spelled[FRONT..], bytes);
+    let main = &read.rooms.spelled[FRONT..];
+    let Ok(body) = KeptBody::of_plain_in(bump, xid, rmid, info, main, bytes) else {
+        return Err(LineError::Memory);
+    };
     read.lines.push_reserved(Line {
         number,
         action: Action::Insert(body),
@@ -113,7 +116,7 @@ fn insert_plain_in<'a>(
     Ok(())
 }
 
-// The same with bytes of its own.
+// The same with bytes of its own, in a box.
 #[inline(never)]
 fn insert_plain_alone<'a>(
     alloc: Global,
@@ -128,6 +131,7 @@ fn insert_plain_alone<'a>(
 {
     let Header { xid, rmid, info } = header;
     let body = Body::assemble_plain(alloc, xid, rmid, info, &read.rooms.spelled[FRONT..])?;
+    let body = KeptBody::boxed(alloc, body)?;
     read.push(number, Action::Insert(body))?;
     Ok(())
 }
@@ -158,7 +162,7 @@ fn with_blocks<'a>(
     rooms: &mut Rooms<'a>,
     header: Header,
     fields: Parts,
-) -> Result<Body<'a>, LineError>
+) -> Result<KeptBody<'a>, LineError>
     ensures { JudgesBody result (insert_with header.xid header.rmid header.info
         rooms.old.data.items fields.entry) }
 {
@@ -182,12 +186,12 @@ fn assembled<'a>(
     alloc: Global,
     rooms: &mut Rooms<'a>,
     value: &Record,
-) -> Result<Body<'a>, LineError>
+) -> Result<KeptBody<'a>, LineError>
     ensures { JudgesBody result (accepted value.now) }
 {
     match rooms.arena {
-        Some(bump) => Ok(Body::assemble_in(bump, &mut rooms.spelled, value)?),
-        None => Ok(Body::assemble(alloc, value)?),
+        Some(bump) => Ok(KeptBody::assemble_in(bump, &mut rooms.spelled, value)?),
+        None => Ok(KeptBody::boxed(alloc, Body::assemble(alloc, value)?)?),
     }
 }
 
@@ -206,7 +210,7 @@ pub(crate) fn commit<'a>(
     alloc: Global,
     rooms: &mut Rooms<'a>,
     fields: Parts,
-) -> Result<Body<'a>, LineError>
+) -> Result<KeptBody<'a>, LineError>
     ensures { JudgesBody result (commit_of fields.entry) }
 {
     let value = record_of_commit(alloc, taken(alloc, &mut rooms.data), fields)?;

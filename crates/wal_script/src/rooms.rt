@@ -9,7 +9,8 @@ use std::alloc::{AllocError, Global};
 /// Where the records of lines are spelled, and where their bytes lie.
 #[derive(Drop)]
 pub(crate) struct Rooms<'a> {
-    /// The arena in which the bytes of bodies lie; each body has its own where there is none.
+    /// The arena in which bodies lie, with their bytes; where there is none each has a box, and
+    /// bytes of its own.
     pub arena: Option<&'a Bump>,
     /// The data of a line.
     pub data: Vec<u8>,

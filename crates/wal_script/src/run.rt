@@ -15,7 +15,7 @@ use std::alloc::{AllocError, Global};
 
 /// Reads the script of a run: the lines of each backend, parted by lines `B`; or its first refusal,
 /// by line and then by field from the left. There are from 1 to 64 backends. A line `S` is no line
-/// of a run. The bytes of the records' bodies lie in the arena.
+/// of a run. The bodies of the records lie in the arena, with their bytes.
 ///
 /// Where the run has a log writer, its lines stand last, as many as are asked for: each flushes
 /// behind. It is a backend more, and refused at the script's last line where the script has 64.

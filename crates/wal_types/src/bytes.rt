@@ -1,5 +1,6 @@
-ghost use Rattle.std.specs.Prelude.{◌≡◌, ℕ, List};
+ghost use Rattle.std.specs.Prelude.{◌≡◌, ℕ, List, [], OnOk};
 
+use std::alloc::{AllocError, Global};
 use std::marker::Model;
 
 /// Bytes that a record holds, seen by contracts as a list.
@@ -20,6 +21,24 @@ impl Bytes {
         ensures { result ≡ bytes.items }
     {
         Bytes { bytes }
+    }
+
+    /// No bytes; no memory is taken for it.
+    pub fn none(alloc: Global) -> Bytes
+        ensures { result ≡ [] }
+    {
+        Bytes {
+            bytes: Vec::new(alloc),
+        }
+    }
+
+    /// Holds other bytes from now on, in the room that it has where they fit there. Behind a want of
+    /// memory it may hold none.
+    pub fn put(&mut self, bytes: &[u8]) -> Result<(), AllocError>
+        ensures { OnOk result (self.new ≡ bytes.now) }
+    {
+        self.bytes.clear();
+        self.bytes.extend_from_slice(bytes)
     }
 
     /// The vector that holds the bytes, with what room it has.

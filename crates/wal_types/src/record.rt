@@ -1,6 +1,7 @@
-ghost use Rattle.std.specs.Prelude.{◌≡◌, List};
+ghost use Rattle.std.specs.Prelude.{◌≡◌, ◌++◌, ◌∷◌, [], List, OnOk};
 
 use crate::bytes::Bytes;
+use std::alloc::{AllocError, Global};
 use std::marker::Model;
 
 /// A transaction's number.
@@ -68,6 +69,30 @@ impl BlockList {
         BlockList { blocks }
     }
 
+    /// No blocks; no memory is taken for it.
+    pub fn none(alloc: Global) -> BlockList
+        ensures { result ≡ [] }
+    {
+        BlockList {
+            blocks: Vec::new(alloc),
+        }
+    }
+
+    /// Has no blocks from now on, and keeps the room of its list.
+    pub fn clear(&mut self)
+        ensures { self.new ≡ [] }
+    {
+        self.blocks.clear();
+    }
+
+    /// Has one block more, behind the others.
+    pub fn push(&mut self, block: Block) -> Result<(), AllocError>
+        ensures { OnOk result (self.new ≡ self.old ++ block ∷ []) }
+    {
+        self.blocks.push(block)?;
+        Ok(())
+    }
+
     pub fn as_slice(&self) -> &[Block]
         ensures { result.now ≡ self.now }
     {
@@ -97,4 +122,19 @@ pub struct Record {
     pub blocks: BlockList,
     /// The main data.
     pub main: Bytes,
+}
+
+impl Record {
+    /// A record that says nothing, for whoever has it filled; no memory is taken for it.
+    pub fn blank(alloc: Global) -> Record {
+        Record {
+            xid: Xid(0),
+            rmid: 0,
+            info: 0,
+            origin: None,
+            top_xid: None,
+            blocks: BlockList::none(alloc),
+            main: Bytes::none(alloc),
+        }
+    }
 }

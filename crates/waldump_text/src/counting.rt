@@ -3,7 +3,7 @@ ghost use Rattle.segment_disk.specs.Tape.{IsUncalled};
 ghost use Rattle.waldump_text.specs.Counting.{HasTallyCause, IsTally};
 ghost use Rattle.waldump_text.specs.Tally.{TallyFits};
 
-use crate::steps::listed_in;
+use crate::steps::{blank, put_head};
 use crate::sums::Tally;
 use byte_position::Geometry;
 use listing_filter::Filter;
@@ -28,16 +28,15 @@ pub(crate) fn tally_log<D: Disk>(
     let _size = geometry.segment_size();
     let mut reader = Reader::new(geometry, filter.start, filter.end);
     let mut tally = Tally::new();
-    let mut spare = Vec::new(alloc);
+    let mut listed = blank(alloc);
     'records: while !filter.is_full(tally.all.records) {
-        let step = reader.next_into(alloc, disk, spare)?;
-        let Some(listed) = listed_in(step) else {
+        let step = reader.next_into(alloc, disk, &mut listed.value)?;
+        let Some(()) = put_head(&mut listed, step) else {
             return Ok(tally);
         };
         if filter.keeps(&listed) {
             tally.add(&listed);
         }
-        spare = listed.value.main.into_vec();
     }
     Ok(tally)
 }

@@ -10,7 +10,7 @@ use crate::line_buffer::LineBuffer;
 use crate::lines::put_line;
 use crate::putting::SinkFault;
 use crate::statistics::put_tally;
-use crate::steps::listed_in;
+use crate::steps::{blank, put_head};
 use crate::sums::Tally;
 use byte_position::Geometry;
 use listing_filter::{Filter, Listed};
@@ -95,18 +95,17 @@ fn dump_lines<D: Disk, O: Sink>(
     let _size = geometry.segment_size();
     let mut reader = Reader::new(geometry, filter.start, filter.end);
     let mut buffer = LineBuffer::new();
-    let mut spare = Vec::new(alloc);
+    let mut listed = blank(alloc);
     let mut count = 0;
     'records: while !filter.is_full(count) {
-        let step = reader.next_into(alloc, disk, spare)?;
-        let Some(listed) = listed_in(step) else {
+        let step = reader.next_into(alloc, disk, &mut listed.value)?;
+        let Some(()) = put_head(&mut listed, step) else {
             return Ok(count);
         };
         if filter.keeps(&listed) {
             print(&mut buffer, filter, &listed, out)?;
             count += 1;
         }
-        spare = listed.value.main.into_vec();
     }
     Ok(count)
 }

@@ -1,13 +1,13 @@
 //! The payload of a record: each block's image, then its data, and the main data last.
 
-ghost use Rattle.std.specs.Prelude.{◌≡◌, ◌+◌, ◌≤◌, length, IfErr, IfOk};
+ghost use Rattle.std.specs.Prelude.{◌≡◌, ◌+◌, ◌≤◌, length, IfErr, IfOk, OnOk};
 ghost use Rattle.std.specs.List.{sum_by};
 ghost use Rattle.record_decode.specs.Reading.{block_of, blocks_read, image_len, image_read, main_of, payload_len};
 
 use crate::fault::RecErr;
 use crate::head::{BlockHead, ImageHead};
 use std::alloc::{AllocError, Global};
-use wal_types::{Block, Bytes, Image};
+use wal_types::{Block, BlockList, Bytes, Image};
 
 fn image_of(
     alloc: Global,
@@ -45,23 +45,25 @@ fn block_of(alloc: Global, head: BlockHead, bytes: &[u8]) -> Result<Block, Alloc
     })
 }
 
-/// The blocks of these headers, and what stands behind them in the payload.
-pub(super) fn blocks_of<'a>(
+/// Puts the blocks of these headers into a list, in place of those that it had, and answers what
+/// stands behind them in the payload.
+pub(super) fn put_blocks<'a>(
     alloc: Global,
+    blocks: &mut BlockList,
     heads: &[BlockHead],
     payload: &'a [u8],
-) -> Result<(Vec<Block>, &'a [u8]), RecErr>
+) -> Result<&'a [u8], RecErr>
     requires { sum_by payload_len heads.now ≤ length payload.now }
-    ensures blocks { IfOk result (λ x. x.0.items ≡ blocks_read heads.now payload.now) }
+    ensures blocks { OnOk result (blocks.new ≡ blocks_read heads.now payload.now) }
     ensures memory { IfErr result (λ e. e ≡ RecErr.Memory) }
-    ensures main { IfOk result (λ x. x.1.now ≡ main_of heads.now payload.now) }
+    ensures main { IfOk result (λ rest. rest.now ≡ main_of heads.now payload.now) }
 {
-    let mut blocks = Vec::new(alloc);
+    blocks.clear();
     let mut rest = payload;
     for head in heads {
         let (bytes, behind) = rest.split_at(head.payload_len() as usize);
         blocks.push(block_of(alloc, *head, bytes)?)?;
         rest = behind;
     }
-    Ok((blocks, rest))
+    Ok(rest)
 }

@@ -1,8 +1,7 @@
 -- An answer is counted where it says that a commit is durable.
 use Rattle.std.proofs.Common.{◌∙◌, ap, arith, if◌then◌else◌, sym, take}
 use Rattle.std.proofs.lemmas.List.{length-take}
-use Rattle.wal_types.specs.declared.lsn.Lsn.{Lsn}
-use Rattle.told_lines.specs.declared.told.Told.TheVariants.{Wrote}
+use Rattle.told_lines.specs.Counts.{is_hard}
 use Rattle.told_lines.proofs.AnswerCounts.{commits_of-le}
 use Rattle.told_lines.proofs.AnswerLoops.{commits_of_step}
 use Rattle.backend_cli.proofs.run.commits_in.Goals.{then-is_hard, else-is_hard}
@@ -17,10 +16,11 @@ pub loop-answer-preserved : goal.loop-answer-preserved
 loop-answer-preserved c =
     let told = c.args.told.now in
     let i = c.loop-answer.answer-index in
-    let none : Lsn = record { 0 = 0 } in
+    let item = c.answer-item.result in
+    let hard = c.is_hard.ensures ∙ ap is_hard c.answer-item.is in
     elim c.if-is_hard.branch [
       | then-is_hard w ↦
-          commits_of_step told i c.loop-answer.count c.if-is_hard.count 1 (Wrote none none) c.loop-answer-test.true c.loop-answer.invariant (ap (λ b. if b then 1 else 0) (sym w.if-is_hard.true) ∙ c.is_hard.ensures) w.count-is
+          commits_of_step told i c.loop-answer.count c.if-is_hard.count 1 item c.loop-answer-test.true c.loop-answer.invariant (ap (λ b. if b then 1 else 0) (sym w.if-is_hard.true) ∙ hard) w.count-is
       | else-is_hard w ↦
-          commits_of_step told i c.loop-answer.count c.if-is_hard.count 0 (Wrote none none) c.loop-answer-test.true c.loop-answer.invariant (ap (λ b. if b then 1 else 0) (sym w.if-is_hard.false) ∙ c.is_hard.ensures) (omega (arith, w.count-is))
+          commits_of_step told i c.loop-answer.count c.if-is_hard.count 0 item c.loop-answer-test.true c.loop-answer.invariant (ap (λ b. if b then 1 else 0) (sym w.if-is_hard.false) ∙ hard) (omega (arith, w.count-is))
     ]

@@ -2,8 +2,8 @@
 use Rattle.std.proofs.Common.{take, ap, sym, ◌∙◌, arith}
 use Rattle.std.proofs.lemmas.List.{length-take}
 use Rattle.std.specs.Option.{is_some}
-use Rattle.wal_types.specs.declared.lsn.Lsn.{Lsn}
-use Rattle.told_lines.specs.declared.told.Told.TheVariants.{Wrote}
+use Rattle.told_lines.specs.declared.told.Told.{Told}
+use Rattle.told_lines.specs.Told.{reserved_by}
 use Rattle.told_lines.proofs.AnswerCounts.{reserved_count-le}
 use Rattle.told_lines.proofs.AnswerLoops.{reserved_count_more, reserved_count_same}
 use Rattle.backend_cli.proofs.run.records_in.Goals.{then-is_some, else-is_some}
@@ -18,9 +18,10 @@ pub loop-answer-preserved : goal.loop-answer-preserved
 loop-answer-preserved c =
     let told = c.args.told.now in
     let i = c.loop-answer.answer-index in
-    let is = sym (ap is_some c.reserved.ensures) ∙ sym c.is_some.ensures in
-    let none : Lsn = record { 0 = 0 } in
+    let item = c.answer-item.result in
+    let is = ap (λ (answer : Told). is_some (reserved_by answer)) (sym c.answer-item.is)
+    ∙ sym (ap is_some c.reserved.ensures) ∙ sym c.is_some.ensures in
     elim c.if-is_some.branch [
-      | then-is_some w ↦ w.count-is ∙ sym (reserved_count_more told i c.loop-answer.count (Wrote none none) c.loop-answer-test.true c.loop-answer.invariant (is ∙ w.if-is_some.true))
-      | else-is_some w ↦ w.count-is ∙ sym (reserved_count_same told i c.loop-answer.count (Wrote none none) c.loop-answer-test.true c.loop-answer.invariant (is ∙ w.if-is_some.false))
+      | then-is_some w ↦ w.count-is ∙ sym (reserved_count_more told i c.loop-answer.count item c.loop-answer-test.true c.loop-answer.invariant (is ∙ w.if-is_some.true))
+      | else-is_some w ↦ w.count-is ∙ sym (reserved_count_same told i c.loop-answer.count item c.loop-answer-test.true c.loop-answer.invariant (is ∙ w.if-is_some.false))
     ]

@@ -1,5 +1,6 @@
 -- Each line is played behind those before it.
-use Rattle.std.proofs.Common.{arith, refl}
+use Rattle.std.proofs.Common.{◌≡◌, [], ◌∷◌, ◌++◌, arith, refl, subst}
+use Rattle.told_lines.specs.declared.told.Told.{Told}
 use Rattle.backend_lanes.specs.Sessions.{view_of_session}
 use Rattle.backend_lanes.proofs.PlayingLines.{all_played, asked_at, none_played, one_more_played}
 use Rattle.backend_lanes.proofs.lane.play_lines.Goals as goal
@@ -24,12 +25,14 @@ answer-answer-requires-clause-asked g c =
 pub loop-line-preserved : goal.loop-line-preserved
 loop-line-preserved g c =
     let now = c.loop-line in
+    let pushed = subst (λ (answer : Told). c.push_reserved.new.self.items ≡ now.told.items ++ answer ∷ [])
+    c.of.ensures c.push_reserved.ensures.items in
     record {
       played = one_more_played _ c.args.log.now (view_of_session c.args.session.now) c.args.lines.now
           c.lines_are_played_one_by_one.ensures.more now.line-index now.told.items
           c.push_reserved.new.self.items now.session c.answer-answer.new.self c.line-item.result
           c.answer-answer.result now.invariant.played (omega arith) c.line-item.is
-          c.push_reserved.ensures.items c.answer-answer.ensures.plays
+          pushed c.answer-answer.ensures.plays
           c.answer-answer.ensures.leaves;
       room = omega (arith, now.invariant.room, c.push_reserved.ensures.capacity);
     }

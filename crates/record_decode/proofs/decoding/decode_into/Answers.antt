@@ -1,17 +1,26 @@
-use Rattle.std.proofs.Common.{subst, arith}
+use Rattle.std.proofs.Common.{Result, Ok, Err, subst, arith}
+use Rattle.std.specs.Prelude.{IfErr}
+use Rattle.wal_types.specs.declared.record.Record.{Record}
+use Rattle.record_decode.specs.Filled.{held_after}
 use Rattle.record_decode.specs.Reading.{GivesReading}
+use Rattle.record_decode.specs.declared.fault.RecErr.{RecErr}
 use Rattle.record_decode.proofs.Failing.{cause_told, fails_by}
 use Rattle.record_decode.proofs.Readings.{found_by, only}
 use Rattle.record_decode.proofs.decoding.decode_into.Goals as goal
 
 pub returns-clause-spelled : goal.returns-clause-spelled
-returns-clause-spelled c = found_by c.reading.result c.args.bytes.now (λ i. omega (arith, c.type_inv.bytes i)) c.reading.ensures
+returns-clause-spelled c = found_by (held_after c.reading.new.«record» c.reading.result) c.args.bytes.now (λ i. omega (arith, c.type_inv.bytes i)) c.reading.ensures
 
 pub returns-clause-reads : goal.returns-clause-reads
-returns-clause-reads c = λ r spelled. subst (GivesReading c.reading.result) (only c.args.bytes.now r spelled) c.reading.ensures
+returns-clause-reads c = λ r spelled. subst (GivesReading (held_after c.reading.new.«record» c.reading.result)) (only c.args.bytes.now r spelled) c.reading.ensures
+
+-- an error is one whatever is held
+error_of : {T : Type 0} (held : Record) (result : Result T RecErr) (P : RecErr → Type 0) → IfErr (held_after held result) P → IfErr result P
+error_of held (Ok x) P holds = tt
+error_of held (Err e) P holds = holds
 
 pub returns-clause-fails : goal.returns-clause-fails
-returns-clause-fails c = fails_by c.reading.result c.args.bytes.now (λ i. omega (arith, c.type_inv.bytes i)) c.reading.ensures
+returns-clause-fails c = error_of c.reading.new.«record» c.reading.result _ (fails_by (held_after c.reading.new.«record» c.reading.result) c.args.bytes.now (λ i. omega (arith, c.type_inv.bytes i)) c.reading.ensures)
 
 pub returns-clause-refuses : goal.returns-clause-refuses
-returns-clause-refuses c = λ e fails. subst (GivesReading c.reading.result) (cause_told c.args.bytes.now e (λ i. omega (arith, c.type_inv.bytes i)) fails) c.reading.ensures
+returns-clause-refuses c = λ e fails. subst (GivesReading (held_after c.reading.new.«record» c.reading.result)) (cause_told c.args.bytes.now e (λ i. omega (arith, c.type_inv.bytes i)) fails) c.reading.ensures

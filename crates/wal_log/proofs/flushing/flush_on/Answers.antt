@@ -4,7 +4,7 @@ use Rattle.wal_rule.specs.SeatedPasses.{view_of}
 use Rattle.wal_log.specs.declared.flushing.FlushErr.{FlushErr}
 use Rattle.wal_log.specs.Flushing.{TellsFlushErr}
 use Rattle.wal_log.specs.Standing.{ComesToRest}
-use Rattle.wal_log.proofs.AwaitLaws.{rests_at_work}
+use Rattle.wal_log.proofs.AwaitLaws.{rests_at_work, tried_and_looked}
 use Rattle.wal_log.proofs.FlushLaws.{answer_again, answer_of, fault_behind, told_behind, unreserved_behind}
 use Rattle.wal_log.proofs.Trying.{first_try, rests_again, tried_again}
 use Rattle.wal_log.proofs.flushing.flush_on.Given.{Over}
@@ -12,7 +12,11 @@ use Rattle.wal_log.proofs.flushing.flush_on.Goals as goal
 use Rattle.wal_log.proofs.flushing.flush_on.Goals.{After-try_flush}
 
 pub loop-init : goal.loop-init
-loop-init g c = record { goes_on = (tt, tt); tried = first_try c.args.seated.now c.requires.rests }
+loop-init g c = record {
+  goes_on = (tt, tt);
+  tried = tried_and_looked c.args.seated.now c.args.seated.now c.gather.new.seated
+      (first_try c.args.seated.now c.requires.rests) c.gather.ensures.sees;
+}
 
 rests : (g : Over) (c : After-try_flush g) → ComesToRest c.args.seated.now c.try_flush.new.seated
 rests g c = rests_again c.args.seated.now c.loop.seated c.try_flush.new.seated
@@ -96,10 +100,12 @@ pub loop-preserved : goal.loop-preserved
 loop-preserved g c =
     let why = rw c.in-Err-Turn.field-0-is at c.in-Err-Turn.ensures.tries in
     let tried = tried_again c.args.seated.now c.loop.seated c.try_flush.new.seated
-    c.loop.invariant.tried c.try_flush.ensures.rests why.1 why.0.2.up in record {
+    c.loop.invariant.tried c.try_flush.ensures.rests why.1 why.0.2.up in
+    let awaited = tried_again c.args.seated.now c.try_flush.new.seated c.await_flush.new.seated
+    tried (rests_at_work c.try_flush.new.seated c.await_flush.new.seated
+    (tried.comes).rests c.await_flush.ensures.stays) c.await_flush.ensures.log
+    c.await_flush.ensures.up in record {
       goes_on = (tt, tt);
-      tried = tried_again c.args.seated.now c.try_flush.new.seated c.await_flush.new.seated
-          tried (rests_at_work c.try_flush.new.seated c.await_flush.new.seated
-          (tried.comes).rests c.await_flush.ensures.stays) c.await_flush.ensures.log
-          c.await_flush.ensures.up;
+      tried = tried_and_looked c.args.seated.now c.await_flush.new.seated
+          c.gather-in-Err-Turn.new.seated awaited c.gather-in-Err-Turn.ensures.sees;
     }

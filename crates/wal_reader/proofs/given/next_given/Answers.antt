@@ -4,6 +4,7 @@ use Rattle.wal_types.specs.declared.lsn.Lsn.{Lsn}
 use Rattle.wal_reader.specs.PageCursor.{Sees}
 use Rattle.wal_reader.specs.Decodes.{beginning}
 use Rattle.wal_reader.specs.RecordRead.{IsRoomAfterStep}
+use Rattle.wal_reader.specs.Filled.{read_with}
 use Rattle.wal_reader.specs.Spelled.{IsSpelledIn}
 use Rattle.wal_reader.specs.Steps.{ComesNext}
 use Rattle.wal_reader.specs.Answered.{IsNextIn}
@@ -28,7 +29,7 @@ returns-clause-gives g c pages sees =
     let start = c.args.start.0 in
     let end = option_map (λ (e : Lsn). e.0) c.args.end in
     let now = c.read_given.new.buffers.room.items in
-    let result = c.read_given.result in
+    let result = read_with c.read_given.new.value c.read_given.result in
     elim c.match-from.branch [
       | in-Some w ↦
           (let here : Sees (g.D.Disk.tape c.match-from.disk) c.match-from.buffers.cache pages = rw (w.buffers-is, w.disk-is) sees in

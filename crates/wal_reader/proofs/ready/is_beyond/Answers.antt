@@ -1,8 +1,6 @@
-use Rattle.std.proofs.Common.{◌≡◌, ◌↔◌, ◌^◌, ◌/◌, ◌≤◌, Option, true, option_map, inl, inr, subst, sym, ap, ◌∙◌, arith}
-use Rattle.byte_position.specs.Position.{address_of}
+use Rattle.std.proofs.Common.{Option, option_map, subst}
 use Rattle.wal_types.specs.declared.lsn.Lsn.{Lsn}
 use Rattle.wal_reader.specs.declared.page_cursor.PageCursor.{PageCursor}
-use Rattle.wal_reader.specs.Decodes.{is_at_end}
 use Rattle.wal_reader.specs.Ready.{IsReadyAt}
 use Rattle.wal_reader.proofs.ReadyLaws.{met_or_out}
 use Rattle.wal_reader.proofs.ready.is_beyond.Goals as goal

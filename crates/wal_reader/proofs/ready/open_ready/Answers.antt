@@ -1,10 +1,8 @@
-use Rattle.std.proofs.Common.{◌≡◌, ℕ, ◌/◌, Option, Some, None, subst, sym, ap, ◌∙◌, arith}
-use Rattle.byte_position.specs.Position.{address_of}
+use Rattle.std.proofs.Common.{Option, subst, sym, ap, ◌∙◌, arith}
 use Rattle.byte_position.proofs.Words.{address_of-mod_word}
 use Rattle.wal_reader.specs.declared.page_cursor.PageCursor.{PageCursor}
 use Rattle.wal_reader.specs.Decodes.{opening_fault}
-use Rattle.wal_reader.specs.Pages.{Pages}
-use Rattle.wal_reader.specs.Ready.{IsReady, IsReadyAt}
+use Rattle.wal_reader.specs.Ready.{IsReadyAt}
 use Rattle.wal_reader.proofs.CacheLaws.{held_page}
 use Rattle.wal_reader.proofs.ReadyLaws.{none_is}
 use Rattle.wal_reader.proofs.ReadsOnLaws.{reads_none}

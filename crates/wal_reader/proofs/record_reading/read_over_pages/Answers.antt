@@ -1,9 +1,13 @@
-use Rattle.std.proofs.Common.{◌≡◌, ℕ, ◌/◌, Ok, Err, refl, vec_len, sym, ap, ◌∙◌, arith}
+use Rattle.std.proofs.Common.{◌≡◌, ℕ, ◌/◌, Result, Ok, Err, refl, vec_len, subst, sym, ap, ◌∙◌, arith}
+use Rattle.std.specs.Prelude.{IfOk}
 use Rattle.std.proofs.lemmas.Result.{err_from_is_err_and}
 use Rattle.byte_position.specs.Position.{address_of, end_address_of}
+use Rattle.wal_reader.specs.declared.found.Answer.{Answer}
+use Rattle.wal_reader.specs.declared.found.FoundHead.{FoundHead}
 use Rattle.wal_reader.specs.declared.found.FoundRecord.{FoundRecord}
 use Rattle.wal_reader.specs.declared.record_place.RecordPlace.{RecordPlace}
 use Rattle.wal_reader.specs.RecordRead.{behind_read, without_place}
+use Rattle.wal_reader.specs.Filled.{found_with, read_with}
 use Rattle.wal_reader.specs.Spelled.{IsSpelled}
 use Rattle.wal_reader.specs.PageCursor.{Crosses, HasGathered, HoldsPassed, Sees}
 use Rattle.wal_reader.specs.Pages.{Pages, bytes_from}
@@ -82,7 +86,7 @@ returns-in_err-read-clause-reads g c = λ pages sees.
     let bytes = c.deref-2.ensures.value ∙ record_items g after pages sees (header_items g before pages sees) in
     let read = read_over c.args.buffers.now.cache.geometry pages c.args.opened.extent.at c.start-start.result c.args.opened.extent.total c.start-start.ensures c.args.opened.cursor.page c.in_ok-cursor.cursor.page c.in_ok-cursor-2.cursor.page c.requires.page ((header_stands g before).last (omega arith)) ((gathered_all g after).last (omega (arith, c.requires.large))) (first.gathers pages sees).checks _ (header_gathered g before pages sees) c.in_ok-check_header.ensures (crosses_further g after pages sees) _ bytes c.in_ok-check_crc.ensures in
     let same = c.deref-3.ensures.value ∙ sym c.deref-2.ensures.value in
-    let said = found_as c.args.buffers.now.cache.geometry c.args.opened.extent.at c.args.opened.extent.total c.deref-2.result.now c.deref-3.result.now (without_place c.in_ok-found.field-0) (Err c.in_err-read.field-0.0) same c.in_ok-found.ensures.read (ap without_place c.in_err-read.was) in
+    let said = found_as c.args.buffers.now.cache.geometry c.args.opened.extent.at c.args.opened.extent.total c.deref-2.result.now c.deref-3.result.now (without_place (read_with c.found.new.value c.in_ok-found.field-0)) (Err c.in_err-read.field-0.0) same c.in_ok-found.ensures.read (ap (λ (said : Result (FoundHead × RecordPlace) Answer). without_place (read_with c.found.new.value said)) c.in_err-read.was) in
     rw (stop.1, stop.2) (read ∙ said)
 
 pub returns-clause-answered : goal.returns-clause-answered
@@ -91,13 +95,15 @@ returns-clause-answered g c =
     let after = (goal.at.returns-clause-answered g c).After-check_crc in
     let bound = end_in_reach c.args.buffers.now.cache.geometry extent.at.position extent.total c.in_ok-cursor-2.cursor (gathered_all g after) c.requires.none.reachable.aligned (omega (arith, c.requires.large)) in
     let size = c.args.buffers.now.cache.geometry in
-    let read = c.in_ok-read.read in
-    let behind = of_found c.in_ok-found.field-0 (λ (read : FoundRecord × RecordPlace). read.1 ≡ behind_read size extent.at read.0 extent.total c.in_ok-cursor-2.cursor.timeline) read c.in_ok-read.was c.in_ok-found.ensures.behind in
-    let ends = of_found c.in_ok-found.field-0 (λ (read : FoundRecord × RecordPlace). read.0.end.0 ≡ end_address_of size read.1.position) read c.in_ok-read.was c.in_ok-found.ensures.end in
+    let value = c.found.new.value in
+    let read : FoundRecord × RecordPlace = (found_with value c.in_ok-read.read.0, c.in_ok-read.read.1) in
+    let was = ap (read_with value) c.in_ok-read.was in
+    let behind = of_found (read_with value c.in_ok-found.field-0) (λ (read : FoundRecord × RecordPlace). read.1 ≡ behind_read size extent.at read.0 extent.total c.in_ok-cursor-2.cursor.timeline) read was c.in_ok-found.ensures.behind in
+    let ends = subst (λ (said : Result (FoundHead × RecordPlace) Answer). IfOk said (λ read. read.0.end.0 ≡ end_address_of size read.1.position)) c.in_ok-read.was c.in_ok-found.ensures.end in
     record {
       further = goes_on_behind size c.requires.none.gathered.stands.valid extent.at read.1 extent.total read.0.value c.requires.none.reachable c.requires.large (bound read.0.value) (ap (λ (next : RecordPlace). next.position) behind);
       behind = (sym ends, ap (λ (next : RecordPlace). next.prev) behind);
-      spelled = of_found c.in_ok-found.field-0 (λ (read : FoundRecord × RecordPlace). IsSpelled read.0) read c.in_ok-read.was c.in_ok-found.ensures.spelled;
+      spelled = of_found (read_with value c.in_ok-found.field-0) (λ (read : FoundRecord × RecordPlace). IsSpelled read.0) read was c.in_ok-found.ensures.spelled;
     }
 
 -- the two reads, one behind the other
@@ -126,15 +132,18 @@ returns-clause-reads g c = λ pages sees.
     let first = c.in_ok-cursor.ensures in
     let second = c.in_ok-cursor-2.ensures in
     let last = c.in_ok-cursor-2.cursor in
+    let value = c.found.new.value in
+    let found = found_with value c.in_ok-read.read.0 in
+    let was = ap (read_with value) c.in_ok-read.was in
     let bytes = c.deref-2.ensures.value ∙ record_items g after pages sees (header_items g before pages sees) in
     let ends = (gathered_all g after).last (omega (arith, c.requires.large)) in
     let read = read_over c.args.buffers.now.cache.geometry pages c.args.opened.extent.at c.start-start.result c.args.opened.extent.total c.start-start.ensures c.args.opened.cursor.page c.in_ok-cursor.cursor.page last.page c.requires.page ((header_stands g before).last (omega arith)) ends (first.gathers pages sees).checks _ (header_gathered g before pages sees) c.in_ok-check_header.ensures (crosses_further g after pages sees) _ bytes c.in_ok-check_crc.ensures in
     let same = c.deref-3.ensures.value ∙ sym c.deref-2.ensures.value in
-    let said = found_as c.args.buffers.now.cache.geometry c.args.opened.extent.at c.args.opened.extent.total c.deref-2.result.now c.deref-3.result.now (without_place c.in_ok-found.field-0) (Ok c.in_ok-read.read.0) same c.in_ok-found.ensures.read (ap without_place c.in_ok-read.was) in
+    let said = found_as c.args.buffers.now.cache.geometry c.args.opened.extent.at c.args.opened.extent.total c.deref-2.result.now c.deref-3.result.now (without_place (read_with value c.in_ok-found.field-0)) (Ok found) same c.in_ok-found.ensures.read (ap without_place was) in
     let here = held_page (g.D.Disk.tape c.gather-2.new.disk) c.gather-2.new.buffers.cache pages last.page (second.reads_on.sees pages (first.reads_on.sees pages sees)) second.gathered.1.on.0 in
-    let behind = found_behind c.args.buffers.now.cache.geometry pages c.args.opened.extent.at c.args.opened.extent.total _ _ c.in_ok-read.read.0 last c.gather-2.new.buffers.cache.bytes.value said ends here second.gathered.1.on.1 in
+    let behind = found_behind c.args.buffers.now.cache.geometry pages c.args.opened.extent.at c.args.opened.extent.total _ _ found last c.gather-2.new.buffers.cache.bytes.value said ends here second.gathered.1.on.1 in
     let extent = c.args.opened.extent in
-    let at_page = of_found c.in_ok-found.field-0 (λ (read : FoundRecord × RecordPlace). read.1 ≡ behind_read c.args.buffers.now.cache.geometry extent.at read.0 extent.total last.timeline) c.in_ok-read.read c.in_ok-read.was c.in_ok-found.ensures.behind in
+    let at_page = of_found (read_with value c.in_ok-found.field-0) (λ (read : FoundRecord × RecordPlace). read.1 ≡ behind_read c.args.buffers.now.cache.geometry extent.at read.0 extent.total last.timeline) (found, c.in_ok-read.read.1) was c.in_ok-found.ensures.behind in
     (read ∙ said, at_page ∙ behind)
 
 -- ---- what the room holds

@@ -13,6 +13,7 @@ use Rattle.wal_reader.specs.declared.record_extent.RecordExtent.{RecordExtent}
 use Rattle.wal_reader.specs.declared.record_place.RecordPlace.{RecordPlace}
 use Rattle.wal_reader.specs.Answered.{IsAnswered}
 use Rattle.wal_reader.specs.Decodes.{opening_fault}
+use Rattle.wal_reader.specs.Filled.{read_with}
 use Rattle.wal_reader.specs.PageCursor.{Sees}
 use Rattle.wal_reader.specs.Pages.{Pages}
 use Rattle.wal_reader.proofs.CacheLaws.{held_page}
@@ -93,10 +94,10 @@ returns-in_ok-whole-clause-reads g c = λ pages sees.
     let total : c.in_ok-extent.extent.total ≡ number_at w32 c.open_ready.new.cache.bytes.value c.in_ok-cursor.cursor.offset = ap (λ (e : RecordExtent). e.total) extent.0 in
     let passes = rw opened.reads_on.geometry at c.in_ok-extent.ensures.checks in
     let rest = read_at-rest size pages (option_map (λ (l : Lsn). l.0) c.args.end) c.args.at before _ there (opened.checks pages sees) c.in_ok-cursor.cursor opened.place.0 opened.cursor.1 c.in_ok-extent.ensures.whole opened.place.1 c.in_ok-extent.extent.total total extent.1 passes in
-    let reads = read_as size pages c.args.at c.in_ok-extent.extent _ (Ok c.in_ok-whole.whole) (ap (λ (e : RecordExtent). e.at) extent.0) rest (rw opened.reads_on.geometry at (c.in_ok-whole.ensures.reads pages (here g at pages sees))) in
+    let reads = read_as size pages c.args.at c.in_ok-extent.extent _ (read_with c.read_in_page.new.value (Ok c.in_ok-whole.whole)) (ap (λ (e : RecordExtent). e.at) extent.0) rest (rw opened.reads_on.geometry at (c.in_ok-whole.ensures.reads pages (here g at pages sees))) in
     record {
       reads = reads;
-      spelled = read_is_spelled size pages (option_map (λ (l : Lsn). l.0) c.args.end) c.args.at opened.cursor.1.stands.valid (Ok c.in_ok-whole.whole) reads;
+      spelled = read_is_spelled size pages (option_map (λ (l : Lsn). l.0) c.args.end) c.args.at opened.cursor.1.stands.valid (read_with c.read_in_page.new.value (Ok c.in_ok-whole.whole)) reads;
       room = inl refl;
     }
 
@@ -134,11 +135,11 @@ returns-in_ok-read-clause-reads g c = λ pages sees.
     let total : c.in_ok-extent.extent.total ≡ number_at w32 c.open_ready.new.cache.bytes.value c.in_ok-cursor.cursor.offset = ap (λ (e : RecordExtent). e.total) extent.0 in
     let passes = rw opened.reads_on.geometry at c.in_ok-extent.ensures.checks in
     let rest = read_at-rest size pages (option_map (λ (l : Lsn). l.0) c.args.end) c.args.at before _ there (opened.checks pages sees) c.in_ok-cursor.cursor opened.place.0 opened.cursor.1 c.in_ok-extent.ensures.whole opened.place.1 c.in_ok-extent.extent.total total extent.1 passes in
-    let reads = read_as size pages c.args.at c.in_ok-extent.extent _ (Ok c.in_ok-read.read) (ap (λ (e : RecordExtent). e.at) extent.0) rest (rw opened.reads_on.geometry at (c.in_ok-read.ensures.reads pages (opened.reads_on.sees pages sees))) in
+    let reads = read_as size pages c.args.at c.in_ok-extent.extent _ (read_with c.read_over_pages.new.value (Ok c.in_ok-read.read)) (ap (λ (e : RecordExtent). e.at) extent.0) rest (rw opened.reads_on.geometry at (c.in_ok-read.ensures.reads pages (opened.reads_on.sees pages sees))) in
     let claimed = size_in_page size pages (option_map (λ (l : Lsn). l.0) c.args.end) c.args.at before _ there (opened.checks pages sees) c.in_ok-cursor.cursor opened.place.0 opened.cursor.1 c.in_ok-extent.ensures.whole opened.place.1 in
     record {
       reads = reads;
-      spelled = read_is_spelled size pages (option_map (λ (l : Lsn). l.0) c.args.end) c.args.at opened.cursor.1.stands.valid (Ok c.in_ok-read.read) reads;
+      spelled = read_is_spelled size pages (option_map (λ (l : Lsn). l.0) c.args.end) c.args.at opened.cursor.1.stands.valid (read_with c.read_over_pages.new.value (Ok c.in_ok-read.read)) reads;
       room = inr (opened.checks pages sees, room_as size pages c.args.at c.in_ok-extent.extent _ _ (ap (λ (e : RecordExtent). e.at) extent.0) (ap (λ (e : RecordExtent). e.total) extent.0 ∙ sym claimed) (rw opened.reads_on.geometry at (c.in_ok-read.ensures.room pages (opened.reads_on.sees pages sees))));
     }
 
@@ -150,7 +151,7 @@ rises_behind size held valid from at read same answered =
 
 pub returns-in_ok-whole-clause-rises : goal.returns-in_ok-whole-clause-rises
 returns-in_ok-whole-clause-rises g c =
-    rises_behind c.args.buffers.now.cache.geometry _ c.in_ok-cursor.ensures.cursor.1.stands.valid c.in_ok-extent.extent.at c.args.at (Ok c.in_ok-whole.whole) (ap (λ (e : RecordExtent). e.at) c.in_ok-extent.ensures.extent.0) c.in_ok-whole.ensures.answered
+    rises_behind c.args.buffers.now.cache.geometry _ c.in_ok-cursor.ensures.cursor.1.stands.valid c.in_ok-extent.extent.at c.args.at (read_with c.read_in_page.new.value (Ok c.in_ok-whole.whole)) (ap (λ (e : RecordExtent). e.at) c.in_ok-extent.ensures.extent.0) c.in_ok-whole.ensures.answered
 
 pub ready_behind-requires-clause-opens : goal.ready_behind-requires-clause-opens
 ready_behind-requires-clause-opens g c =
@@ -161,4 +162,4 @@ ready_behind-requires-clause-opens g c =
 
 pub returns-in_ok-read-clause-rises : goal.returns-in_ok-read-clause-rises
 returns-in_ok-read-clause-rises g c =
-    rises_behind c.args.buffers.now.cache.geometry _ c.in_ok-cursor.ensures.cursor.1.stands.valid c.in_ok-extent.extent.at c.args.at (Ok c.in_ok-read.read) (ap (λ (e : RecordExtent). e.at) c.in_ok-extent.ensures.extent.0) c.in_ok-read.ensures.answered
+    rises_behind c.args.buffers.now.cache.geometry _ c.in_ok-cursor.ensures.cursor.1.stands.valid c.in_ok-extent.extent.at c.args.at (read_with c.read_over_pages.new.value (Ok c.in_ok-read.read)) (ap (λ (e : RecordExtent). e.at) c.in_ok-extent.ensures.extent.0) c.in_ok-read.ensures.answered

@@ -28,13 +28,13 @@ returns c =
     let header = c.args.header in
     let main = drop 5 c.args.read.now.rooms.spelled.items in
     let value = plain_record header.xid header.rmid header.info main in
-    let body = c.of_plain_in-body.result in
+    let body = c.in-Ok.body in
     let seen = c.deref.result.now in
     let given : drop 5 c.deref_mut.result.now ≡ main = grind (arith, common_steps) in
     let stays : drop 5 seen ≡ main = grind (arith, common_steps) in
     let all : take (length seen - 5) (drop 5 seen) ≡ main = take_all (length seen - 5) (drop 5 seen) (omega (arith, length-drop 5 seen)) ∙ stays in
     let spelling : IsPlainSpelling header.rmid header.info main c.in_ok-bytes.bytes.now = subst (λ (bytes : List ℕ). IsPlainSpelling header.rmid header.info bytes c.in_ok-bytes.bytes.now) given c.in_ok-bytes.ensures.ok in
-    let made : (body ≡ assembled value) × IsWritable value = subst (λ (bytes : List ℕ). (body ≡ assembled (plain_record header.xid header.rmid header.info bytes)) × IsWritable (plain_record header.xid header.rmid header.info bytes)) all c.of_plain_in-body.ensures.ok in
+    let made : (body ≡ assembled value) × IsWritable value = subst (λ (bytes : List ℕ). (body ≡ assembled (plain_record header.xid header.rmid header.info bytes)) × IsWritable (plain_record header.xid header.rmid header.info bytes)) all c.in-Ok.ensures.ok in
     let line : Line = record { number = c.args.number; action = actions.Insert body } in
     let joins : c.push_reserved.new.self.items ≡ c.args.read.now.lines.items ++ line ∷ [] = c.push_reserved.ensures.items ∙ ap (λ (lines : List Line). lines ++ line ∷ []) c.reserve.ensures.items in
     InsertGives-body {X = Unit {0}} c.args.number c.args.read.now.lines.items c.push_reserved.new.self.items tt (accepted value) value body (accepted_is value (spelling.accepted header.xid)) made joins

@@ -1,40 +1,69 @@
-use Rattle.std.proofs.Common.{◌≡◌, true, false, [], ◌∷◌, ◌++◌, Option, Ok, ap, subst, sym, ◌∙◌, arith}
+use Rattle.std.proofs.Common.{◌≡◌, true, false, [], ◌∷◌, ◌++◌, Option, Result, Ok, Err, ap, subst, refl, ◌∙◌, arith}
+use Rattle.std.proofs.lemmas.Result.{err_from_is_err_and}
 use Rattle.segment_disk.specs.Tape.{Tape}
+use Rattle.std.specs.Prelude.{IfOk}
 use Rattle.listing_filter.specs.Keeping.{is_reached}
 use Rattle.wal_reader.specs.LogReader.{LeavesReader, ReaderState, reader_state}
 use Rattle.wal_reader.specs.Spelled.{GivesSpelled}
-use Rattle.wal_reader.specs.Standings.{given_as}
+use Rattle.wal_reader.specs.Standings.{HasReadCause, given_as}
 use Rattle.listing_filter.specs.declared.listed.Listed.{Listed}
 use Rattle.waldump_text.specs.Listing.{IsListable}
 use Rattle.waldump_text.specs.Tally.{Tallies}
+use Rattle.wal_reader.specs.declared.standing.ReadErr.{ReadErr}
 use Rattle.wal_reader.specs.declared.standing.Step.{Step}
 use Rattle.wal_reader.specs.declared.standing.Step.TheVariants.{End}
-use Rattle.waldump_text.proofs.CountingLaws.{Adds, Adds-kept, Adds-passed_over, TalliesLog-more, tally_ended, tally_reached}
+use Rattle.waldump_text.proofs.CountingLaws.{Adds, Adds-kept, Adds-passed_over, TalliesLog-more, tally_ended, tally_failed, tally_reached}
 use Rattle.waldump_text.proofs.DumpLaws.{Steps}
 use Rattle.waldump_text.proofs.SpelledLaws.{IsListable-from_spelled}
 use Rattle.waldump_text.proofs.StepLaws.{GivesListed, gives_end, gives_listed}
 use Rattle.waldump_text.proofs.counting.tally_log.Goals as goal
-use Rattle.waldump_text.proofs.counting.tally_log.Goals.{In-Some, then-keeps, else-keeps}
+use Rattle.waldump_text.proofs.counting.tally_log.Goals.{In-Some}
 
 -- the step to the record that is listed
-gives : (g : _) (c : In-Some g) → GivesListed c.in_ok-step.step c.in-Some.listed
-gives g c = gives_listed c.in_ok-step.step c.in-Some.listed (sym c.listed_in.ensures ∙ c.in-Some.is)
+gives : (g : _) (c : In-Some g) → GivesListed c.next_into.new.value c.in_ok-step.step c.put_head.new.listed
+gives g c = gives_listed c.next_into.new.value c.in_ok-step.step c.put_head.new.listed c.put_head.result _ c.in-Some.is c.put_head.ensures
 
 steps_on : (g : _) (c : In-Some g) → Steps (g.D.Disk.tape c.args.disk.now) c.records.reader c.next_into.new.self (Ok (given_as (gives g c).found))
 steps_on g c =
-    let on_disk = subst (λ (step : Step). Steps (g.D.Disk.tape c.records.disk) c.records.reader c.next_into.new.self (Ok step)) (gives g c).step_is c.in_ok-step.ensures.gives in
+    let on_disk = subst (λ (step : Result Step ReadErr). Steps (g.D.Disk.tape c.records.disk) c.records.reader c.next_into.new.self step) (gives g c).step_is c.in_ok-step.ensures.gives in
     subst (λ (tape : Option Tape). Steps tape c.records.reader c.next_into.new.self (Ok (given_as (gives g c).found))) c.records.invariant.tape on_disk
 
 leaves_on : (g : _) (c : In-Some g) → LeavesReader (reader_state c.records.reader) (reader_state c.next_into.new.self) (Ok (given_as (gives g c).found))
-leaves_on g c = subst (λ (step : Step). LeavesReader (reader_state c.records.reader) (reader_state c.next_into.new.self) (Ok step)) (gives g c).step_is c.in_ok-step.ensures.leaves
+leaves_on g c = subst (λ (step : Result Step ReadErr). LeavesReader (reader_state c.records.reader) (reader_state c.next_into.new.self) step) (gives g c).step_is c.in_ok-step.ensures.leaves
 
-listable : (g : _) (c : In-Some g) → IsListable c.in-Some.listed
+cause_on : (g : _) (c : In-Some g) → g.D.Disk.faults c.next_into.new.disk ≡ g.D.Disk.faults c.records.disk
+cause_on g c = subst (λ (step : Result Step ReadErr). HasReadCause (g.D.Disk.faults c.records.disk) (g.D.Disk.faults c.next_into.new.disk) step) (gives g c).step_is c.in_ok-step.ensures.cause
+
+listable : (g : _) (c : In-Some g) → IsListable c.put_head.new.listed
 listable g c =
-    let spelled = subst GivesSpelled (gives g c).step_is c.in_ok-step.ensures.spelled in
+    let spelled = subst (λ (step : Result Step ReadErr). IfOk step GivesSpelled) (gives g c).step_is c.in_ok-step.ensures.spelled in
     rw (gives g c).listed_is (IsListable-from_spelled (gives g c).found spelled)
 
 pub add-requires-clause-listable : goal.add-requires-clause-listable
 add-requires-clause-listable g c = listable g ((goal.at.add-requires-clause-listable g c).In-Some)
+
+pub records-preserved-then-keeps : goal.records-preserved-then-keeps
+records-preserved-then-keeps g c =
+    let valid = rw c.segment_size-size.ensures.value at c.segment_size-size.ensures.valid in
+    let step = (goal.at.records-preserved-then-keeps g c).In-Some in
+    let before = c.records.invariant in
+    let read = c.in_ok-step.ensures in
+    let leaves = leaves_on g step in
+    let by = c.args.filter.now in
+    let listed_is = (gives g step).listed_is in
+    let f = (gives g step).found in
+    let unreached : is_reached by.limit c.records.tally.all.records ≡ false = cc in
+    let adds : Adds by f c.records.tally c.add.new.self = Adds-kept by f c.records.tally c.add.new.self (cc) (λ records upto. subst (λ (r : Listed). Tallies c.add.new.self (records ++ r ∷ [])) listed_is (c.add.ensures.tallies records upto)) c.add.ensures.counted unreached c.add.ensures.sound in
+    record {
+      sized = ap (λ (s : ReaderState). s.size) leaves.0 ∙ before.sized;
+      tallied = TalliesLog-more c.args.geometry by valid c.records.reader before.sized c.records.tally _ c.next_into.new.self f c.add.new.self adds before.tallied (steps_on g step);
+      sound = adds.sound;
+      within = adds.within;
+      bounded = omega (arith, adds.one, before.bounded, leaves.1);
+      tape = read.uncalled.same_tape ∙ before.tape;
+      moment = read.uncalled.same_moment ∙ before.moment;
+      disk_faults = cause_on g step ∙ before.disk_faults;
+    }
 
 pub records-preserved : goal.records-preserved
 records-preserved g c =
@@ -47,27 +76,33 @@ records-preserved g c =
     let listed_is = (gives g step).listed_is in
     let f = (gives g step).found in
     let unreached : is_reached by.limit c.records.tally.all.records ≡ false = cc in
-    let adds : Adds by f c.records.tally c.if-keeps.tally = elim c.if-keeps.branch [
-      | then-keeps w ↦ subst (Adds by f c.records.tally) (sym w.tally-is) (Adds-kept by f c.records.tally w.add.new.self (cc) (λ records upto. subst (λ (r : Listed). Tallies w.add.new.self (records ++ r ∷ [])) listed_is (w.add.ensures.tallies records upto)) w.add.ensures.counted unreached w.add.ensures.sound)
-      | else-keeps w ↦ Adds-passed_over by f c.records.tally c.if-keeps.tally (cc) w.tally-is before.within before.sound
-    ] in
+    let adds : Adds by f c.records.tally c.records.tally = Adds-passed_over by f c.records.tally c.records.tally (cc) refl before.within before.sound in
     record {
       sized = ap (λ (s : ReaderState). s.size) leaves.0 ∙ before.sized;
-      tallied = TalliesLog-more c.args.geometry by valid c.records.reader before.sized c.records.tally _ c.next_into.new.self f c.if-keeps.tally adds before.tallied (steps_on g step);
+      tallied = TalliesLog-more c.args.geometry by valid c.records.reader before.sized c.records.tally _ c.next_into.new.self f c.records.tally adds before.tallied (steps_on g step);
       sound = adds.sound;
       within = adds.within;
       bounded = omega (arith, adds.one, before.bounded, leaves.1);
       tape = read.uncalled.same_tape ∙ before.tape;
       moment = read.uncalled.same_moment ∙ before.moment;
-      disk_faults = read.cause ∙ before.disk_faults;
+      disk_faults = cause_on g step ∙ before.disk_faults;
     }
+
+pub returns-in_err-step-clause-tallied : goal.returns-in_err-step-clause-tallied
+returns-in_err-step-clause-tallied g c =
+    let valid = rw c.segment_size-size.ensures.value at c.segment_size-size.ensures.valid in
+    let p = err_from_is_err_and c.from_residual.result c.from_residual.ensures.1 in
+    let before = c.records.invariant in
+    let steps = subst (λ (tape : Option Tape). Steps tape c.records.reader c.next_into.new.self (Err c.in_err-step.field-0.0)) before.tape c.in_err-step.ensures.gives in
+    let unreached : is_reached c.args.filter.now.limit c.records.tally.all.records ≡ false = cc in
+    rw (p.1, p.2) (tally_failed c.args.geometry c.args.filter.now valid c.records.reader before.sized c.records.tally before.within _ c.next_into.new.self _ before.tallied steps unreached)
 
 pub returns-in_default-clause-tallied : goal.returns-in_default-clause-tallied
 returns-in_default-clause-tallied g c =
     let valid = rw c.segment_size-size.ensures.value at c.segment_size-size.ensures.valid in
     let before = c.records.invariant in
-    let ends = gives_end c.in_ok-step.step (λ r is. c.in_default.not-Some r (c.listed_in.ensures ∙ is)) in
-    let on_disk = subst (λ (step : Step). Steps (g.D.Disk.tape c.records.disk) c.records.reader c.next_into.new.self (Ok step)) ends.1 c.in_ok-step.ensures.gives in
+    let ends = gives_end c.next_into.new.value c.in_ok-step.step c.put_head.new.listed c.put_head.result c.in_default.not-Some c.put_head.ensures in
+    let on_disk = subst (λ (step : Result Step ReadErr). Steps (g.D.Disk.tape c.records.disk) c.records.reader c.next_into.new.self step) ends.1 c.in_ok-step.ensures.gives in
     let steps = subst (λ (tape : Option Tape). Steps tape c.records.reader c.next_into.new.self (Ok (End ends.0))) before.tape on_disk in
     tally_ended c.args.geometry c.args.filter.now valid c.records.reader before.sized c.records.tally before.within _ c.next_into.new.self ends.0 before.tallied steps
 

@@ -1,12 +1,14 @@
-use Rattle.std.proofs.Common.{◌≡◌, ℕ, ◌+◌, ◌^◌, ◌≤◌, true, false, List, [], ◌∷◌, take, Option, Ok, Err, if◌then◌else◌, ap, refl, subst, sym, ◌∙◌, arith}
+use Rattle.std.proofs.Common.{◌≡◌, ℕ, ◌+◌, ◌^◌, ◌≤◌, true, false, List, [], ◌∷◌, take, Option, Result, Ok, Err, if◌then◌else◌, ap, refl, subst, sym, ◌∙◌, arith}
 use Rattle.std.proofs.lemmas.Result.{err_from_is_err_and}
 use Rattle.segment_disk.specs.Stream.{with_behind}
 use Rattle.segment_disk.specs.Tape.{Tape}
+use Rattle.std.specs.Prelude.{IfOk}
 use Rattle.listing_filter.specs.Keeping.{is_reached, keeps}
 use Rattle.wal_reader.specs.LogReader.{LeavesReader, ReaderState, left_of, reader_state}
 use Rattle.wal_reader.specs.Spelled.{GivesSpelled}
-use Rattle.wal_reader.specs.Standings.{given_as}
+use Rattle.wal_reader.specs.Standings.{HasReadCause, given_as}
 use Rattle.listing_filter.specs.declared.listed.Listed.{Listed}
+use Rattle.wal_reader.specs.declared.standing.ReadErr.{ReadErr}
 use Rattle.wal_reader.specs.declared.standing.Step.{Step}
 use Rattle.wal_reader.specs.declared.standing.Step.TheVariants.{End}
 use Rattle.waldump_text.specs.Listing.{IsListable, line_text, listed_of}
@@ -15,7 +17,7 @@ use Rattle.waldump_text.proofs.ListingLaws.{IsWithin-more, IsWithin-none, Prints
 use Rattle.waldump_text.proofs.SpelledLaws.{IsListable-from_spelled}
 use Rattle.waldump_text.proofs.StepLaws.{GivesListed, gives_end, gives_listed}
 use Rattle.waldump_text.proofs.dumping.dump_lines.Goals as goal
-use Rattle.waldump_text.proofs.dumping.dump_lines.Goals.{In-Some, then-keeps+in_ok-print, else-keeps}
+use Rattle.waldump_text.proofs.dumping.dump_lines.Goals.{In-Some}
 
 pub records-init : goal.records-init
 records-init g c =
@@ -45,20 +47,23 @@ returns-in_err-step-clause-listed g c =
     rw (p.1, p.2) (dump_failed c.args.geometry c.args.filter.now valid plain _ c.records.reader before.sized _ c.records.count before.within _ c.next_into.new.self _ before.lists steps unreached)
 
 -- the step to the record that is listed
-gives : (g : _) (c : In-Some g) → GivesListed c.in_ok-step.step c.in-Some.listed
-gives g c = gives_listed c.in_ok-step.step c.in-Some.listed (sym c.listed_in.ensures ∙ c.in-Some.is)
+gives : (g : _) (c : In-Some g) → GivesListed c.next_into.new.value c.in_ok-step.step c.put_head.new.listed
+gives g c = gives_listed c.next_into.new.value c.in_ok-step.step c.put_head.new.listed c.put_head.result _ c.in-Some.is c.put_head.ensures
 
 steps_on : (g : _) (c : In-Some g) → Steps (g.D.Disk.tape c.args.disk.now) c.records.reader c.next_into.new.self (Ok (given_as (gives g c).found))
 steps_on g c =
-    let on_disk = subst (λ (step : Step). Steps (g.D.Disk.tape c.records.disk) c.records.reader c.next_into.new.self (Ok step)) (gives g c).step_is c.in_ok-step.ensures.gives in
+    let on_disk = subst (λ (step : Result Step ReadErr). Steps (g.D.Disk.tape c.records.disk) c.records.reader c.next_into.new.self step) (gives g c).step_is c.in_ok-step.ensures.gives in
     subst (λ (tape : Option Tape). Steps tape c.records.reader c.next_into.new.self (Ok (given_as (gives g c).found))) c.records.invariant.tape on_disk
 
 leaves_on : (g : _) (c : In-Some g) → LeavesReader (reader_state c.records.reader) (reader_state c.next_into.new.self) (Ok (given_as (gives g c).found))
-leaves_on g c = subst (λ (step : Step). LeavesReader (reader_state c.records.reader) (reader_state c.next_into.new.self) (Ok step)) (gives g c).step_is c.in_ok-step.ensures.leaves
+leaves_on g c = subst (λ (step : Result Step ReadErr). LeavesReader (reader_state c.records.reader) (reader_state c.next_into.new.self) step) (gives g c).step_is c.in_ok-step.ensures.leaves
 
-listable : (g : _) (c : In-Some g) → IsListable c.in-Some.listed
+cause_on : (g : _) (c : In-Some g) → g.D.Disk.faults c.next_into.new.disk ≡ g.D.Disk.faults c.records.disk
+cause_on g c = subst (λ (step : Result Step ReadErr). HasReadCause (g.D.Disk.faults c.records.disk) (g.D.Disk.faults c.next_into.new.disk) step) (gives g c).step_is c.in_ok-step.ensures.cause
+
+listable : (g : _) (c : In-Some g) → IsListable c.put_head.new.listed
 listable g c =
-    let spelled = subst GivesSpelled (gives g c).step_is c.in_ok-step.ensures.spelled in
+    let spelled = subst (λ (step : Result Step ReadErr). IfOk step GivesSpelled) (gives g c).step_is c.in_ok-step.ensures.spelled in
     rw (gives g c).listed_is (IsListable-from_spelled (gives g c).found spelled)
 
 sized_on : (g : _) (c : In-Some g) → (reader_state c.next_into.new.self).size ≡ c.args.geometry
@@ -81,6 +86,31 @@ returns-in_err-print-clause-listed g c =
     let before = c.records.invariant in
     rw (p.1, p.2) (dump_cut c.args.geometry by valid plain _ c.records.reader c.next_into.new.self before.sized (sized_on g step) _ _ c.records.count _ (gives g step).found ((gives g step).found ∷ []) (kept by (gives g step).found keeps_it) c.in_err-print.field-0.0 before.lists (steps_on g step) (IsWithin-more by.limit c.records.count unreached) taken)
 
+pub records-preserved-then-keeps : goal.records-preserved-then-keeps
+records-preserved-then-keeps g c =
+    let plain = c.requires in
+    let valid = rw c.segment_size-size.ensures.value at c.segment_size-size.ensures.valid in
+    let step = (goal.at.records-preserved-then-keeps g c).In-Some in
+    let before = c.records.invariant in
+    let read = c.in_ok-step.ensures in
+    let less = (leaves_on g step).1 in
+    let by = c.args.filter.now in
+    let listed_is = (gives g step).listed_is in
+    let f = (gives g step).found in
+    let unreached : is_reached by.limit c.records.count ≡ false = cc in
+    let prints : Prints by f (g.O.Sink.taken c.records.out) (g.O.Sink.taken c.print.new.out) c.records.count (c.records.count + 1) = Prints-kept by f _ _ c.records.count (c.records.count + 1) (cc) (c.in_ok-print.ensures.put.0 ∙ ap (λ (r : Listed). with_behind (g.O.Sink.taken c.records.out) (if by.quiet then [] else line_text by.times r)) listed_is) refl unreached in
+    record {
+      sized = sized_on g step;
+      lists = rw prints.count_is (ListsLog-more c.args.geometry by valid plain _ c.records.reader before.sized _ c.records.count _ c.next_into.new.self f prints.kept prints.kept_is _ before.lists (steps_on g step) prints.taken);
+      within = prints.within;
+      bounded = omega (arith, prints.one, before.bounded, less);
+      empty = c.in_ok-print.ensures.empty;
+      tape = read.uncalled.same_tape ∙ before.tape;
+      moment = read.uncalled.same_moment ∙ before.moment;
+      disk_faults = cause_on g step ∙ before.disk_faults;
+      sink_faults = c.in_ok-print.ensures.put.1 ∙ before.sink_faults;
+    }
+
 pub records-preserved : goal.records-preserved
 records-preserved g c =
     let plain = c.requires in
@@ -93,28 +123,17 @@ records-preserved g c =
     let listed_is = (gives g step).listed_is in
     let f = (gives g step).found in
     let unreached : is_reached by.limit c.records.count ≡ false = cc in
-    let prints : Prints by f (g.O.Sink.taken c.records.out) (g.O.Sink.taken c.if-keeps.out) c.records.count c.if-keeps.count = elim c.if-keeps.branch [
-      | then-keeps+in_ok-print w ↦ Prints-kept by f _ _ c.records.count c.if-keeps.count (cc) (ap g.O.Sink.taken w.out-is ∙ w.in_ok-print.ensures.put.0 ∙ ap (λ (r : Listed). with_behind (g.O.Sink.taken c.records.out) (if by.quiet then [] else line_text by.times r)) listed_is) w.count-is unreached
-      | else-keeps w ↦ Prints-passed_over by f _ _ c.records.count c.if-keeps.count (cc) (ap g.O.Sink.taken w.out-is) w.count-is before.within
-    ] in
-    let faults : g.O.Sink.faults c.if-keeps.out ≡ g.O.Sink.faults c.records.out = elim c.if-keeps.branch [
-      | then-keeps+in_ok-print w ↦ ap g.O.Sink.faults w.out-is ∙ w.in_ok-print.ensures.put.1
-      | else-keeps w ↦ ap g.O.Sink.faults w.out-is
-    ] in
-    let empty : c.if-keeps.buffer ≡ [] = elim c.if-keeps.branch [
-      | then-keeps+in_ok-print w ↦ w.buffer-is ∙ w.in_ok-print.ensures.empty
-      | else-keeps w ↦ w.buffer-is ∙ before.empty
-    ] in
+    let prints : Prints by f (g.O.Sink.taken c.records.out) (g.O.Sink.taken c.records.out) c.records.count (c.records.count) = Prints-passed_over by f _ _ c.records.count c.records.count (cc) refl refl before.within in
     record {
       sized = sized_on g step;
       lists = rw prints.count_is (ListsLog-more c.args.geometry by valid plain _ c.records.reader before.sized _ c.records.count _ c.next_into.new.self f prints.kept prints.kept_is _ before.lists (steps_on g step) prints.taken);
       within = prints.within;
       bounded = omega (arith, prints.one, before.bounded, less);
-      empty = empty;
+      empty = before.empty;
       tape = read.uncalled.same_tape ∙ before.tape;
       moment = read.uncalled.same_moment ∙ before.moment;
-      disk_faults = read.cause ∙ before.disk_faults;
-      sink_faults = faults ∙ before.sink_faults;
+      disk_faults = cause_on g step ∙ before.disk_faults;
+      sink_faults = before.sink_faults;
     }
 
 pub returns-in_default-clause-listed : goal.returns-in_default-clause-listed
@@ -122,8 +141,8 @@ returns-in_default-clause-listed g c =
     let plain = c.requires in
     let valid = rw c.segment_size-size.ensures.value at c.segment_size-size.ensures.valid in
     let before = c.records.invariant in
-    let ends = gives_end c.in_ok-step.step (λ r is. c.in_default.not-Some r (c.listed_in.ensures ∙ is)) in
-    let on_disk = subst (λ (step : Step). Steps (g.D.Disk.tape c.records.disk) c.records.reader c.next_into.new.self (Ok step)) ends.1 c.in_ok-step.ensures.gives in
+    let ends = gives_end c.next_into.new.value c.in_ok-step.step c.put_head.new.listed c.put_head.result c.in_default.not-Some c.put_head.ensures in
+    let on_disk = subst (λ (step : Result Step ReadErr). Steps (g.D.Disk.tape c.records.disk) c.records.reader c.next_into.new.self step) ends.1 c.in_ok-step.ensures.gives in
     let steps = subst (λ (tape : Option Tape). Steps tape c.records.reader c.next_into.new.self (Ok (End ends.0))) before.tape on_disk in
     dump_ended c.args.geometry c.args.filter.now valid plain _ c.records.reader before.sized _ c.records.count before.within _ c.next_into.new.self ends.0 before.lists steps
 

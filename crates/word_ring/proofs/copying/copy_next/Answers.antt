@@ -10,4 +10,4 @@ lie_together-requires g c =
     record { on_page = omega (arith, on) }
 
 pub copy_together-requires-clause-together : goal.copy_together-requires-clause-together
-copy_together-requires-clause-together g c = c.lie_together.ensures c.if-lie_together.true
+copy_together-requires-clause-together g c = c.lie_together.ensures.0 c.if-lie_together.true
