@@ -78,7 +78,7 @@ def timed(words, folder, stdin=None):
         lines = sum(piece.count(b"\n") for piece in iter(lambda: out.read(1 << 20), b""))
     if status != 0:
         sys.exit(f"{' '.join(words)}: status {os.waitstatus_to_exitcode(status)}: {told.decode()}")
-    return tail, lines, seconds, usage.ru_maxrss / 1024
+    return tail, lines, seconds, usage.ru_maxrss * 1024 / 1_000_000
 
 
 def instructions(words, folder, stdin=None):

@@ -56,7 +56,7 @@ def run(words, more, folder):
     clock = time.monotonic() - begin
     if status != 0:
         sys.exit(f"{' '.join(words)}: status {os.waitstatus_to_exitcode(status)}")
-    return usage.ru_utime, usage.ru_stime, clock, usage.ru_minflt, usage.ru_maxrss / 1024
+    return usage.ru_utime, usage.ru_stime, clock, usage.ru_minflt, usage.ru_maxrss * 1024 / 1_000_000
 
 
 def fill(advice):
