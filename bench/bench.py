@@ -37,6 +37,8 @@ CASES = {
 SHAPES = {
     "40 records of 1 MiB": ("I 1 10 00 1048547*5a", 40),
     "2,000,000 lines F": ("F", 2_000_000),
+    "2,000,000 commits answered ahead, of 40 bytes": ("A 1 0", 2_000_000),
+    "2,000,000 records of 24 bytes": ("I 1 10 00 -", 2_000_000),
 }
 
 

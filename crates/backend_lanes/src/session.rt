@@ -11,7 +11,7 @@ ghost use Rattle.wal_script.specs.Asked.{Asked, Commit, CommitAsync, Flush, Inse
 ghost use Rattle.wal_script.specs.Bodies.{IsActionOf, IsBodyOf};
 ghost use Rattle.backend_lanes.specs.Sessions.{IsSessionOf, LeavesSession, PlaysAnswer, told_of_flush_err, told_of_switch_err};
 
-use record_spelling::Body;
+use record_spelling::KeptBody;
 use segment_disk::Disk;
 use std::sync::Wait;
 use told_lines::Told;
@@ -45,16 +45,16 @@ impl Session {
         ensures leaves { LeavesSession log.now result self.old self.new }
     {
         match action {
-            Action::Insert(body) => self.insert(rt, log, body.as_body()),
-            Action::Commit(body) => self.commit(rt, log, body.as_body()),
+            Action::Insert(body) => self.insert(rt, log, body),
+            Action::Commit(body) => self.commit(rt, log, body),
             Action::Flush => self.flush(rt, log),
-            Action::CommitAsync(body) => self.commit_async(rt, log, body.as_body()),
+            Action::CommitAsync(body) => self.commit_async(rt, log, body),
             Action::WriteBehind => self.write_behind(rt, log),
-            Action::Switch(body) => self.switch(rt, log, body.as_body()),
+            Action::Switch(body) => self.switch(rt, log, body),
         }
     }
 
-    fn insert<R: Wait, D: Disk>(&mut self, rt: &R, log: &Wal<D>, body: &Body) -> Told
+    fn insert<R: Wait, D: Disk>(&mut self, rt: &R, log: &Wal<D>, body: &KeptBody) -> Told
         requires session { IsSessionOf log.now self.old }
         requires record { (value : Record) × IsBodyOf value body.now }
         ensures plays { (value : Record) → IsBodyOf value body.now
@@ -62,7 +62,8 @@ impl Session {
         ensures leaves { LeavesSession log.now result self.old self.new }
     {
         body_knows_its_record();
-        match log.insert(rt, &mut self.pass, body) {
+        let lent = body.as_body();
+        match log.insert(rt, &mut self.pass, &lent) {
             Ok(receipt) => {
                 self.note(receipt.end);
                 Told::of_insert(Ok(receipt))
@@ -71,7 +72,7 @@ impl Session {
         }
     }
 
-    fn commit<R: Wait, D: Disk>(&mut self, rt: &R, log: &Wal<D>, body: &Body) -> Told
+    fn commit<R: Wait, D: Disk>(&mut self, rt: &R, log: &Wal<D>, body: &KeptBody) -> Told
         requires session { IsSessionOf log.now self.old }
         requires record { (value : Record) × IsBodyOf value body.now }
         ensures plays { (value : Record) → IsBodyOf value body.now
@@ -79,7 +80,8 @@ impl Session {
         ensures leaves { LeavesSession log.now result self.old self.new }
     {
         body_knows_its_record();
-        match log.commit(rt, &mut self.pass, body) {
+        let lent = body.as_body();
+        match log.commit(rt, &mut self.pass, &lent) {
             Ok(sealed) => {
                 self.note(sealed.end);
                 Told::of_commit(Ok(sealed))
@@ -101,7 +103,7 @@ impl Session {
         }
     }
 
-    fn commit_async<R: Wait, D: Disk>(&mut self, rt: &R, log: &Wal<D>, body: &Body) -> Told
+    fn commit_async<R: Wait, D: Disk>(&mut self, rt: &R, log: &Wal<D>, body: &KeptBody) -> Told
         requires session { IsSessionOf log.now self.old }
         requires record { (value : Record) × IsBodyOf value body.now }
         ensures plays { (value : Record) → IsBodyOf value body.now
@@ -109,7 +111,8 @@ impl Session {
         ensures leaves { LeavesSession log.now result self.old self.new }
     {
         body_knows_its_record();
-        match log.commit_async(rt, &mut self.pass, body) {
+        let lent = body.as_body();
+        match log.commit_async(rt, &mut self.pass, &lent) {
             Ok(receipt) => {
                 self.note(receipt.end);
                 Told::of_commit_async(Ok(receipt))
@@ -133,13 +136,14 @@ impl Session {
 
     // Closes the segment. Where the log ends at a segment's start, no record of this backend does
     // so for it: the end kept stays.
-    fn switch<R: Wait, D: Disk>(&mut self, rt: &R, log: &Wal<D>, body: &Body) -> Told
+    fn switch<R: Wait, D: Disk>(&mut self, rt: &R, log: &Wal<D>, body: &KeptBody) -> Told
         requires session { IsSessionOf log.now self.old }
         requires record { body.now ≡ assembled switch_record }
         ensures plays { PlaysAnswer log.now Switch result self.old self.new }
         ensures leaves { LeavesSession log.now result self.old self.new }
     {
-        match log.switch(rt, &mut self.pass, body) {
+        let lent = body.as_body();
+        match log.switch(rt, &mut self.pass, &lent) {
             Ok(wal_log::Switch::Done { start, end }) => {
                 self.note(end);
                 Told::Switched { start, end }

@@ -1,8 +1,9 @@
 //! Which records a listing keeps, as the words of a command line say it.
 #![tactic(auto)]
 
-ghost use Rattle.std.specs.Prelude.{◌≡◌, nat_le};
+ghost use Rattle.std.specs.Prelude.{◌≡◌, ◌&&◌, IsTrue, nat_le, not};
 ghost use Rattle.std.specs.List.{list_any};
+ghost use Rattle.listing_filter.specs.declared.listed.Listed.{Listed};
 ghost use Rattle.listing_filter.specs.Keeping.{asks_for_block, everything_from, has_page_image, has_rules, is_reached, is_relation, keeps, meets_block, meets_rules};
 
 mod listed;
@@ -79,6 +80,16 @@ impl Filter {
         ensures { result ≡ is_reached self.now.limit count }
     {
         self.limit.is_some_and(|limit| limit <= count)
+    }
+
+    /// Whether a listing only counts the records from the start on: nothing is printed, and no rule
+    /// is given beside the start, so that what a record carries says nothing.
+    pub fn only_counts(&self) -> bool
+        ensures asked { result ≡ (self.now.quiet && not (has_rules self.now)) }
+        ensures keeps { IsTrue result
+            → (r : Listed) → keeps self.now r ≡ nat_le self.now.start.0 r.start.0 }
+    {
+        self.quiet && !self.has_rules()
     }
 
     // Whether a rule is given beside the start.

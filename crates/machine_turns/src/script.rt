@@ -1,7 +1,7 @@
 //! What backends are to do. All records are assembled before the first turn, so that no turn takes
 //! memory or finds a record that cannot be written.
 
-ghost use Rattle.std.specs.Prelude.{◌≡◌, ◌≤◌, option_map};
+ghost use Rattle.std.specs.Prelude.{◌≡◌, ◌≤◌};
 ghost use Rattle.machine_turns.specs.Lanes.{is_commit};
 ghost use Rattle.machine_turns.specs.Scripts.{InsertsLogRecord, body_of, room_of_line};
 
@@ -21,8 +21,8 @@ pub enum PlainLine {
 
 impl PlainLine {
     /// The record that it inserts.
-    pub(crate) fn body(&self) -> Option<&Body<'static>>
-        ensures { option_map (λ body. body.now) result ≡ body_of self.now }
+    pub(crate) fn body(&self) -> Option<Body<'_>>
+        ensures { result ≡ body_of self.now }
     {
         match self {
             PlainLine::Insert(body) | PlainLine::Commit(body) => Some(body.as_body()),

@@ -17,3 +17,4 @@ pub mod BlockHeadSteps
 pub mod BlockHeads
 pub mod Payload
 pub mod SpelledBlocks
+pub mod HeaderBytes

@@ -1,6 +1,6 @@
 -- A record's headers as the code keeps them.
 use Rattle.std.specs.Prelude.{List}
-use Rattle.record_decode.specs.declared.decoding.Headers as code
+use Rattle.record_decode.specs.declared.decoding.keeping.Headers as code
 use Rattle.record_decode.specs.declared.head.BlockHead.{BlockHead}
 use Rattle.record_decode.specs.Reading.{HeadersRead}
 

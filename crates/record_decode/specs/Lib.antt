@@ -1,3 +1,4 @@
+pub mod Blank
 pub mod Reading
 pub mod Filled
 pub mod Unread

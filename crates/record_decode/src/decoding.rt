@@ -3,6 +3,7 @@
 mod blocks;
 mod cursor;
 mod items;
+mod keeping;
 mod payload;
 mod unread;
 
@@ -12,7 +13,7 @@ ghost use Rattle.std.specs.Int.{w32};
 ghost use Rattle.wal_types.specs.declared.record.Record.{Record};
 ghost use Rattle.record_spelling.specs.Numbers.{number_at};
 ghost use Rattle.record_decode.specs.Headers.{headers_said};
-ghost use Rattle.record_decode.specs.Reading.{GivesReading, GivesAs, headers_of, items_of, payload_len, reading_of, record_of, start_of_headers};
+ghost use Rattle.record_decode.specs.Reading.{GivesReading, GivesAs, headers_of, items_of, payload_len, reading_of, start_of_headers};
 ghost use Rattle.record_decode.specs.Fails.{FailsAt, TellsFirstFault};
 ghost use Rattle.record_decode.specs.Spells.{Spells};
 ghost use Rattle.record_decode.specs.Filled.{held_after};
@@ -22,20 +23,12 @@ use crate::head::BlockHead;
 use blocks::block_items;
 use cursor::malformed;
 use items::{main_item, optional_u16, optional_u32};
-use payload::put_blocks;
+pub use keeping::{Headers, KeepsRecord};
 use record_spelling::is_free_manager;
 use record_spelling::layout::*;
 use std::alloc::Global;
 use unread::Unread;
-use wal_types::{Record, Xid};
-
-/// What a record's headers say that are no blocks', and the payload behind them all.
-#[derive(Clone, Copy)]
-struct Headers<'a> {
-    origin: Option<u16>,
-    top_xid: Option<u32>,
-    payload: &'a [u8],
-}
+use wal_types::Record;
 
 #[tactic(auto, unfolding(crate::specs::Reading::headers_of))]
 // `bytes` are those behind the record's header; the heads of blocks are put into `heads`.
@@ -72,51 +65,29 @@ fn u32_at(bytes: &[u8], at: usize) -> u32
     u32::from_le_bytes([bytes[at], bytes[at + 1], bytes[at + 2], bytes[at + 3]])
 }
 
-fn put_record(
-    alloc: Global,
-    record: &mut Record,
-    bytes: &[u8],
-    heads: &[BlockHead],
-    headers: Headers,
-) -> Result<(), RecErr>
-    requires header { 24 ≤ length bytes.now }
-    requires promised { sum_by payload_len heads.now ≤ length headers.payload.now }
-    ensures { GivesReading (held_after «record».new result)
-        (Ok (record_of bytes.now (headers_said heads.now headers.entry))) }
-{
-    let main = put_blocks(alloc, &mut record.blocks, heads, headers.payload)?;
-    record.main.put(main)?;
-    record.xid = Xid(u32_at(bytes, XID_AT));
-    record.rmid = bytes[RMID_AT];
-    record.info = bytes[INFO_AT];
-    record.origin = headers.origin;
-    record.top_xid = headers.top_xid.map(Xid);
-    Ok(())
-}
-
 #[tactic(auto, unfolding(crate::specs::Reading::items_of))]
-fn read_items(
+fn read_items<K: KeepsRecord>(
     alloc: Global,
     heads: &mut Vec<BlockHead>,
-    record: &mut Record,
+    keeper: &mut K,
     bytes: &[u8],
 ) -> Result<(), RecErr>
     requires { 24 ≤ length bytes.now }
-    ensures { GivesReading (held_after «record».new result) (items_of bytes.now) }
+    ensures { GivesReading (held_after (K.kept keeper.new) result) (items_of bytes.now) }
 {
     let (_, behind_header) = bytes.split_at(HEADER_LEN);
     let headers = read_headers(heads, behind_header)?;
-    put_record(alloc, record, bytes, heads, headers)
+    keeper.keep(alloc, bytes, heads, headers)
 }
 
 #[tactic(auto, unfolding(crate::specs::Reading::reading_of))]
-fn reading(
+fn reading<K: KeepsRecord>(
     alloc: Global,
     heads: &mut Vec<BlockHead>,
-    record: &mut Record,
+    keeper: &mut K,
     bytes: &[u8],
 ) -> Result<(), RecErr>
-    ensures { GivesReading (held_after «record».new result) (reading_of bytes.now) }
+    ensures { GivesReading (held_after (K.kept keeper.new) result) (reading_of bytes.now) }
 {
     if bytes.len() < HEADER_LEN || u32_at(bytes, LEN_AT) as usize != bytes.len() {
         return Err(malformed(0, RecKind::Length));
@@ -124,7 +95,7 @@ fn reading(
     if is_free_manager(bytes[RMID_AT]) {
         return Err(malformed(RMID_AT as u64, RecKind::Rmgr));
     }
-    read_items(alloc, heads, record, bytes)
+    read_items(alloc, heads, keeper, bytes)
 }
 
 /// Reads a record's bytes, all of them: the headers of its items from left to right, as long as
@@ -147,23 +118,25 @@ pub fn decode(alloc: Global, bytes: &[u8]) -> Result<Record, RecErr>
     Ok(record)
 }
 
-/// `decode`, with the record put into one that the caller has, and the heads of blocks into a
-/// vector, whatever both held: where their room is large enough no memory is taken for main data
-/// and for lists. Behind an error the record means nothing.
-pub fn decode_into(
+/// `decode`, with the record kept as the caller asks for, in one that it has or not at all, and the
+/// heads of blocks put into a vector, whatever both held: where their room is large enough no
+/// memory is taken for main data and for lists. All checks are made whatever is kept. Behind an
+/// error what is kept means nothing.
+pub fn decode_into<K: KeepsRecord>(
     alloc: Global,
     heads: &mut Vec<BlockHead>,
-    record: &mut Record,
+    keeper: &mut K,
     bytes: &[u8],
 ) -> Result<(), RecErr>
-    // As of `decode`, whatever the record and the vector held.
-    ensures spelled { IfOk (held_after «record».new result) (λ r. Spells bytes.now r) }
+    // As of `decode`, whatever was kept and the vector held.
+    ensures spelled { IfOk (held_after (K.kept keeper.new) result) (λ r. Spells bytes.now r) }
     ensures reads { (r : Record) → Spells bytes.now r
-        → GivesReading (held_after «record».new result) (Ok r) }
+        → GivesReading (held_after (K.kept keeper.new) result) (Ok r) }
     ensures fails { IfErr result (TellsFirstFault bytes.now) }
     ensures refuses { (e : RecErr) → FailsAt bytes.now e
-        → GivesReading (held_after «record».new result) (Err e) }
-    ensures as_reading { GivesReading (held_after «record».new result) (reading_of bytes.now) }
+        → GivesReading (held_after (K.kept keeper.new) result) (Err e) }
+    ensures as_reading { GivesReading (held_after (K.kept keeper.new) result)
+        (reading_of bytes.now) }
 {
-    reading(alloc, heads, record, bytes)
+    reading(alloc, heads, keeper, bytes)
 }

@@ -1,9 +1,9 @@
 //! What holds of each list of bytes that a reader meets. The functions do nothing: their contracts
 //! are the laws.
 
-ghost use Rattle.std.specs.Prelude.{◌≡◌, ℕ, ◌^◌, ◌<◌, ◌≤◌, ◌⊎◌, length, All, Err, List, Ok, ◌↔◌, sum_by};
+ghost use Rattle.std.specs.Prelude.{◌≡◌, ℕ, ◌^◌, ◌<◌, ◌≤◌, ◌⊎◌, length, All, Err, List, Ok, ◌↔◌, slice_index, sum_by};
 ghost use Rattle.wal_types.specs.declared.record.Record.{Record};
-ghost use Rattle.record_spelling.specs.Layout.{last_fork};
+ghost use Rattle.record_spelling.specs.Layout.{info_offset, last_fork, manager_offset};
 ghost use Rattle.record_spelling.specs.Spelling.{image_bytes};
 ghost use Rattle.record_decode.specs.declared.fault.RecErr.{RecErr};
 ghost use Rattle.record_decode.specs.Fails.{FailsAt};
@@ -38,4 +38,12 @@ pub fn spelled_blocks()
         → All (λ b. b.fork ≤ last_fork) r.blocks }
     ensures images { (bytes : List ℕ) (r : Record) → Spells bytes r
         → sum_by (λ b. length (image_bytes b.image)) r.blocks ≤ length bytes }
+{}
+
+/// A record's manager and info are bytes of its header.
+pub fn header_bytes()
+    ensures manager { (bytes : List ℕ) (r : Record) → reading_of bytes ≡ Ok r
+        → r.rmid ≡ slice_index bytes manager_offset }
+    ensures info { (bytes : List ℕ) (r : Record) → reading_of bytes ≡ Ok r
+        → r.info ≡ slice_index bytes info_offset }
 {}

@@ -5,7 +5,9 @@ mod decoding;
 mod fault;
 mod head;
 pub mod laws;
+mod unkept;
 
-pub use decoding::{decode, decode_into};
+pub use decoding::{Headers, KeepsRecord, decode, decode_into};
 pub use fault::{RecErr, RecKind};
 pub use head::{BlockHead, ImageHead};
+pub use unkept::Unkept;

@@ -3,18 +3,18 @@
 ghost use Rattle.std.specs.Prelude.{◌≡◌, ℕ, ◌+◌, ◌*◌, ◌^◌, ◌<◌, ◌≤◌, [], ◌∷◌, ◌++◌, false, length, take, slice_index, All, None, IfOk, OnOk, IfErr};
 ghost use Rattle.std.specs.Cow.{cow_slice_items};
 ghost use Rattle.std.specs.Int.{w32, w64, from_le_bytes, to_le_bytes};
+ghost use Rattle.wal_crc32c.specs.Crc32c.{HasFed};
 ghost use Rattle.wal_types.specs.declared.record.Record.{Record};
 ghost use Rattle.record_spelling.specs.Fitting.{FitsAfterHeader};
 ghost use Rattle.record_spelling.specs.Record.{switch_record};
 ghost use Rattle.record_spelling.specs.Refusal.{RefusesToAssemble, refusal_of};
-ghost use Rattle.record_spelling.specs.Spelling.{AssembledFits, IsWritable, RecordOf, after_header, assembled, assembled_of, assembled_room, assembled_size, crc_of, filled, is_assembled_switch, word_at};
+ghost use Rattle.record_spelling.specs.Spelling.{AssembledFits, IsWritable, RecordOf, after_header, assembled, assembled_of, assembled_room, assembled_size, crc_of, filled, header_front, is_assembled_switch, word_at};
 
-use crate::assembly::{after_header, spell_after_header};
+use crate::assembly::after_header;
 use crate::fault::BodyErr;
 use crate::layout::{HEADER_LEN, SWITCH_INFO, XLOG_RMID};
 use crate::refusing::refusal;
 use crate::segment_switch::ends_segment;
-use bumpalo::Bump;
 use std::alloc::Global;
 use std::borrow::CowSlice;
 use std::marker::Model;
@@ -22,7 +22,7 @@ use wal_crc32c::Crc;
 use wal_types::{Lsn, Record, Xid};
 
 /// A record ready to be written: all of its spelling but what depends on its place. At most
-/// 1,048,576 bytes, which are the body's own or lie in an arena.
+/// 1,048,576 bytes, which are the body's own or lent to it.
 #[derive(Debug, Drop)]
 pub struct Body<'a> {
     xid: Xid,
@@ -66,22 +66,6 @@ impl<'a> Body<'a> {
         Ok(Body::of_record(r, CowSlice::Owned(bytes)))
     }
 
-    /// The same with its bytes in an arena. They are spelled in the room, which holds none that
-    /// matter, and is there for the next record.
-    pub fn assemble_in(bump: &'a Bump, room: &mut Vec<u8>, r: &Record) -> Result<Body<'a>, BodyErr>
-        ensures ok { IfOk result (λ body. (body ≡ assembled r.now) × IsWritable r.now) }
-        ensures inserted { IfOk result (λ body. is_assembled_switch body ≡ false) }
-        ensures not_refused { OnOk result (refusal_of r.now ≡ None) }
-        ensures which { IfErr result (λ e. RefusesToAssemble e r.now) }
-    {
-        if let Some(refusal) = refusal(r) {
-            return Err(refusal);
-        }
-        spell_after_header(room, r)?;
-        let bytes = bump.try_alloc_slice_copy(room)?;
-        Ok(Body::of_record(r, CowSlice::Borrowed(bytes)))
-    }
-
     /// The record that ends its segment (PostgreSQL's RequestXLogSwitch): of no transaction, and
     /// with no data. It takes no memory, though a body has an allocator.
     pub fn switch(alloc: Global) -> Body<'a>
@@ -118,16 +102,44 @@ impl<'a> Body<'a> {
         requires { RecordOf (assembled_of xid.0 rmid info (cow_slice_items bytes)) }
         ensures { result ≡ assembled_of xid.0 rmid info (cow_slice_items bytes.entry) }
     {
-        let size = (HEADER_LEN + bytes.len()) as u32;
-        let mut crc = Crc::new();
-        crc.update(bytes.as_slice());
-        crc.update_round_gap(size_and_xid(size, xid), info_and_manager(info, rmid));
+        let crc = crc_under_way(xid, rmid, info, bytes.as_slice());
         Body {
             xid,
             rmid,
             info,
             after_header: bytes,
             crc,
+        }
+    }
+
+    // A body to which its bytes are lent, with the CRC that was made of them.
+    #[inline(always)]
+    pub(crate) fn of_lent(xid: Xid, rmid: u8, info: u8, bytes: &'a [u8], crc: Crc) -> Body<'a>
+        requires known { RecordOf (assembled_of xid.0 rmid info bytes.now) }
+        requires fed { HasFed crc
+            (bytes.now ++ header_front (assembled_of xid.0 rmid info bytes.now) 0) }
+        ensures { result ≡ assembled_of xid.0 rmid info bytes.now }
+    {
+        Body {
+            xid,
+            rmid,
+            info,
+            after_header: CowSlice::Borrowed(bytes),
+            crc,
+        }
+    }
+
+    // The same body, to which this one's bytes are lent.
+    #[inline(always)]
+    pub(crate) fn lent(&self) -> Body<'_>
+        ensures { result ≡ self.now }
+    {
+        Body {
+            xid: self.xid,
+            rmid: self.rmid,
+            info: self.info,
+            after_header: CowSlice::Borrowed(self.after_header.as_slice()),
+            crc: self.crc,
         }
     }
 
@@ -239,6 +251,19 @@ impl<'a> Body<'a> {
     {
         self.crc.with_gap_filled(prev.0).value()
     }
+}
+
+// The CRC of a record's parts, with zeros for the start of the record before.
+#[inline(always)]
+pub(crate) fn crc_under_way(xid: Xid, rmid: u8, info: u8, bytes: &[u8]) -> Crc
+    requires { RecordOf (assembled_of xid.0 rmid info bytes.now) }
+    ensures { HasFed result (bytes.now ++ header_front (assembled_of xid.0 rmid info bytes.now) 0) }
+{
+    let size = (HEADER_LEN + bytes.len()) as u32;
+    let mut crc = Crc::new();
+    crc.update(bytes);
+    crc.update_round_gap(size_and_xid(size, xid), info_and_manager(info, rmid));
+    crc
 }
 
 // The header's first eight bytes as a number: the record's size and its transaction.

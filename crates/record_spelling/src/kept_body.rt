@@ -9,6 +9,7 @@ ghost use Rattle.record_spelling.specs.Spelling.{IsWritable, assembled, is_assem
 
 use crate::body::Body;
 use crate::fault::BodyErr;
+use crate::lent_body::LentBody;
 use bumpalo::Bump;
 use std::alloc::{AllocError, Global};
 use std::marker::Model;
@@ -20,10 +21,10 @@ pub struct KeptBody<'a> {
     place: BodyPlace<'a>,
 }
 
-// What lies in an arena is never dropped: so no body that has bytes of its own is put there.
+// What lies in an arena is never dropped: so no body that may have bytes of its own is put there.
 #[derive(Debug, Drop)]
 enum BodyPlace<'a> {
-    Arena(&'a Body<'a>),
+    Arena(&'a LentBody<'a>),
     Own(Box<Body<'a>>),
 }
 
@@ -51,7 +52,8 @@ impl<'a> KeptBody<'a> {
         }
     }
 
-    /// `Body::assemble_in`, with the body too in the arena.
+    /// `Body::assemble`, with the body and its bytes in an arena. They are spelled in the room, which
+    /// holds none that matter, and is there for the next record.
     pub fn assemble_in(
         bump: &'a Bump,
         room: &mut Vec<u8>,
@@ -62,11 +64,12 @@ impl<'a> KeptBody<'a> {
         ensures not_refused { OnOk result (refusal_of r.now ≡ None) }
         ensures which { IfErr result (λ e. RefusesToAssemble e r.now) }
     {
-        let body = Body::assemble_in(bump, room, r)?;
+        let body = LentBody::assemble_in(bump, room, r)?;
         Ok(KeptBody::in_arena(bump, body)?)
     }
 
-    /// `Body::of_plain_in`, with the body too in the arena.
+    /// The body of a record that has main data alone, in an arena: by the record's parts and what
+    /// stands behind its header, which lies there (`spell_plain_in`).
     #[inline(always)]
     pub fn of_plain_in(
         bump: &'a Bump,
@@ -81,12 +84,12 @@ impl<'a> KeptBody<'a> {
             × IsWritable (plain_record xid rmid info main.now)) }
         ensures inserted { IfOk result (λ body. is_assembled_switch body ≡ false) }
     {
-        KeptBody::in_arena(bump, Body::of_plain_in(xid, rmid, info, main, bytes))
+        KeptBody::in_arena(bump, LentBody::of_plain(xid, rmid, info, main, bytes))
     }
 
     // A body whose bytes lie in an arena.
     #[inline(always)]
-    fn in_arena(bump: &'a Bump, body: Body<'a>) -> Result<KeptBody<'a>, AllocError>
+    fn in_arena(bump: &'a Bump, body: LentBody<'a>) -> Result<KeptBody<'a>, AllocError>
         ensures { IfOk result (λ kept. kept ≡ body.entry) }
     {
         let Ok(body) = bump.try_alloc(body) else {
@@ -97,14 +100,15 @@ impl<'a> KeptBody<'a> {
         })
     }
 
-    /// The body.
+    /// The body, with the bytes that are kept.
     #[inline(always)]
-    pub fn as_body(&self) -> &Body<'a>
-        ensures { result.now ≡ self.now }
+    pub fn as_body(&self) -> Body<'_>
+        ensures { result ≡ self.now }
     {
-        match &self.place {
-            BodyPlace::Arena(body) => body,
+        let own = match &self.place {
+            BodyPlace::Arena(lent) => return lent.as_body(),
             BodyPlace::Own(body) => body,
-        }
+        };
+        own.lent()
     }
 }

@@ -47,18 +47,6 @@ impl<'a> Body<'a> {
         Ok(Body::of_plain(xid, rmid, info, main, CowSlice::Owned(bytes)))
     }
 
-    /// The body of such a record by its parts and what stands behind its header, which lies in an
-    /// arena (`spell_plain_in`).
-    #[inline(always)]
-    pub fn of_plain_in(xid: Xid, rmid: u8, info: u8, main: &[u8], bytes: &'a [u8]) -> Body<'a>
-        requires { IsPlainSpelling rmid info main.now bytes.now }
-        ensures ok { (result ≡ assembled (plain_record xid rmid info main.now))
-            × IsWritable (plain_record xid rmid info main.now) }
-        ensures inserted { is_assembled_switch result ≡ false }
-    {
-        Body::of_plain(xid, rmid, info, main, CowSlice::Borrowed(bytes))
-    }
-
     // The body of such a record that was not refused, of the bytes behind its header.
     #[inline(always)]
     fn of_plain(xid: Xid, rmid: u8, info: u8, main: &[u8], bytes: CowSlice<'a, u8>) -> Body<'a>

@@ -14,8 +14,8 @@ pub fn is_switch(r: &Record) -> bool
     ends_segment(r.rmid, r.info)
 }
 
-// The same of a record's manager and info. The info's low half says nothing of what it is.
-pub(crate) fn ends_segment(rmid: u8, info: u8) -> bool
+/// The same of a record's manager and info. The info's low half says nothing of what it is.
+pub fn ends_segment(rmid: u8, info: u8) -> bool
     ensures { result ≡ ends_segment rmid info }
 {
     rmid == XLOG_RMID && info >> 4 == SWITCH_INFO >> 4

@@ -145,7 +145,9 @@ where
     }
 
     // Locks the folder, which is made where it is missing, until it is closed. The system closes it
-    // where the process ends, however that comes: a killed one leaves no lock.
+    // where the process ends, however that comes: a killed one leaves no lock. A call of its own, so
+    // that the other calls make no room for it.
+    #[inline(never)]
     fn lock(&mut self) -> io::Result<()>
         ensures stays { IsTrue self.old.has_failed → IsTrue self.new.has_failed }
     {

@@ -145,7 +145,8 @@ where
     }
 
     // Reads pages from this one on; where these are not all there or not all readable, this one
-    // alone.
+    // alone. A call of its own, since few pages need it.
+    #[inline(never)]
     fn read_ahead(
         &mut self,
         geometry: Geometry,
@@ -178,6 +179,15 @@ where
                 return Ok(());
             }
         }
+        self.open_anew(geometry, segment)
+    }
+
+    // Opens it for that. A call of its own, since few pages need it.
+    #[inline(never)]
+    fn open_anew(&mut self, geometry: Geometry, segment: u64) -> io::Result<()>
+        requires { segment < 2 ^ 64 / geometry }
+        ensures stays { IsTrue self.old.folder.has_failed → IsTrue self.new.folder.has_failed }
+    {
         self.ahead.clear();
         let file = self.folder.open_segment(geometry, segment, false)?;
         self.reading = Some(OpenSegment {
@@ -233,7 +243,7 @@ where
         Ok(())
     }
 
-    // Writes the pages that are held, in one call.
+    // Writes the pages that are held, if any are.
     fn write_held(&mut self) -> io::Result<()>
         ensures failed { OnErr result (IsTrue self.new.folder.has_failed) }
         ensures stays { IsTrue self.old.folder.has_failed → IsTrue self.new.folder.has_failed }
@@ -241,6 +251,15 @@ where
         if self.held.is_empty() {
             return Ok(());
         }
+        self.write_out()
+    }
+
+    // Writes them, in one call.
+    #[inline(never)]
+    fn write_out(&mut self) -> io::Result<()>
+        ensures failed { OnErr result (IsTrue self.new.folder.has_failed) }
+        ensures stays { IsTrue self.old.folder.has_failed → IsTrue self.new.folder.has_failed }
+    {
         if let Some(open) = &self.writing {
             let written = self.held.write_to(&open.file);
             self.folder.noted(written)?;

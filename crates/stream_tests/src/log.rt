@@ -83,8 +83,8 @@ impl Log {
     fn add_lines(&mut self, lines: &[Line]) -> Result<(), Fail> {
         for line in lines {
             match &line.action {
-                Action::Insert(body) => self.add(body.as_body())?,
-                Action::Commit(body) => self.add(body.as_body())?,
+                Action::Insert(body) => self.add(&body.as_body())?,
+                Action::Commit(body) => self.add(&body.as_body())?,
                 _ => return Err(Fail::from("lines that insert")),
             }
         }

@@ -123,15 +123,37 @@ all_xored v (w ∷ vs) same =
     all_xored (zip2 bit_xor v w) vs (Each1-weaker (λ u. length v ≡ length u) (λ u. length (zip2 bit_xor v w) ≡ length u) (λ u e. length-zip2 bit_xor v w same.0 ∙ e) vs same.1)
     ∙ ap (λ r. fold (λ s w. bit_xor s (remainder w)) r vs) (remainder-xor v w same.0)
 
+xor_swap : (x y z : ℕ) → bit_xor x (bit_xor y z) ≡ bit_xor y (bit_xor x z)
+xor_swap x y z = sym (xor_assoc x y z) ∙ ap (λ w. bit_xor w z) (xor_comm x y) ∙ xor_assoc y x z
+
+xor_behind_two : (x a b z : ℕ) → bit_xor x (bit_xor a (bit_xor b z)) ≡ bit_xor a (bit_xor b (bit_xor x z))
+xor_behind_two x a b z = xor_swap x a (bit_xor b z) ∙ ap (bit_xor a) (xor_swap x b z)
+
+xor_behind_three : (x a b c z : ℕ) → bit_xor x (bit_xor a (bit_xor b (bit_xor c z))) ≡ bit_xor a (bit_xor b (bit_xor c (bit_xor x z)))
+xor_behind_three x a b c z = xor_swap x a (bit_xor b (bit_xor c z)) ∙ ap (bit_xor a) (xor_behind_two x b c z)
+
+xor_behind_four : (x a b c d z : ℕ) → bit_xor x (bit_xor a (bit_xor b (bit_xor c (bit_xor d z)))) ≡ bit_xor a (bit_xor b (bit_xor c (bit_xor d (bit_xor x z))))
+xor_behind_four x a b c d z = xor_swap x a (bit_xor b (bit_xor c (bit_xor d z))) ∙ ap (bit_xor a) (xor_behind_three x b c d z)
+
+-- the terms, the lowest first
+over-turned : (f : ℕ → ℕ) → over (0 ∷ 14 ∷ 39 ∷ 54 ∷ 144 ∷ []) f ≡ over terms f
+unfolding over
+over-turned f =
+    xor_behind_four (f 0) (f 14) (f 39) (f 54) (f 144) 0
+    ∙ xor_behind_three (f 14) (f 39) (f 54) (f 144) (bit_xor (f 0) 0)
+    ∙ xor_behind_two (f 39) (f 54) (f 144) (bit_xor (f 14) (bit_xor (f 0) 0))
+    ∙ xor_swap (f 54) (f 144) (bit_xor (f 39) (bit_xor (f 14) (bit_xor (f 0) 0)))
+
 pub xored_at_terms : (at : ℕ) (room v : List ℕ) → length v ≡ 16 → at + 160 ≤ length room
-    → remainder (zip2 bit_xor (fold (zip2 bit_xor) v (map (λ k. chunk (at + k) 16 room) (144 ∷ 54 ∷ 39 ∷ 14 ∷ []))) (chunk at 16 room))
+    → remainder (fold (zip2 bit_xor) (zip2 bit_xor v (chunk at 16 room)) (map (λ k. chunk (at + k) 16 room) (14 ∷ 39 ∷ 54 ∷ 144 ∷ [])))
     ≡ bit_xor (remainder v) (over terms (λ k. remainder (chunk (at + k) 16 room)))
 xored_at_terms at room v sixteen within =
     let same : (k : ℕ) → k ≤ 144 → length v ≡ length (chunk (at + k) 16 room) = λ k low. sixteen ∙ sym (length-chunk (at + k) 16 room (omega arith)) in
-    let last : at ≡ at + 0 = omega arith in
-    ap (λ n. remainder (zip2 bit_xor (fold (zip2 bit_xor) v (map (λ k. chunk (at + k) 16 room) (144 ∷ 54 ∷ 39 ∷ 14 ∷ []))) (chunk n 16 room))) last
-    ∙ all_xored v (map (λ k. chunk (at + k) 16 room) terms) (same 144 (omega arith), (same 54 (omega arith), (same 39 (omega arith), (same 14 (omega arith), (same 0 (omega arith), tt)))))
-    ∙ over-each (λ k. remainder (chunk (at + k) 16 room)) (remainder v) terms
+    let first : at ≡ at + 0 = omega arith in
+    ap (λ n. remainder (fold (zip2 bit_xor) (zip2 bit_xor v (chunk n 16 room)) (map (λ k. chunk (at + k) 16 room) (14 ∷ 39 ∷ 54 ∷ 144 ∷ [])))) first
+    ∙ all_xored v (map (λ k. chunk (at + k) 16 room) (0 ∷ 14 ∷ 39 ∷ 54 ∷ 144 ∷ [])) (same 0 (omega arith), (same 14 (omega arith), (same 39 (omega arith), (same 54 (omega arith), (same 144 (omega arith), tt)))))
+    ∙ over-each (λ k. remainder (chunk (at + k) 16 room)) (remainder v) (0 ∷ 14 ∷ 39 ∷ 54 ∷ 144 ∷ [])
+    ∙ ap (bit_xor (remainder v)) (over-turned (λ k. remainder (chunk (at + k) 16 room)))
 
 -- ---- sixteen bytes taken away
 
@@ -258,20 +280,10 @@ taken_into_room r at room bytes v within sixteen as_long fits put stands =
 pub fold-taken : (r n m : ℕ) (bytes : List ℕ) → fold after_byte r (take (n + m) bytes) ≡ fold after_byte (fold after_byte r (take n bytes)) (chunk n m bytes)
 fold-taken r n m bytes = ap (fold after_byte r) (take_chunk n m bytes) ∙ fold-append after_byte r (take n bytes) (chunk n m bytes)
 
-fold-more : (r at n m : ℕ) (bytes : List ℕ) → fold after_byte r (chunk at (n + m) bytes) ≡ fold after_byte (fold after_byte r (chunk at n bytes)) (chunk (at + n) m bytes)
+pub fold-more : (r at n m : ℕ) (bytes : List ℕ) → fold after_byte r (chunk at (n + m) bytes) ≡ fold after_byte (fold after_byte r (chunk at n bytes)) (chunk (at + n) m bytes)
 fold-more r at n m bytes =
     fold-taken r n m (drop at bytes)
     ∙ ap (λ l. fold after_byte (fold after_byte r (chunk at n bytes)) (take m l)) (drop-drop n at bytes)
-
-pub fold-four : (r at : ℕ) (bytes : List ℕ)
-    → fold after_byte (fold after_byte (fold after_byte (fold after_byte r (chunk at 16 bytes)) (chunk (at + 16) 16 bytes)) (chunk (at + 32) 16 bytes)) (chunk (at + 48) 16 bytes) ≡ fold after_byte r (chunk at 64 bytes)
-fold-four r at bytes =
-    let second = chunk (at + 16) 16 bytes in
-    let third = chunk (at + 32) 16 bytes in
-    let fourth = chunk (at + 48) 16 bytes in
-    sym (fold-more r at 48 16 bytes
-    ∙ ap (λ s. fold after_byte s fourth) (fold-more r at 32 16 bytes)
-    ∙ ap (λ s. fold after_byte (fold after_byte s third) fourth) (fold-more r at 16 16 bytes))
 
 -- the same with what is known of the place and of the remainder
 pub stands_at : (room : List ℕ) (a b r s : ℕ) → a ≡ b → r ≡ s → CarriesOn (chunk a 209 room) r → CarriesOn (chunk b 209 room) s

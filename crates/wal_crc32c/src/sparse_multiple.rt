@@ -30,9 +30,9 @@ use std::simd::prelude::*;
 
 // So many bytes go at a time through a room, behind the 209 that were taken away before. A larger
 // room would cost more to make than the moves to its front.
-const PIECE: usize = 1024;
+const PIECE: usize = 1792;
 
-const ROOM: usize = 1248;
+const ROOM: usize = PIECE + LEFT;
 
 // So many bytes are left: the 209 that are put upon, made up to whole vectors.
 const LEFT: usize = 224;
@@ -57,21 +57,22 @@ fn store(v: u8x16, bytes: &mut [u8], at: usize)
 // Sixteen bytes with all that is put on them: the 209 bytes before them stand in the room.
 #[inline(always)]
 fn put_upon(v: u8x16, room: &[u8; ROOM], at: usize) -> u8x16
-    requires { at + 160 ≤ 1248 }
+    requires { at + 160 ≤ ROOM }
     ensures { remainder result
         ≡ bit_xor (remainder v) (over terms (λ k. remainder (chunk (at + k) 16 room.now))) }
 {
-    v ^ vector_at(room, at + 144)
-        ^ vector_at(room, at + 54)
-        ^ vector_at(room, at + 39)
+    // The youngest bytes last: they were stored a moment ago, and the others do not wait for them.
+    v ^ vector_at(room, at)
         ^ vector_at(room, at + 14)
-        ^ vector_at(room, at)
+        ^ vector_at(room, at + 39)
+        ^ vector_at(room, at + 54)
+        ^ vector_at(room, at + 144)
 }
 
 // The vector is kept in the room, behind those before, for the bytes that it is put on.
 #[inline(always)]
 fn take_away(room: &mut [u8; ROOM], at: usize, v: u8x16)
-    requires { at + 225 ≤ 1248 }
+    requires { at + 225 ≤ ROOM }
     ensures { (r : ℕ) → CarriesOn (chunk at 209 room.old) r
         → CarriesOn (chunk (at + 16) 209 room.new) (fold after_byte r v) }
 {
@@ -81,7 +82,7 @@ fn take_away(room: &mut [u8; ROOM], at: usize, v: u8x16)
 #[inline(always)]
 fn take_four_away(room: &mut [u8; ROOM], at: usize, bytes: &[u8])
     requires bytes { at + 64 ≤ length bytes.now }
-    requires room { at + 273 ≤ 1248 }
+    requires room { at + 273 ≤ ROOM }
     ensures { (r : ℕ) → CarriesOn (chunk at 209 room.old) r
         → CarriesOn (chunk (at + 64) 209 room.new) (fold after_byte r (chunk at 64 bytes.now)) }
 {
@@ -91,25 +92,72 @@ fn take_four_away(room: &mut [u8; ROOM], at: usize, bytes: &[u8])
     take_away(room, at + 48, vector_at(bytes, at + 48));
 }
 
-// Whole blocks of 64 bytes. Answers how many bytes these are.
-fn take_piece_away(room: &mut [u8; ROOM], piece: &[u8]) -> usize
-    requires { (64 ≤ length piece.now) × (length piece.now ≤ 1024) }
-    ensures some { 0 < result }
+#[inline(always)]
+fn take_sixteen_away(room: &mut [u8; ROOM], at: usize, bytes: &[u8])
+    requires bytes { at + 256 ≤ length bytes.now }
+    requires room { at + 465 ≤ ROOM }
+    ensures { (r : ℕ) → CarriesOn (chunk at 209 room.old) r
+        → CarriesOn (chunk (at + 256) 209 room.new) (fold after_byte r (chunk at 256 bytes.now)) }
+{
+    take_four_away(room, at, bytes);
+    take_four_away(room, at + 64, bytes);
+    take_four_away(room, at + 128, bytes);
+    take_four_away(room, at + 192, bytes);
+}
+
+// Whole blocks of 256 bytes. Answers how many bytes these are.
+fn take_blocks_away(room: &mut [u8; ROOM], piece: &[u8]) -> usize
+    requires { length piece.now ≤ PIECE }
     ensures within { result ≤ length piece.now }
+    ensures all { length piece.now < result + 256 }
     ensures taken { (r : ℕ) → CarriesOn (take 209 room.old) r
         → CarriesOn (chunk result 209 room.new) (fold after_byte r (take result piece.now)) }
 {
+    // From there on fewer than 256 are left. So put, a turn has one sum and one comparison.
+    let end = piece.len().saturating_sub(255);
     let mut at = 0;
-    while at + 64 <= piece.len() {
-        take_four_away(room, at, piece);
-        at += 64;
+    while at < end {
+        take_sixteen_away(room, at, piece);
+        at += 256;
     }
     at
 }
 
+// The whole vectors behind the first bytes, which were taken away before. Answers how many bytes
+// are taken away then.
+fn take_vectors_away(room: &mut [u8; ROOM], first: usize, piece: &[u8]) -> usize
+    requires piece { (16 ≤ length piece.now) × (length piece.now ≤ PIECE) }
+    requires first { first ≤ length piece.now }
+    ensures within { result ≤ length piece.now }
+    ensures all { length piece.now < result + 16 }
+    ensures taken { (r : ℕ)
+        → CarriesOn (chunk first 209 room.old) (fold after_byte r (take first piece.now))
+        → CarriesOn (chunk result 209 room.new) (fold after_byte r (take result piece.now)) }
+{
+    let end = piece.len() - 15;
+    let mut at = first;
+    while at < end {
+        take_away(room, at, vector_at(piece, at));
+        at += 16;
+    }
+    at
+}
+
+// All bytes but the last, fewer than sixteen. Answers how many these are.
+fn take_piece_away(room: &mut [u8; ROOM], piece: &[u8]) -> usize
+    requires { (16 ≤ length piece.now) × (length piece.now ≤ PIECE) }
+    ensures within { result ≤ length piece.now }
+    ensures all { length piece.now < result + 16 }
+    ensures taken { (r : ℕ) → CarriesOn (take 209 room.old) r
+        → CarriesOn (chunk result 209 room.new) (fold after_byte r (take result piece.now)) }
+{
+    let first = take_blocks_away(room, piece);
+    take_vectors_away(room, first, piece)
+}
+
 // The last 209 bytes taken away go where the next piece finds them.
 fn move_to_front(room: &mut [u8; ROOM], from: usize)
-    requires { from ≤ 1024 }
+    requires { from ≤ PIECE }
     ensures { take 209 room.new ≡ chunk from 209 room.old }
 {
     let mut at = 0;
@@ -119,16 +167,16 @@ fn move_to_front(room: &mut [u8; ROOM], from: usize)
     }
 }
 
-// All bytes but the last 224 to 287. Answers how many these are.
+// All bytes but the last 224 to 239. Answers how many these are.
 fn take_all_away(room: &mut [u8; ROOM], bytes: &[u8]) -> usize
     requires { 224 ≤ length bytes.now }
     ensures within { result + 224 ≤ length bytes.now }
-    ensures all { length bytes.now < result + 288 }
+    ensures all { length bytes.now < result + 240 }
     ensures taken { (r : ℕ) → CarriesOn (take 209 room.old) r
         → CarriesOn (take 209 room.new) (fold after_byte r (take result bytes.now)) }
 {
     let mut done = 0;
-    while done + 288 <= bytes.len() {
+    while done + 240 <= bytes.len() {
         let most = (bytes.len() - LEFT - done).min(PIECE);
         let taken = take_piece_away(room, &bytes[done..done + most]);
         move_to_front(room, taken);

@@ -10,10 +10,10 @@ use Rattle.page_writing.specs.Written.{IsPageWritten}
 use Rattle.page_writing.proofs.HandLaws.{known_kept}
 use Rattle.wal_log.specs.Downs.{KnowsNoFault}
 use Rattle.wal_log.specs.Hands.{HasAllStored}
-use Rattle.wal_log.specs.Standing.{AddsNothing}
-use Rattle.wal_log.specs.Writing.{stored_view}
+use Rattle.wal_log.specs.Standing.{AddsNothing, KeepsPass}
+use Rattle.wal_log.specs.Writing.{WritesCopied, stored_view}
 use Rattle.wal_log.proofs.AddingNothing.{adds_on, hand_changed, held_else}
-use Rattle.wal_log.proofs.Keeping.{changes_up, still_up}
+use Rattle.wal_log.proofs.Keeping.{changes_up, further_pass, still_up}
 use Rattle.wal_log.proofs.Seated.{view_is}
 
 -- all pages below one are written up to what is known, and stored as written
@@ -88,3 +88,20 @@ module _ {D : Type 0} (tape : D → Option Tape) (moment faults : D → ℕ) whe
         );
         full = λ over. omega (arith, same, here, written, over, some);
       }
+
+  -- what was written behind steps that kept the pass
+  pub written_since : (upto : ℕ) (old now : View) (p : SeatedPass D) → KeepsPass old now
+      → WritesCopied tape moment faults upto now p → WritesCopied tape moment faults upto old p
+  written_since upto old now p keeps wrote = record {
+    bound = wrote.bound;
+    asked = wrote.asked;
+    since = further_pass old now wrote.asked keeps wrote.since;
+    watched = wrote.watched;
+    finished = wrote.finished;
+    writing = wrote.writing;
+    keeps = wrote.keeps;
+    stored = wrote.stored;
+    written = wrote.written;
+    same_table = wrote.same_table;
+    given_back = wrote.given_back;
+  }

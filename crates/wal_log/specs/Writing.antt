@@ -1,26 +1,56 @@
--- Why a page was not written early, and what storing leaves.
+-- What was written early, why a page was not, and what storing leaves.
+use Rattle.std.specs.Prelude.{◌≡◌, ◌⊎◌, ℕ, ◌≤◌, Option}
+use Rattle.segment_disk.specs.Tape.{Tape}
 use Rattle.wal_core.specs.Moves.{with_hold}
-use Rattle.std.specs.Prelude.{◌≢◌}
+use Rattle.wal_core.specs.Views.{Idle, Out, View}
+use Rattle.wal_rule.specs.declared.seated.SeatedPass.{SeatedPass}
+use Rattle.wal_rule.specs.SeatedPasses.{view_of}
+use Rattle.insert_locks.specs.Watching.{HasFinished}
 use Rattle.page_writing.specs.InHand.{lent_in, writer_in}
-use Rattle.wal_core.specs.Views.{Out, View}
 use Rattle.wal_log.specs.declared.fault.Fault.TheVariants as faults
 use Rattle.wal_log.specs.declared.turns.TurnErr.{TurnErr}
 use Rattle.wal_log.specs.declared.turns.TurnErr.TheVariants as turns
 use Rattle.wal_log.specs.declared.writing.WriteErr.{WriteErr}
 use Rattle.wal_log.specs.declared.writing.WriteErr.TheVariants.{Fault, Behind, Turn}
 use Rattle.wal_log.specs.Downs.{KnowsNoFault, MeetsFault}
-use Rattle.wal_log.specs.Hands.{MeetsWriteTurn}
+use Rattle.wal_log.specs.Flushing.{MeetsHeldLock}
+use Rattle.wal_log.specs.Hands.{HasAllStored, MeetsWriteTurn}
+use Rattle.wal_log.specs.Standing.{KeepsPass}
 
 -- the turn to write was not had
 abbrev pub write_err_of_turn : TurnErr → WriteErr
 write_err_of_turn (turns.Down n) = Fault (faults.Down n)
 write_err_of_turn (turns.Taken turn) = Turn turn
 
--- why a page was not written early
-abbrev pub TellsWriteErr : View → View → WriteErr → Type 0
-TellsWriteErr old new (Fault fault) = MeetsFault old new fault
-TellsWriteErr old new (Behind lock word) = (word ≢ 0) × KnowsNoFault new
-TellsWriteErr old new (Turn turn) = MeetsWriteTurn turn new × KnowsNoFault new
+-- why what is copied was not written up to an address
+abbrev pub TellsWriteErr : ℕ → View → View → WriteErr → Type 0
+TellsWriteErr upto old new (Fault fault) = MeetsFault old new fault
+TellsWriteErr upto old new (Behind lock word) = MeetsHeldLock upto lock word new × KnowsNoFault new
+TellsWriteErr upto old new (Turn turn) = MeetsWriteTurn turn new × KnowsNoFault new
+
+-- what was in the way, where the disk was not: the turn to write was taken, or a lock's holder had
+-- not copied so far
+abbrev pub IsHeldUp : ℕ → View → Type 0
+IsHeldUp upto v = ((turn : ℕ) × MeetsWriteTurn turn v)
+    ⊎ ((lock : ℕ) × (word : ℕ) × MeetsHeldLock upto lock word v)
+
+-- all below a bound is written, and stored as written. The bound is what a watch of the locks told,
+-- which the pass began with the view `asked`: an address, or more, or the end of what was reserved.
+-- As `writing` the pass had the writer in hand with all of that written, and then it gave back the
+-- writer and the turn
+pub record WritesCopied {D : Type 0} (tape : D → Option Tape) (moment faults : D → ℕ) (upto : ℕ)
+    (old : View) (p : SeatedPass D) : Type 0 where
+  pub bound : ℕ
+  pub asked : View
+  pub since : KeepsPass old asked
+  pub watched : View
+  pub finished : HasFinished upto bound asked watched
+  pub writing : SeatedPass D
+  pub keeps : KeepsPass watched (view_of writing)
+  pub stored : HasAllStored tape moment faults writing
+  pub written : bound ≤ (writer_in (view_of writing)).written
+  pub same_table : p.table ≡ writing.table
+  pub given_back : view_of p ≡ with_hold Idle (view_of writing)
 
 -- what the writer in hand has written is stored; all else is as it was
 abbrev pub stored_view : View → View

@@ -37,8 +37,8 @@ use std::thread;
 use wal_rule::{Pass, SeatedPass};
 use wal_types::{Hard, Lsn};
 
-// How often the flushed address is looked at before the turn is tried again, which also an insert
-// may have that makes room.
+// How often the flushed address is looked at, at most, before the turn is tried again: an insert
+// that makes room may have it, and stores no flushed address.
 const LOOKS: u32 = 64;
 
 // How often others are let come before a try, at most, and how often in a row nobody does.
@@ -150,8 +150,9 @@ impl<D: Disk> Wal<D> {
 }
 
 // The flush of a pass, by as many tries as it takes; between two of them nothing is held. It leaves
-// of the pass what `Wal::flush` says. In company others are let come before the first try, and
-// always before another one behind a sync that did not reach the address.
+// of the pass what `Wal::flush` says. In company others are let come before the first try; behind a
+// try that met the turn taken they always are, where the flushed address that was looked at then is
+// below the one asked for.
 pub(crate) fn flush_on<'p, D: Disk, R: Wait>(
     rt: &R,
     seated: &mut SeatedPass<'p, D>,
@@ -182,10 +183,10 @@ pub(crate) fn flush_on<'p, D: Disk, R: Wait>(
     unreachable!()
 }
 
-// Lets others come, where there are any, since one sync makes durable what all of them have
-// inserted: yields until nobody has inserted meanwhile, but so many times at most (PostgreSQL's
-// commit_delay, which sleeps). It does not spin: who is waited for may stand behind this thread on
-// its own processor, as who waits for a sync mostly does when the sync ends.
+// Lets others come, where there are any, since one sync may make durable what all of them have
+// inserted: yields until nobody has reserved in two yields in a row, but so many times at most
+// (PostgreSQL's commit_delay, which sleeps). It does not spin: who is waited for may stand behind
+// this thread on its processor.
 fn gather<'p, D: Disk>(seated: &mut SeatedPass<'p, D>, is_in_company: bool)
     // The pass has seen what was reserved then, and is else as it was.
     ensures sees { SeesMore seated.old seated.new }
@@ -211,8 +212,8 @@ fn gather<'p, D: Disk>(seated: &mut SeatedPass<'p, D>, is_in_company: bool)
 }
 
 // Looks at the flushed address until it is another one than was known, but so many times at most,
-// and pauses behind each look: who has the turn to write is mostly in the midst of a sync. A try
-// loads ten words more than a look, and takes the turn's word from who has it.
+// and pauses behind each look: who has the turn to write may be in the midst of a sync. A look
+// loads one word; a try loads down, the position and the locks too, and exchanges the turn's word.
 fn await_flush<'p, D: Disk, R: Wait>(
     rt: &R,
     seated: &mut SeatedPass<'p, D>,

@@ -19,9 +19,14 @@ use byte_position::PAGE_SIZE;
 use insert_locks::{Held, release};
 use segment_disk::Disk;
 use std::sync::Wait;
+use std::thread;
 use wal_page::Placed;
 use wal_rule::SeatedPass;
 use wal_types::Lsn;
+
+// At each so many-th page a backend lets others run: more often costs two backends what it gains
+// eight (docs/PERFORMANCE.md).
+const YIELDS: u64 = 4;
 
 // Copies the words that are left of a record, and gives its locks back; or gives the copy up. The
 // record's last word ends at `end`.
@@ -61,7 +66,7 @@ pub(crate) fn land<'p, 'a, D: Disk, R: Wait>(
 }
 
 // The same of a record under its one lock; and behind it makes room ahead, if the record came to a
-// further page.
+// further page, and at times lets others run.
 #[inline(always)]
 pub(crate) fn land_and_make_room<'p, 'a, D: Disk, R: Wait>(
     rt: &R,
@@ -86,6 +91,17 @@ pub(crate) fn land_and_make_room<'p, 'a, D: Disk, R: Wait>(
     land(rt, seated, held, end, placed)?;
     if page < end.0 / PAGE_SIZE {
         make_room(seated, page)?;
+        let_others_run(page);
     }
     Ok(())
+}
+
+// Yields at each so many-th page, with nothing held and nothing in flight. Beside more backends than
+// processors the system stops one now and then, and if that is in the midst of an insert all others
+// wait for its copy in the end. One that yields may be stopped here instead.
+#[inline(always)]
+fn let_others_run(page: u64) {
+    if page % YIELDS == 0 {
+        thread::yield_now();
+    }
 }

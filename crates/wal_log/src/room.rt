@@ -1,18 +1,19 @@
-// Room is made ahead of the records, so that most copies find their page mapped (PostgreSQL's WAL
-// writer does so for others: xlog.c, AdvanceXLInsertBuffer with `opportunistic`). Half a ring behind
-// the page in which a record began, a page's end word is looked at. If it is not mapped yet, all
-// that is copied is written out, where that reaches the page that has to go from its buffer, and
-// pages are mapped under one turn. So half a ring is written while others copy into the other half;
-// if each waited until its page were needed, all would wait while one of them wrote the whole ring.
-// Nothing is in flight meanwhile, and no lock is held.
-ghost use Rattle.std.specs.Prelude.{◌≡◌, ◌<◌, ◌^◌, MatchResult};
+// Room is made ahead of the records, so that their copies may find their pages mapped (PostgreSQL's
+// WAL writer does so for others: xlog.c, AdvanceXLInsertBuffer with `opportunistic`). Half a ring
+// behind the page in which a record began, a page's end word is looked at. If it is not mapped yet,
+// all that is copied is written out, where that reaches the page that has to go from its buffer,
+// and pages are mapped under one turn. Others may copy into the pages between meanwhile. The pass
+// has nothing in flight, and holds no lock.
+ghost use Rattle.std.specs.Prelude.{◌≡◌, ◌<◌, ◌^◌, IfOk, MatchBool, MatchResult};
 ghost use Rattle.wal_rule.specs.SeatedPasses.{StandsAtRest, view_of};
 ghost use Rattle.wal_log.specs.Copying.{MapsPage};
 ghost use Rattle.wal_log.specs.Downs.{KnowsNoFault, MeetsFault};
 ghost use Rattle.wal_log.specs.PassLogs.{log_of_pass};
 ghost use Rattle.wal_log.specs.Standing.{AddsNothing, ComesToRest, HasNoTurn};
+ghost use Rattle.wal_log.specs.Writing.{IsHeldUp, WritesCopied};
 
 use crate::fault::Fault;
+use crate::turns::is_turn_taken;
 use crate::writing::{WriteErr, write_copied};
 use byte_position::PAGE_SIZE;
 use segment_disk::Disk;
@@ -23,11 +24,11 @@ use word_ring::{Presence, confirm, map_ahead};
 // How many pages are mapped at most. A ring has no more than twice as many.
 const AHEAD: u32 = 32;
 
-// How often the locks are watched, where one of them tells nothing yet.
+// How often the locks are watched at most, where a lock's holder has not copied so far.
 const LOOKS: u32 = 64;
 
 // Makes room half a ring behind a page, where there is none yet. If somebody else has one of the
-// turns, or a lock's holder tells nothing, that is left to whoever needs the room.
+// turns, or a lock's holder has not copied so far, that is left to whoever needs the room.
 #[inline(never)]
 pub(crate) fn make_room<'p, D: Disk>(seated: &mut SeatedPass<'p, D>, page: u64) -> Result<(), Fault>
     requires rests { StandsAtRest seated.old }
@@ -41,13 +42,23 @@ pub(crate) fn make_room<'p, D: Disk>(seated: &mut SeatedPass<'p, D>, page: u64) 
 {
     let pages = u64::from(seated.shape().ring_pages());
     let ahead = page + pages / 2;
-    if was_mapped(seated, ahead) {
+    if is_seen_to(seated, ahead) {
         return Ok(());
     }
     if write_ahead(seated, (ahead + 1).saturating_sub(pages) * PAGE_SIZE)? {
         map_ahead(seated, AHEAD);
     }
     Ok(())
+}
+
+// Whether nothing is to be done for a page: it was mapped, or somebody else writes. That is asked
+// before the locks are watched, since a watch takes their lines of memory from who inserts.
+fn is_seen_to<'p, D: Disk>(seated: &mut SeatedPass<'p, D>, page: u64) -> bool
+    requires rests { HasNoTurn seated.old }
+    requires low { page < 2 ^ 40 }
+    ensures maps { MapsPage seated.old seated.new }
+{
+    was_mapped(seated, page) || is_turn_taken(seated)
 }
 
 // Whether a page is in its buffer, or was there before: then the buffer holds a later one.
@@ -61,14 +72,18 @@ fn was_mapped<'p, D: Disk>(seated: &mut SeatedPass<'p, D>, page: u64) -> bool
     }
 }
 
-// Writes all that is copied, where that reaches an address, and tells whether it did. It does not if
-// somebody else writes, who maps too behind it: two who share the work page by page take longer, by
-// measurement, than two of whom one maps while the other writes.
+// Writes all that is copied, where that reaches an address, and tells whether it did. It does not
+// where somebody else has the turn to write, nor where a lock's holder has not copied so far.
 fn write_ahead<'p, D: Disk>(seated: &mut SeatedPass<'p, D>, upto: u64) -> Result<bool, Fault>
     requires rests { HasNoTurn seated.old }
     requires up { KnowsNoFault (view_of seated.old) }
     ensures ends { MatchResult result (λ _. KnowsNoFault (view_of seated.new))
         (λ e. MeetsFault (view_of seated.old) (view_of seated.new) e) }
+    // All that it knew to be copied is written, up to the address at least, or to the reserved end.
+    // Or it met the turn taken, or a lock that was held so.
+    ensures tells { IfOk result (λ wrote. MatchBool wrote
+        (WritesCopied D.tape D.moment D.faults upto (view_of seated.old) seated.new)
+        (IsHeldUp upto (view_of seated.new))) }
     ensures adds_nothing { AddsNothing seated.old seated.new }
     ensures rests { HasNoTurn seated.new }
 {

@@ -13,7 +13,7 @@ ghost use Rattle.wal_log.specs.Downs.{KnowsNoFault, SetsDownItself};
 ghost use Rattle.wal_log.specs.Hands.{HasAllStored, HasFailed};
 ghost use Rattle.wal_log.specs.Copying.{CopyGoesOn};
 ghost use Rattle.wal_log.specs.Standing.{AddsNothing, CopiesAlone, HasNoTurn};
-ghost use Rattle.wal_log.specs.Writing.{TellsWriteErr, stored_view, write_err_of_turn};
+ghost use Rattle.wal_log.specs.Writing.{TellsWriteErr, WritesCopied, stored_view, write_err_of_turn};
 ghost use Rattle.wal_log.specs.declared.fault.Fault.TheVariants.{Disk};
 ghost use Rattle.wal_log.specs.declared.writing.WriteErr.TheVariants.{Fault};
 
@@ -156,9 +156,11 @@ pub(crate) fn write_early<'p, 'a, D: Disk>(
     requires up { KnowsNoFault (view_of seated.old) }
     ensures copies { CopiesAlone (locks_of held) placed.now seated.new }
     ensures copies_on { CopyGoesOn placed.now placed.now seated.old seated.new }
-    // It was not written: the disk has failed, or a lock or the turn to write was in the way.
-    ensures ends { MatchResult result (λ _. KnowsNoFault (view_of seated.new))
-        (λ e. TellsWriteErr (view_of seated.old) (view_of seated.new) e) }
+    // As of `write_copied`.
+    ensures ends { MatchResult result
+        (λ _. WritesCopied D.tape D.moment D.faults upto (view_of seated.old) seated.new
+        × KnowsNoFault (view_of seated.new))
+        (λ e. TellsWriteErr upto (view_of seated.old) (view_of seated.new) e) }
 {
     tell_progress(seated, held, placed);
     write_copied(seated, upto)
@@ -175,8 +177,12 @@ pub(crate) fn write_copied<'p, D: Disk>(
     // Locks, copy and log are as they were, and it has no turn behind it, however it ends.
     ensures adds_nothing { AddsNothing seated.old seated.new }
     ensures rests { HasNoTurn seated.new }
-    ensures ends { MatchResult result (λ _. KnowsNoFault (view_of seated.new))
-        (λ e. TellsWriteErr (view_of seated.old) (view_of seated.new) e) }
+    // All that it knew to be copied is written and stored, up to the address at least, or to the
+    // reserved end. Or the disk has failed, or a lock or the turn to write was in the way.
+    ensures ends { MatchResult result
+        (λ _. WritesCopied D.tape D.moment D.faults upto (view_of seated.old) seated.new
+        × KnowsNoFault (view_of seated.new))
+        (λ e. TellsWriteErr upto (view_of seated.old) (view_of seated.new) e) }
 {
     let known = match watch(seated, upto) {
         Watched::Finished { upto } => upto,

@@ -1,9 +1,11 @@
 -- Laws of where the next record stands in the page that is held.
-use Rattle.std.proofs.Common.{◌≡◌, ◌↔◌, ℕ, ◌+◌, ◌-◌, ◌*◌, ◌/◌, ◌%◌, ◌<◌, Bool, true, false, ◌&&◌, not, cond, nat_lt, List, [], ◌∷◌, ◌++◌, Option, Some, None, option_map, inl, inr, refl, sym, ap, subst, ◌∙◌, if◌then◌else◌, ◌==◌, arith}
+use Rattle.std.proofs.Common.{◌≡◌, ◌↔◌, ℕ, ◌+◌, ◌-◌, ◌*◌, ◌/◌, ◌%◌, ◌^◌, ◌<◌, ◌≤◌, Bool, true, false, ◌&&◌, not, cond, nat_lt, List, [], ◌∷◌, ◌++◌, Option, Some, None, option_map, inl, inr, refl, sym, ap, subst, ◌∙◌, if◌then◌else◌, ◌==◌, arith}
 use Rattle.std.specs.Prelude.{is_none, IfSome, IsTrue}
 use Rattle.std.specs.Int.{w16, w64}
 use Rattle.std.proofs.lemmas.Bool.{cases_Bool, ltb-true, ne_eqb}
-use Rattle.byte_position.specs.Position.{address_of}
+use Rattle.byte_position.specs.Position.{address_of, position_of}
+use Rattle.byte_position.proofs.HeaderSizes.{header_size_bounds}
+use Rattle.byte_position.proofs.Pages.{position_by_page, position_of-next_page}
 use Rattle.record_spelling.specs.Numbers.{number_at}
 use Rattle.wal_page.specs.declared.checks.PageErr.{PageErr}
 use Rattle.wal_page.specs.declared.checks.PageErr.TheVariants.{Magic, Flags, NoLong, LongInside, Address, Timeline}
@@ -16,7 +18,7 @@ use Rattle.wal_reader.specs.declared.page_cursor.PageCursor.{PageCursor}
 use Rattle.wal_reader.specs.declared.record_place.RecordPlace.{RecordPlace}
 use Rattle.wal_reader.specs.declared.standing.Standing.TheVariants.{At}
 use Rattle.wal_reader.specs.Decodes.{damaged, ended, is_at_end, is_zero_word, opening_fault, opens_page, page_answers}
-use Rattle.wal_reader.specs.PageCursor.{HasGathered, IsOn}
+use Rattle.wal_reader.specs.PageCursor.{HasGathered, HasPassed, IsOn}
 use Rattle.wal_reader.specs.Ready.{IsReady, IsReadyAt, IsReadyIn}
 use Rattle.wal_reader.specs.RecordPlace.{IsOutOfReach}
 use Rattle.wal_reader.proofs.GatherLaws.{address_from}
@@ -59,7 +61,7 @@ front_rows size page bytes =
     ∷ (not (is_first_page size page) && is_long bytes, LongInside)
     ∷ (if is_long bytes then long_header_rows size bytes else [])
 
-passes_again : (size page timeline : ℕ) (bytes : List ℕ) → first_fault (page_answers size page bytes timeline) ≡ None → first_fault (page_answers size page bytes (timeline_of bytes)) ≡ None
+pub passes_again : (size page timeline : ℕ) (bytes : List ℕ) → first_fault (page_answers size page bytes timeline) ≡ None → first_fault (page_answers size page bytes (timeline_of bytes)) ≡ None
 passes_again size page timeline bytes none =
     let told : PageErr → Answer = λ fault. damaged (page * 8192) (kinds.Page fault) in
     let before : first_fault (page_rows size page bytes timeline) ≡ None = none_of_map told (first_fault (page_rows size page bytes timeline)) (sym (first_fault-map told (page_rows size page bytes timeline)) ∙ none) in
@@ -77,39 +79,71 @@ page_passes size at bytes none =
       | false ↦ λ e. none_of_first (first_fault own) (first_fault last) (sym (first_fault-append own last) ∙ e)
     ]) none
 
--- ---- a record that starts behind another on the same page
+-- the page in which a record may start has passed its own checks
+pub opening_passed : (cache : PageCache) (at : RecordPlace) (page : ℕ) → page ≡ address_of cache.geometry at.position / 8192 → opening_fault cache.geometry at (Some cache.bytes.value) ≡ None → HasPassed cache page
+opening_passed cache at page first opens =
+    let bytes = cache.bytes.value in
+    let own = subst (λ (p : ℕ). first_fault (page_answers cache.geometry p bytes at.timeline) ≡ None) (sym first) (page_passes cache.geometry at bytes opens) in
+    record { passes = passes_again cache.geometry page at.timeline bytes own }
 
-module _ (cache : PageCache) (at behind : RecordPlace) (cursor : PageCursor) (on : IsOn cache cursor) (gathered : HasGathered cache.geometry at.position 0 cursor) (page : cursor.page ≡ address_of cache.geometry at.position / 8192)
-    (opens : opening_fault cache.geometry at (Some cache.bytes.value) ≡ None) (timeline : behind.timeline ≡ cursor.timeline) (further : at.position < behind.position) (within : behind.position - at.position < 8192 - cursor.offset) where
-  address_behind : address_of cache.geometry behind.position ≡ 8192 * cursor.page + (cursor.offset + (behind.position - at.position))
-  address_behind =
-      let same : at.position + 0 + (behind.position - at.position) ≡ behind.position = omega (arith, further) in
-      ap (address_of cache.geometry) (sym same) ∙ address_from cache.geometry (at.position + 0) cursor gathered.stands (behind.position - at.position) (omega (arith, within))
+-- ---- a record that starts inside a page that has passed
 
+module _ (cache : PageCache) (behind : RecordPlace) (cursor : PageCursor) (offset : ℕ) (on : IsOn cache cursor) (reach : cursor.page < 2 ^ 47) (passed : HasPassed cache cursor.page) (timeline : behind.timeline ≡ cursor.timeline)
+    (address : address_of cache.geometry behind.position ≡ 8192 * cursor.page + offset) (inside : header_size cache.geometry cursor.page < offset) (within : offset < 8192) where
   page_behind : address_of cache.geometry behind.position / 8192 ≡ cursor.page
-  page_behind = let a = address_behind in omega (arith, within)
+  page_behind = omega arith
 
-  offset_behind : address_of cache.geometry behind.position % 8192 ≡ cursor.offset + (behind.position - at.position)
-  offset_behind = let a = address_behind in omega (arith, within)
+  offset_behind : address_of cache.geometry behind.position % 8192 ≡ offset
+  offset_behind = omega arith
 
   opens_none : opens_page cache.geometry behind.position ≡ false
   opens_none =
       let header = ap (header_size cache.geometry) page_behind in
-      let low = gathered.stands.low in
-      let offset = offset_behind in
-      ne_eqb _ _ (λ same. absurd (omega (arith, further)))
+      let at = offset_behind in
+      ne_eqb _ _ (λ same. absurd (omega arith))
 
   passes_behind : opening_fault cache.geometry behind (Some cache.bytes.value) ≡ None
   passes_behind =
       let bytes = cache.bytes.value in
-      let own = subst (λ (p : ℕ). first_fault (page_answers cache.geometry p bytes at.timeline) ≡ None) (sym page) (page_passes cache.geometry at bytes opens) in
-      let again = passes_again cache.geometry cursor.page at.timeline bytes own in
-      let timed = subst (λ (t : ℕ). first_fault (page_answers cache.geometry cursor.page bytes t) ≡ None) (on.1 ∙ sym timeline) again in
+      let timed = subst (λ (t : ℕ). first_fault (page_answers cache.geometry cursor.page bytes t) ≡ None) (on.1 ∙ sym timeline) passed.passes in
       let told = subst (λ (p : ℕ). first_fault (page_answers cache.geometry p bytes behind.timeline) ≡ None) (sym page_behind) timed in
       opening_passes cache.geometry behind (Some bytes) bytes refl (rw opens_none refl) told (rw opens_none refl)
 
-  pub ready_further : IsReady cache behind (record cursor { offset = cursor.offset + (behind.position - at.position) })
-  ready_further = ((on, (sym page_behind, sym offset_behind)), (gathered.stands.reach, ap is_none passes_behind))
+  ready_inside : IsReady cache behind (record cursor { offset = offset })
+  ready_inside = ((on, (sym page_behind, sym offset_behind)), (reach, ap is_none passes_behind))
+
+-- behind another that starts on the same page
+pub ready_further : (cache : PageCache) (at behind : RecordPlace) (cursor : PageCursor) → IsOn cache cursor → HasGathered cache.geometry at.position 0 cursor → cursor.page ≡ address_of cache.geometry at.position / 8192 → opening_fault cache.geometry at (Some cache.bytes.value) ≡ None → behind.timeline ≡ cursor.timeline
+    → at.position < behind.position → behind.position - at.position < 8192 - cursor.offset → IsReady cache behind (record cursor { offset = cursor.offset + (behind.position - at.position) })
+ready_further cache at behind cursor on gathered page opens timeline further within =
+    let same : at.position + 0 + (behind.position - at.position) ≡ behind.position = omega (arith, further) in
+    let address = ap (address_of cache.geometry) (sym same) ∙ address_from cache.geometry (at.position + 0) cursor gathered.stands (behind.position - at.position) (omega (arith, within)) in
+    let low = gathered.stands.low in
+    ready_inside cache behind cursor (cursor.offset + (behind.position - at.position)) on gathered.stands.reach (opening_passed cache at cursor.page page opens) timeline address (omega (arith, low, further)) (omega (arith, within))
+
+-- the last byte that was gathered stands on the cursor's page, so the cursor is past its header
+past_header : (size position n : ℕ) (cursor : PageCursor) → HasGathered size position n cursor → 0 < n → header_size size cursor.page < cursor.offset
+past_header size position n cursor gathered some =
+    let stands = gathered.stands in
+    let last = position + n - 1 in
+    let by_page = position_by_page size stands.valid last in
+    let same = ap (λ (page : ℕ). position_of size (8192 * page)) (gathered.last some) in
+    let next = position_of-next_page size stands.valid cursor.page in
+    let swap : (cursor.page + 1) * 8192 ≡ 8192 * (cursor.page + 1) = omega arith in
+    let at = stands.at ∙ ap (position_of size) swap ∙ next in
+    let high = stands.high in
+    let header = header_size_bounds size stands.valid cursor.page in
+    omega arith
+
+-- behind another whose last bytes the page has
+pub ready_gathered : (cache : PageCache) (at behind : RecordPlace) (total end : ℕ) (cursor : PageCursor) → IsOn cache cursor → HasGathered cache.geometry at.position total cursor → 0 < total → HasPassed cache cursor.page → behind.timeline ≡ cursor.timeline
+    → end ≡ at.position + total → end ≤ behind.position → behind.position - end < 8192 - cursor.offset → IsReady cache behind (record cursor { offset = cursor.offset + (behind.position - end) })
+ready_gathered cache at behind total end cursor on gathered some passed timeline is further within =
+    let more = behind.position - end in
+    let same : at.position + total + more ≡ behind.position = omega (arith, is, further) in
+    let address = ap (address_of cache.geometry) (sym same) ∙ address_from cache.geometry (at.position + total) cursor gathered.stands more (omega (arith, within)) in
+    let past = past_header cache.geometry at.position total cursor gathered some in
+    ready_inside cache behind cursor (cursor.offset + more) on gathered.stands.reach passed timeline address (omega (arith, past)) (omega (arith, within))
 
 -- ---- what is beyond reach, by the address that is known
 

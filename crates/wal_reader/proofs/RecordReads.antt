@@ -1,8 +1,9 @@
 -- Laws of what reading a record answers, by the groups of its checks.
-use Rattle.std.proofs.Common.{◌≡◌, ℕ, ◌+◌, ◌-◌, ◌*◌, ◌/◌, ◌%◌, ◌^◌, ◌<◌, ◌≤◌, Bool, List, [], ◌++◌, take, drop, Option, Some, None, Result, Ok, Err, refl, sym, ap, subst, ◌∙◌, arith}
+use Rattle.std.proofs.Common.{◌≡◌, ℕ, ◌+◌, ◌-◌, ◌*◌, ◌/◌, ◌%◌, ◌^◌, ◌<◌, ◌≤◌, Bool, List, [], ◌++◌, take, drop, Option, Some, None, Result, Ok, Err, refl, sym, ap, subst, ◌∙◌, inl, inr, arith}
 use Rattle.std.specs.Prelude.{IfOk}
 use Rattle.std.specs.Int.{w64}
 use Rattle.std.specs.List.{slice_index}
+use Rattle.std.proofs.lemmas.Bool.{cases_lt}
 use Rattle.std.proofs.lemmas.List.{get_or-take, take-take}
 use Rattle.byte_position.specs.Geometry.{IsSegmentSize}
 use Rattle.byte_position.specs.Position.{position_of, address_of}
@@ -33,6 +34,7 @@ use Rattle.wal_reader.specs.RecordPlace.{IsReachable}
 use Rattle.wal_reader.specs.ReadFailures.{IsTold}
 use Rattle.wal_reader.proofs.GatherLaws.{bytes_in_page, crosses_none, gathers_further, page_from}
 use Rattle.wal_reader.proofs.NextPositionLaws.{next_position-below, next_position-further, next_position-whole}
+use Rattle.wal_reader.proofs.PagesLaws.{take-bytes_from}
 use Rattle.wal_reader.proofs.RowLaws.{first_of, first_fault-append, number_at-take}
 
 -- ---- four groups of checks, one behind another
@@ -245,16 +247,32 @@ module _ (size : ℕ) (pages : Pages) (at : RecordPlace) (start : Lsn) (total : 
 
 -- ---- a record that was gathered over pages
 
+-- what its first page has of it ends on the page that its header ends on
+pub page_of_first_part : (size position upto : ℕ) (cursor : PageCursor) → HasGathered size position 0 cursor → 24 ≤ upto → (24 < upto → cursor.offset + upto ≤ 8192) → page_of_byte size position upto ≡ page_of_byte size position 24
+page_of_first_part size position upto cursor gathered enough within =
+    elim (cases_lt 24 upto) [
+      | inl more ↦
+          (let fits = within more in
+          let stands = gathered.stands in
+          let last : position + 0 + (upto - 1) ≡ position + upto - 1 = omega arith in
+          let header : position + 0 + 23 ≡ position + 24 - 1 = omega arith in
+          ap (λ (p : ℕ). address_of size p / 8192) (sym last) ∙ page_from size (position + 0) cursor stands (upto - 1) (omega arith)
+          ∙ sym (page_from size (position + 0) cursor stands 23 (omega arith)) ∙ ap (λ (p : ℕ). address_of size p / 8192) header)
+      | inr same ↦ (let e : upto ≡ 24 = omega arith in ap (page_of_byte size position) e)
+    ]
+
 pub bytes_from-none : (size : ℕ) (pages : Pages) (position n : ℕ) → n ≡ 0 → bytes_from size pages n position ≡ []
 unfolding bytes_from
 bytes_from-none size pages position n none = rw none refl
 
-module _ (size : ℕ) (pages : Pages) (at : RecordPlace) (start : Lsn) (total : ℕ) (starts : start.0 ≡ address_of size at.position) (p0 p1 p2 : ℕ) (e0 : p0 ≡ address_of size at.position / 8192) (e1 : p1 ≡ page_of_byte size at.position 24) (e2 : p2 ≡ page_of_byte size at.position total) (crossed : Crosses size pages at total p0 p1) (header : List ℕ) (header_is : header ≡ bytes_from size pages 24 at.position) where
+module _ (size : ℕ) (pages : Pages) (at : RecordPlace) (start : Lsn) (total : ℕ) (starts : start.0 ≡ address_of size at.position) (p0 p1 p2 : ℕ) (e0 : p0 ≡ address_of size at.position / 8192) (e1 : p1 ≡ page_of_byte size at.position 24) (e2 : p2 ≡ page_of_byte size at.position total) (crossed : Crosses size pages at total p0 p1) (upto : ℕ) (enough : 24 ≤ upto) (header : List ℕ) (header_is : header ≡ bytes_from size pages upto at.position) where
   abbrev told_over : Result FoundRecord Answer
   told_over = said_of size pages at total (first_fault (rest_rows size pages at total))
 
   header_rows_over : header_rows (address_of size at.position) at.prev (bytes_from size pages 24 at.position) ≡ header_rows start.0 at.prev header
-  header_rows_over = rw (header_is, starts) refl
+  header_rows_over =
+      let front : bytes_from size pages 24 at.position ≡ take 24 header = sym (take-bytes_from size pages 24 upto at.position enough) ∙ ap (take 24) (sym header_is) in
+      ap (header_rows (address_of size at.position) at.prev) front ∙ header_rows-front (address_of size at.position) at.prev header ∙ ap (λ (a : ℕ). header_rows a at.prev header) (sym starts)
 
   pub header_fails_over : (answer : Answer) → first_fault (header_rows start.0 at.prev header) ≡ Some answer → told_over ≡ Err answer
   header_fails_over answer told = header_fails size pages at total p0 p1 p2 e0 e1 e2 crossed answer (ap first_fault header_rows_over ∙ told)

@@ -9,7 +9,7 @@ use Rattle.wal_reader.specs.declared.page_cursor.PageCursor.{PageCursor}
 use Rattle.wal_reader.specs.declared.page_cache.PageCache.{PageCache}
 use Rattle.wal_reader.specs.Cache.{Caches, log_of}
 use Rattle.wal_reader.specs.Pages.{Pages, bytes_from}
-use Rattle.wal_reader.specs.Decodes.{page_of_byte, rows_of_pages}
+use Rattle.wal_reader.specs.Decodes.{page_answers, page_of_byte, rows_of_pages}
 
 -- pages are those of the log that a disk tells
 abbrev pub IsLogOf : Option Tape → ℕ → Pages → Type 0
@@ -30,6 +30,11 @@ SeesStill old_tape new_tape old new = (pages : Pages) → Sees old_tape old page
 abbrev pub IsOn : PageCache → PageCursor → Type 0
 IsOn cache cursor =
     (cache.number ≡ Some cursor.page) × (timeline_of cache.bytes.value ≡ cursor.timeline)
+
+-- the page that is held passes its own checks as the one of this number, beside no page before it
+pub record HasPassed (cache : PageCache) (page : ℕ) : Type 0 where
+  pub passes : first_fault (page_answers cache.geometry page cache.bytes.value
+      (timeline_of cache.bytes.value)) ≡ None
 
 -- nothing was read: disk and page are the same, and the cursor is still on its page
 abbrev pub StaysOnPage : {D E : Type 0} → D → D → PageCache → PageCache → PageCursor

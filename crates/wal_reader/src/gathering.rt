@@ -5,7 +5,7 @@
 
 ghost use Rattle.std.specs.Prelude.{◌≡◌, ℕ, ◌+◌, ◌-◌, ◌*◌, ◌/◌, ◌<◌, ◌≤◌, ◌^◌, ◌++◌, length, take, drop, min, vec_len, Some, None, IfOk, OnErr, OnOk, MatchResult};
 ghost use Rattle.wal_page.specs.Page.{first_fault};
-ghost use Rattle.wal_reader.specs.PageCursor.{Crosses, HasGathered, IsOn, Sees, StandsIn, StaysOnPage};
+ghost use Rattle.wal_reader.specs.PageCursor.{Crosses, HasGathered, HasPassed, IsOn, Sees, StandsIn, StaysOnPage};
 ghost use Rattle.wal_reader.specs.Decodes.{page_of_byte, rows_of_pages};
 ghost use Rattle.wal_reader.specs.Gathering.{Gathers, IsGathering};
 ghost use Rattle.wal_reader.specs.Pages.{IsPage, Pages, bytes_from};
@@ -41,9 +41,12 @@ pub(crate) fn gather<D: Disk>(
     // The room has the record's first bytes, at most those asked for.
     requires gathering { IsGathering buffers.old.cache gathering (vec_len buffers.old.room) }
     requires upto { (vec_len buffers.old.room ≤ upto) × (upto ≤ gathering.extent.total) }
+    requires passed { HasPassed buffers.old.cache gathering.cursor.page }
     // At Ok the room has all bytes asked for.
     ensures gathered { IfOk result (λ now. (vec_len buffers.new.room ≡ upto)
         × IsGathering buffers.new.cache (record gathering { cursor = now }) upto) }
+    // The page that is held then has passed its own checks.
+    ensures passed { IfOk result (λ now. HasPassed buffers.new.cache now.page) }
     // Beyond the last address that is read no page is looked at.
     ensures beyond { 2 ^ 47 ≤ gathering.cursor.page + 1 → StaysOnPage disk.old disk.new
         buffers.old.cache buffers.new.cache gathering.cursor result }
@@ -79,10 +82,12 @@ fn pass_border<D: Disk>(
     requires reachable { IsReachable extent.at }
     requires more { gathered < extent.total }
     requires on { IsOn cache.old cursor }
+    requires passed { HasPassed cache.old cursor.page }
     requires stands { StandsIn cache.old.geometry (extent.at.position + gathered) cursor }
     // At Ok the cursor stands at that byte, on the page that is held then.
     ensures cursor { IfOk result (λ now. IsOn cache.new now × StandsIn cache.old.geometry
         (extent.at.position + gathered) now × (now.offset < 8192)) }
+    ensures passed { IfOk result (λ now. HasPassed cache.new now.page) }
     ensures beyond { 2 ^ 47 ≤ cursor.page + 1 → StaysOnPage disk.old disk.new
         cache.old cache.new cursor result }
     ensures checks { (pages : Pages) → Sees (D.tape disk.old) cache.old pages
@@ -104,6 +109,7 @@ fn pass_border<D: Disk>(
 }
 
 // Appends what the page that is held has of the record from a cursor on, up to `upto` bytes in all.
+#[inline(always)]
 fn take_bytes(
     cache: &PageCache,
     room: &mut Vec<u8>,
@@ -137,6 +143,7 @@ fn take_bytes(
 }
 
 // Appends what a page has from an offset on, `most` bytes if it has so many, and answers how many.
+#[inline(always)]
 fn append(room: &mut Vec<u8>, page: &[u8; 8192], offset: u32, most: u32) -> Result<u32, AllocError>
     requires { offset ≤ 8192 }
     ensures count { IfOk result (λ count. count ≡ min (8192 - offset) most) }

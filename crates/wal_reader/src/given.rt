@@ -23,18 +23,19 @@ use crate::page_cursor::PageCursor;
 use crate::read_failure::ReadFailure;
 use crate::record_place::RecordPlace;
 use crate::record_reading::read_record;
+use record_decode::KeepsRecord;
 use segment_disk::Disk;
 use std::alloc::Global;
-use wal_types::{Lsn, Record};
+use wal_types::Lsn;
 
 /// The next record at or behind `start`, and where the one behind it stands: from a place, or
 /// where reading has not begun from where it begins. `end` is where reading ends, if it is given.
-/// The record is put into `value`. `ready` tells where the record at the place stands,
+/// The record is kept by `value`. `ready` tells where the record at the place stands,
 /// if that is known, and then where the next one does.
 #[inline(always)]
-pub(crate) fn next_given<D: Disk>(
+pub(crate) fn next_given<D: Disk, K: KeepsRecord>(
     alloc: Global,
-    value: &mut Record,
+    value: &mut K,
     buffers: &mut Buffers,
     disk: &mut D,
     start: Lsn,
@@ -47,11 +48,11 @@ pub(crate) fn next_given<D: Disk>(
     ensures ready { MatchResult result (λ r. IsReadyAt buffers.new.cache r.1 ready.new)
         (λ _. ready.new ≡ None) }
     // What is answered is the next record of these pages, at or behind `start`.
-    ensures answered { IfOk (read_with value.new result)
+    ensures answered { IfOk (read_with (K.kept value.new) result)
         (IsAnswered from buffers.old.cache.geometry) }
     ensures gives { (pages : Pages) → Sees (D.tape disk.old) buffers.old.cache pages
         → IsNextIn buffers.old.cache.geometry pages start.0 (option_map (λ e. e.0) end) from
-        buffers.old.room.items buffers.new.room.items (read_with value.new result) }
+        buffers.old.room.items buffers.new.room.items (read_with (K.kept value.new) result) }
     // Where nothing is to be read, or all that may be is held already, the disk is untouched.
     ensures unread { IfSome from (λ at. IsOutOfReach buffers.old.cache.geometry
         (option_map (λ e. e.0) end) at.position → disk.new ≡ disk.old) }
@@ -75,9 +76,9 @@ pub(crate) fn next_given<D: Disk>(
 
 // Records before `start` are read and checked as any other, and passed over.
 #[inline(always)]
-fn read_given<D: Disk>(
+fn read_given<D: Disk, K: KeepsRecord>(
     alloc: Global,
-    value: &mut Record,
+    value: &mut K,
     buffers: &mut Buffers,
     disk: &mut D,
     start: Lsn,
@@ -90,11 +91,11 @@ fn read_given<D: Disk>(
     ensures ready { MatchResult result (λ r. IsReadyAt buffers.new.cache r.1 ready.new)
         (λ _. ready.new ≡ None) }
     // As of `next_given`, from a place on.
-    ensures answered { IfOk (read_with value.new result)
+    ensures answered { IfOk (read_with (K.kept value.new) result)
         (IsAnswered (Some from) buffers.old.cache.geometry) }
     ensures gives { (pages : Pages) → Sees (D.tape disk.old) buffers.old.cache pages
         → IsNextIn buffers.old.cache.geometry pages start.0 (option_map (λ e. e.0) end) (Some from)
-        buffers.old.room.items buffers.new.room.items (read_with value.new result) }
+        buffers.old.room.items buffers.new.room.items (read_with (K.kept value.new) result) }
     ensures unread { IsOutOfReach buffers.old.cache.geometry
         (option_map (λ e. e.0) end) from.position → disk.new ≡ disk.old }
     ensures last_page { HoldsLastPage buffers.old.cache.number

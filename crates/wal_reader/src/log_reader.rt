@@ -15,6 +15,7 @@ use crate::page_cursor::PageCursor;
 use crate::read_failure::ReadFailure;
 use crate::standing::{Comes, ReadErr, Standing, Step, step_with, told};
 use byte_position::Geometry;
+use record_decode::KeepsRecord;
 use segment_disk::Disk;
 use std::alloc::Global;
 use wal_types::{Lsn, Record};
@@ -100,33 +101,34 @@ impl Reader {
         step_with(value, comes)
     }
 
-    /// `next`, with the record put into one that the caller has, whatever it held: where its room is
-    /// large enough no memory is taken for main data. Where no record comes it means nothing.
+    /// `next`, with the record kept as the caller asks for, whatever was kept: in a `Record` that
+    /// it has, where no memory is taken for main data if its room is large enough, or by `Unkept`
+    /// not at all. What is read and checked is the same. Where no record comes it means nothing.
     #[inline(always)]
-    pub fn next_into<D: Disk>(
+    pub fn next_into<D: Disk, K: KeepsRecord>(
         &mut self,
         alloc: Global,
         disk: &mut D,
-        value: &mut Record,
+        value: &mut K,
     ) -> Result<Comes, ReadErr>
         // As of `next`, by the step that they make together.
         ensures gives { (pages : Pages) → IsLogOf (D.tape disk.old)
             (reader_state self.old).size pages → Knows self.old pages
-            → IsStepIn pages self.old self.new (step_with value.new result) }
+            → IsStepIn pages self.old self.new (step_with (K.kept value.new) result) }
         ensures leaves { LeavesReader (reader_state self.old) (reader_state self.new)
-            (step_with value.new result) }
+            (step_with (K.kept value.new) result) }
         ensures behind { StandsAfter (reader_state self.old).size
-            (reader_state self.new).standing (step_with value.new result) }
-        ensures forgets { OnEnd (step_with value.new result) (HoldsNoPage self.new) }
+            (reader_state self.new).standing (step_with (K.kept value.new) result) }
+        ensures forgets { OnEnd (step_with (K.kept value.new) result) (HoldsNoPage self.new) }
         ensures unread { NeedsNoPage (reader_state self.old) (reader_page self.old)
             self.old.standing → disk.new ≡ disk.old }
-        ensures spelled { IfOk (step_with value.new result) GivesSpelled }
-        ensures stopped { IsToldAgain (reader_state self.old).standing (step_with value.new result)
-            disk.old disk.new }
+        ensures spelled { IfOk (step_with (K.kept value.new) result) GivesSpelled }
+        ensures stopped { IsToldAgain (reader_state self.old).standing
+            (step_with (K.kept value.new) result) disk.old disk.new }
 
         ensures uncalled { IsUncalled D.tape D.moment disk.old disk.new }
         ensures cause { HasReadCause (D.faults disk.old) (D.faults disk.new)
-            (step_with value.new result) }
+            (step_with (K.kept value.new) result) }
     {
         let from = match self.standing {
             Standing::NotBegun => None,

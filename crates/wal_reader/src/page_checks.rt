@@ -7,7 +7,7 @@ ghost use Rattle.std.specs.Prelude.{◌≡◌, ◌+◌, ◌-◌, ◌*◌, ◌/�
 ghost use Rattle.byte_position.specs.Geometry.{IsSegmentSize};
 ghost use Rattle.byte_position.specs.Position.{address_of};
 ghost use Rattle.wal_page.specs.Page.{first_fault, header_size, is_continued, is_overwritten, remaining_of, timeline_of};
-ghost use Rattle.wal_reader.specs.PageCursor.{IsOn, Sees};
+ghost use Rattle.wal_reader.specs.PageCursor.{HasPassed, IsOn, Sees};
 ghost use Rattle.wal_reader.specs.Decodes.{continuation_rows_of, page_answers};
 ghost use Rattle.wal_reader.specs.Pages.{Pages};
 ghost use Rattle.wal_reader.specs.ReadsOn.{ReadsOn};
@@ -68,6 +68,7 @@ pub(crate) fn turn_page<D: Disk>(
     ensures next { IfOk result (λ next. (next.page ≡ cursor.page + 1) × (next.offset
         ≡ header_size cache.old.geometry (cursor.page + 1)) × (next.page < 2 ^ 47)
         × IsOn cache.new next) }
+    ensures passed { IfOk result (λ next. HasPassed cache.new next.page) }
     // A page beyond the last address that is read is not looked at.
     ensures beyond { 2 ^ 47 ≤ cursor.page + 1 → (disk.new ≡ disk.old)
         × (cache.new ≡ cache.old) × OnOk result ⊥ }

@@ -1,12 +1,12 @@
-//! Where the next record stands, kept from one record to the next: as long as records lie on the
-//! page that is held, no address is made of a byte position, and the page's header is looked at
-//! once.
+//! Where the next record stands, kept from one record to the next: as long as it starts on the page
+//! that has the last one's end, no address is made of a byte position, and the page's header is
+//! looked at once.
 
 ghost use Rattle.std.specs.Prelude.{◌≡◌, ◌↔◌, ◌+◌, ◌/◌, ◌%◌, ◌<◌, ◌≤◌, ◌^◌, IfOk, IsTrue, Some, None, option_map};
 ghost use Rattle.byte_position.specs.Position.{address_of};
 ghost use Rattle.wal_reader.specs.Decodes.{is_at_end, opening_fault};
-ghost use Rattle.wal_reader.specs.Gathering.{IsOpened};
-ghost use Rattle.wal_reader.specs.PageCursor.{HasGathered, IsOn, Sees};
+ghost use Rattle.wal_reader.specs.Gathering.{IsGathering, IsOpened};
+ghost use Rattle.wal_reader.specs.PageCursor.{HasGathered, HasPassed, IsOn, Sees};
 ghost use Rattle.wal_reader.specs.Pages.{Pages};
 ghost use Rattle.wal_reader.specs.Ready.{IsReadyAt};
 ghost use Rattle.wal_reader.specs.ReadsOn.{ReadsOn};
@@ -42,6 +42,33 @@ pub(crate) fn ready_behind(
     let left = u64::from(PAGE_LEN - cursor.offset);
     if position < behind.position && behind.position - position < left {
         let further = (behind.position - position) as u32;
+        return Some(PageCursor {
+            offset: cursor.offset + further,
+            ..cursor
+        });
+    }
+    None
+}
+
+/// Where the record behind one that was gathered over pages stands, if it is on the page that has
+/// the last of its bytes.
+#[inline(always)]
+pub(crate) fn ready_over(
+    cache: &PageCache,
+    gathered: Gathering,
+    behind: RecordPlace,
+) -> Option<PageCursor>
+    requires gathered { IsGathering cache.now gathered gathered.extent.total }
+    requires some { 0 < gathered.extent.total }
+    requires passed { HasPassed cache.now gathered.cursor.page }
+    requires timeline { behind.timeline ≡ gathered.cursor.timeline }
+    ensures { IsReadyAt cache.now behind result }
+{
+    let cursor = gathered.cursor;
+    let end = gathered.extent.at.position + u64::from(gathered.extent.total);
+    let left = u64::from(PAGE_LEN - cursor.offset);
+    if end <= behind.position && behind.position - end < left {
+        let further = (behind.position - end) as u32;
         return Some(PageCursor {
             offset: cursor.offset + further,
             ..cursor

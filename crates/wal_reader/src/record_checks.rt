@@ -24,12 +24,12 @@ use crate::numbers::{u32_at, u64_at};
 use crate::record_extent::RecordExtent;
 use crate::record_place::RecordPlace;
 use byte_position::Geometry;
-use record_decode::{BlockHead, RecErr, decode_into};
+use record_decode::{BlockHead, KeepsRecord, RecErr, decode_into};
 use record_spelling::is_free_manager;
-use record_spelling::layout::{HEADER_LEN, RMID_AT};
+use record_spelling::layout::{HEADER_LEN, INFO_AT, LEN_AT, RMID_AT};
 use std::alloc::{AllocError, Global};
 use wal_crc32c::Crc;
-use wal_types::{Lsn, Record};
+use wal_types::Lsn;
 
 /// Whether a header has a manager that there is, and names the right record before it (PostgreSQL's
 /// ValidXLogRecordHeader of xlogreader.c).
@@ -64,12 +64,12 @@ pub(crate) fn check_crc(start: Lsn, bytes: &[u8]) -> Result<(), Answer>
 }
 
 /// What the bytes of a record say, and the place behind it: `timeline` is that of the page in which
-/// it ends. The record is put into `value`, and the heads of its blocks are read into `heads`.
+/// it ends. The record is kept by `value`, and the heads of its blocks are read into `heads`.
 #[tactic(auto, unfolding(crate::specs::Spelled::IsSpelled))]
 #[inline(always)]
-pub(crate) fn found(
+pub(crate) fn found<K: KeepsRecord>(
     alloc: Global,
-    value: &mut Record,
+    value: &mut K,
     geometry: Geometry,
     start: Lsn,
     extent: RecordExtent,
@@ -86,20 +86,20 @@ pub(crate) fn found(
     requires end { (value : Record)
         → next_position geometry extent.at.position extent.total value < 2 ^ 60 }
     // What the bytes spell, or why they spell nothing; with the record's place.
-    ensures read { IfOk result (λ said. without_place (read_with value.new said)
+    ensures read { IfOk result (λ said. without_place (read_with (K.kept value.new) said)
         ≡ found_or geometry extent.at extent.total (number_at w64 bytes.now 8)
         (reading_of bytes.now)) }
-    ensures spelled { IfOk result (λ said. IfOk (read_with value.new said)
+    ensures spelled { IfOk result (λ said. IfOk (read_with (K.kept value.new) said)
         (λ read. IsSpelled read.0)) }
     ensures start { IfOk result (λ said. IfOk said (λ read. read.0.start ≡ start)) }
     ensures end { IfOk result (λ said. IfOk said (λ read. read.0.end.0
         ≡ end_address_of geometry read.1.position)) }
-    ensures behind { IfOk result (λ said. IfOk (read_with value.new said) (λ read. read.1
+    ensures behind { IfOk result (λ said. IfOk (read_with (K.kept value.new) said) (λ read. read.1
         ≡ behind_read geometry extent.at read.0 extent.total timeline)) }
 {
     match decode_into(alloc, heads, value, bytes) {
         Ok(()) => {
-            let next = extent.next_position(geometry, value);
+            let next = extent.next_position(geometry, bytes);
             let found = FoundHead {
                 start,
                 end: extent.end(geometry, start, next),
@@ -122,13 +122,14 @@ pub(crate) fn found(
     }
 }
 
-// What is behind the header, and then the header up to the CRC.
+// What is behind the header, and then the header up to the CRC, in which the start of the record
+// before is the gap.
 fn crc_of(bytes: &[u8]) -> u32
     requires { 24 ≤ length bytes.now }
     ensures { result ≡ crc32c (drop 24 bytes.now ++ take 20 bytes.now) }
 {
     let mut crc = Crc::new();
     crc.update(&bytes[HEADER_LEN..]);
-    crc.update(&bytes[..CRC_AT]);
-    crc.value()
+    crc.update_round_gap(u64_at(bytes, LEN_AT), u32_at(bytes, INFO_AT));
+    crc.with_gap_filled(u64_at(bytes, PREV_AT)).value()
 }

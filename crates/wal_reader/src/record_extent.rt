@@ -1,15 +1,18 @@
 //! What a record takes up in the log. A segment switch (PostgreSQL's XLOG_SWITCH) takes the rest of
 //! its segment, whatever stands there.
 
-ghost use Rattle.std.specs.Prelude.{◌≡◌, ◌^◌, ◌<◌};
+ghost use Rattle.std.specs.Prelude.{◌≡◌, ◌^◌, ◌<◌, ◌≤◌, length, Ok};
 ghost use Rattle.byte_position.specs.Position.{address_of, end_address_of};
+ghost use Rattle.wal_types.specs.declared.record.Record.{Record};
+ghost use Rattle.record_decode.specs.Reading.{reading_of};
 ghost use Rattle.wal_reader.specs.Decodes.{next_position};
 
 use crate::record_place::RecordPlace;
 use byte_position::{Geometry, PAGE_SIZE};
-use record_spelling::is_switch;
+use record_spelling::ends_segment;
+use record_spelling::layout::{INFO_AT, RMID_AT};
 use wal_page::next_segment;
-use wal_types::{Lsn, Record};
+use wal_types::Lsn;
 
 /// Where a record is read, and the size that it claims.
 #[derive(Clone, Copy, Debug)]
@@ -28,16 +31,17 @@ impl RecordExtent {
         geometry.to_lsn(self.at.position)
     }
 
-    /// The byte position at which the next record starts, where this one has the value that was
-    /// read.
+    /// The byte position at which the next record starts, where this one is read from these bytes.
     #[tactic(auto, unfolding(crate::specs::Decodes::next_position))]
-    pub(crate) fn next_position(self, geometry: Geometry, value: &Record) -> u64
+    pub(crate) fn next_position(self, geometry: Geometry, bytes: &[u8]) -> u64
         requires start { self.at.position < 2 ^ 60 }
         requires some { 0 < self.total }
-        ensures { result ≡ next_position geometry self.at.position self.total value.now }
+        requires header { 24 ≤ length bytes.now }
+        ensures { (value : Record) → reading_of bytes.now ≡ Ok value
+            → result ≡ next_position geometry self.at.position self.total value }
     {
         let total = u64::from(self.total);
-        if is_switch(value) {
+        if ends_segment(bytes[RMID_AT], bytes[INFO_AT]) {
             next_segment(geometry, self.at.position + total - 1)
         } else {
             self.at.position + (total + 7) / 8 * 8

@@ -13,7 +13,7 @@ ghost use Rattle.std.specs.Prelude.{◌≡◌, ℕ, ◌+◌, ◌*◌, ◌/◌, �
 ghost use Rattle.byte_position.specs.Position.{address_of};
 ghost use Rattle.wal_page.specs.Page.{first_fault};
 ghost use Rattle.wal_reader.specs.Cache.{HoldsLastPage};
-ghost use Rattle.wal_reader.specs.PageCursor.{HoldsPassed, Sees};
+ghost use Rattle.wal_reader.specs.PageCursor.{HasPassed, HoldsPassed, Sees};
 ghost use Rattle.wal_reader.specs.Decodes.{rest_rows};
 ghost use Rattle.wal_reader.specs.Pages.{IsPage, Pages};
 ghost use Rattle.wal_reader.specs.Answered.{IsAnswered, IsReadIn};
@@ -33,25 +33,25 @@ use crate::layout::PAGE_LEN;
 use crate::page_cache::PageCache;
 use crate::page_cursor::PageCursor;
 use crate::read_failure::ReadFailure;
-use crate::ready::{is_beyond, open_ready, ready_behind};
+use crate::ready::{is_beyond, open_ready, ready_behind, ready_over};
 use crate::record_checks::{check_crc, check_header, found};
 use crate::record_place::RecordPlace;
 use crate::record_start::claimed;
-use record_decode::BlockHead;
+use record_decode::{BlockHead, KeepsRecord};
 use record_spelling::layout::HEADER_LEN;
 use segment_disk::Disk;
 use std::alloc::Global;
-use wal_types::{Lsn, Record};
+use wal_types::Lsn;
 
 /// Reads the record at a place, and answers it with the place behind it, or what stands
 /// in its place. Where an end was given, nothing at or above it is read. Whatever size a record
 /// claims, the room takes no more of it than what pages have that passed their checks. The record
-/// is put into `value`. `ready` tells where the record stands, if that is known, and then
+/// is kept by `value`. `ready` tells where the record stands, if that is known, and then
 /// where the next one does.
 #[inline(always)]
-pub(crate) fn read_record<D: Disk>(
+pub(crate) fn read_record<D: Disk, K: KeepsRecord>(
     alloc: Global,
-    value: &mut Record,
+    value: &mut K,
     buffers: &mut Buffers,
     disk: &mut D,
     end: Option<Lsn>,
@@ -63,7 +63,7 @@ pub(crate) fn read_record<D: Disk>(
     ensures ready { MatchResult result (λ r. IsReadyAt buffers.new.cache r.1 ready.new)
         (λ _. ready.new ≡ None) }
     // At Ok the place behind is where the next record would start.
-    ensures answered { IfOk (read_with value.new result)
+    ensures answered { IfOk (read_with (K.kept value.new) result)
         (IsAnswered (Some at) buffers.old.cache.geometry) }
     ensures rises { IfOk result (λ r. address_of buffers.old.cache.geometry at.position
         ≤ address_of buffers.old.cache.geometry r.1.position) }
@@ -76,7 +76,7 @@ pub(crate) fn read_record<D: Disk>(
     // It answers what is computed of these pages at this place.
     ensures reads { (pages : Pages) → Sees (D.tape disk.old) buffers.old.cache pages
         → IsReadIn buffers.old.cache.geometry pages (option_map (λ end. end.0) end) at
-        buffers.old.room.items buffers.new.room.items (read_with value.new result) }
+        buffers.old.room.items buffers.new.room.items (read_with (K.kept value.new) result) }
 
     ensures reads_on { ReadsOn D.tape D.moment disk.old disk.new
         buffers.old.cache buffers.new.cache }
@@ -96,16 +96,17 @@ pub(crate) fn read_record<D: Disk>(
         Ok(whole)
     } else {
         // Told anew, so that the room of this call's answer is not that of the other's.
-        let read = read_over_pages(alloc, value, buffers, disk, Gathering { extent, cursor })?;
+        let opened = Gathering { extent, cursor };
+        let read = read_over_pages(alloc, value, buffers, disk, opened, ready)?;
         Ok(read)
     }
 }
 
 // Reads a record that the held page has whole.
 #[inline(always)]
-fn read_in_page(
+fn read_in_page<K: KeepsRecord>(
     alloc: Global,
-    value: &mut Record,
+    value: &mut K,
     cache: &PageCache,
     opened: Gathering,
     heads: &mut Vec<BlockHead>,
@@ -113,14 +114,14 @@ fn read_in_page(
     requires opened { IsOpened cache.now opened }
     requires within { opened.cursor.offset + opened.extent.total ≤ 8192 }
     requires whole { IsPage cache.now.bytes.value }
-    ensures answered { IfOk (read_with value.new result)
+    ensures answered { IfOk (read_with (K.kept value.new) result)
         (IsAnswered (Some opened.extent.at) cache.now.geometry) }
     ensures timeline { IfOk result (λ r. r.1.timeline ≡ opened.cursor.timeline) }
     ensures reads { (pages : Pages) → pages opened.cursor.page ≡ Some cache.now.bytes.value
         → IsRead cache.now.geometry pages opened.extent.at
         (said_of cache.now.geometry pages opened.extent.at opened.extent.total
         (first_fault (rest_rows cache.now.geometry pages
-        opened.extent.at opened.extent.total))) (read_with value.new result) }
+        opened.extent.at opened.extent.total))) (read_with (K.kept value.new) result) }
     ensures no_disk { IfErr result IsNoDiskFault }
 {
     let Gathering { extent, cursor } = opened;
@@ -152,16 +153,20 @@ fn part_of_page(page: &[u8; 8192], offset: u32, count: u32) -> &[u8]
 // Reads a record whose bytes stand on further pages too. A call of its own, so that a record that a
 // page has whole pays nothing for it.
 #[inline(never)]
-fn read_over_pages<D: Disk>(
+fn read_over_pages<D: Disk, K: KeepsRecord>(
     alloc: Global,
-    value: &mut Record,
+    value: &mut K,
     buffers: &mut Buffers,
     disk: &mut D,
     opened: Gathering,
+    ready: &mut Option<PageCursor>,
 ) -> Result<(FoundHead, RecordPlace), ReadFailure>
-    requires { IsOpened buffers.old.cache opened }
+    requires opened { IsOpened buffers.old.cache opened }
+    requires passed { HasPassed buffers.old.cache opened.cursor.page }
+    ensures ready { MatchResult result (λ r. IsReadyAt buffers.new.cache r.1 ready.new)
+        (λ _. ready.new ≡ ready.old) }
     // As of `read_record`, for a record that goes on on further pages.
-    ensures answered { IfOk (read_with value.new result)
+    ensures answered { IfOk (read_with (K.kept value.new) result)
         (IsAnswered (Some opened.extent.at) buffers.old.cache.geometry) }
     ensures beyond { 2 ^ 47 ≤ opened.cursor.page + 1
         → (disk.new ≡ disk.old) × (buffers.new.cache ≡ buffers.old.cache) }
@@ -169,7 +174,7 @@ fn read_over_pages<D: Disk>(
         → IsRead buffers.old.cache.geometry pages opened.extent.at
         (said_of buffers.old.cache.geometry pages opened.extent.at opened.extent.total
         (first_fault (rest_rows buffers.old.cache.geometry pages
-        opened.extent.at opened.extent.total))) (read_with value.new result) }
+        opened.extent.at opened.extent.total))) (read_with (K.kept value.new) result) }
     ensures room { (pages : Pages) → Sees (D.tape disk.old) buffers.old.cache pages
         → HoldsPassed buffers.old.cache.geometry pages opened.extent.at opened.extent.total
         (address_of buffers.old.cache.geometry opened.extent.at.position / 8192)
@@ -183,7 +188,8 @@ fn read_over_pages<D: Disk>(
     let geometry = buffers.cache.geometry;
     let start = extent.start(geometry);
     buffers.room.clear();
-    let cursor = gather(buffers, disk, opened, HEADER_LEN as u32)?;
+    let upto = first_part(opened);
+    let cursor = gather(buffers, disk, opened, upto)?;
     check_header(start, extent.at.prev, &buffers.room)?;
     let cursor = gather(buffers, disk, Gathering { extent, cursor }, extent.total)?;
     check_crc(start, &buffers.room)?;
@@ -198,5 +204,19 @@ fn read_over_pages<D: Disk>(
         &buffers.room,
         &mut buffers.heads,
     )??;
+    *ready = ready_over(&buffers.cache, Gathering { extent, cursor }, read.1);
     Ok(read)
+}
+
+// How many bytes are gathered before the header is checked: all that the record's first page has of
+// it, so that they are taken in one step, or the header where that goes on on the next page.
+fn first_part(opened: Gathering) -> u32
+    requires within { opened.cursor.offset ≤ 8192 }
+    requires large { 24 ≤ opened.extent.total }
+    ensures header { 24 ≤ result }
+    ensures total { result ≤ opened.extent.total }
+    ensures page { 24 < result → opened.cursor.offset + result ≤ 8192 }
+{
+    let here = opened.extent.total.min(PAGE_LEN - opened.cursor.offset);
+    here.max(HEADER_LEN as u32)
 }

@@ -12,3 +12,4 @@ pub mod StatisticsLaws
 pub mod TallyLaws
 pub mod CountingLaws
 pub mod StatisticsDump
+pub mod QuietLaws

@@ -9,6 +9,7 @@ use crate::counting::tally_log;
 use crate::line_buffer::LineBuffer;
 use crate::lines::put_line;
 use crate::putting::SinkFault;
+use crate::quiet::count_records;
 use crate::statistics::put_tally;
 use crate::steps::{blank, put_head};
 use crate::sums::Tally;
@@ -55,7 +56,7 @@ impl From<SinkFault> for DumpErr {
 /// Lists what the disk's log decodes to, by a filter, a line for each record as it comes, and
 /// answers how many records are listed. Reading begins on the page that holds the filter's start;
 /// once the limit is listed, nothing is read any more. Statistics are put in place of the lines
-/// once all is read.
+/// once all is read. Where nothing is printed and no rule is given, the records are not kept.
 pub fn dump<D: Disk, O: Sink>(
     alloc: Global,
     disk: &mut D,
@@ -71,6 +72,8 @@ pub fn dump<D: Disk, O: Sink>(
 {
     if filter.stats {
         dump_statistics(alloc, disk, geometry, filter, out)
+    } else if filter.only_counts() {
+        count_records(alloc, disk, geometry, filter)
     } else {
         dump_lines(alloc, disk, geometry, filter, out)
     }

@@ -10,6 +10,7 @@ mod line_buffer;
 mod lines;
 mod names;
 mod putting;
+mod quiet;
 mod statistics;
 mod steps;
 mod sums;

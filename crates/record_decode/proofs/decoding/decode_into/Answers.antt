@@ -9,10 +9,10 @@ use Rattle.record_decode.proofs.Readings.{found_by, only}
 use Rattle.record_decode.proofs.decoding.decode_into.Goals as goal
 
 pub returns-clause-spelled : goal.returns-clause-spelled
-returns-clause-spelled c = found_by (held_after c.reading.new.«record» c.reading.result) c.args.bytes.now (λ i. omega (arith, c.type_inv.bytes i)) c.reading.ensures
+returns-clause-spelled g c = found_by (held_after (g.K.KeepsRecord.kept c.reading.new.keeper) c.reading.result) c.args.bytes.now (λ i. omega (arith, c.type_inv.bytes i)) c.reading.ensures
 
 pub returns-clause-reads : goal.returns-clause-reads
-returns-clause-reads c = λ r spelled. subst (GivesReading (held_after c.reading.new.«record» c.reading.result)) (only c.args.bytes.now r spelled) c.reading.ensures
+returns-clause-reads g c = λ r spelled. subst (GivesReading (held_after (g.K.KeepsRecord.kept c.reading.new.keeper) c.reading.result)) (only c.args.bytes.now r spelled) c.reading.ensures
 
 -- an error is one whatever is held
 error_of : {T : Type 0} (held : Record) (result : Result T RecErr) (P : RecErr → Type 0) → IfErr (held_after held result) P → IfErr result P
@@ -20,7 +20,7 @@ error_of held (Ok x) P holds = tt
 error_of held (Err e) P holds = holds
 
 pub returns-clause-fails : goal.returns-clause-fails
-returns-clause-fails c = error_of c.reading.new.«record» c.reading.result _ (fails_by (held_after c.reading.new.«record» c.reading.result) c.args.bytes.now (λ i. omega (arith, c.type_inv.bytes i)) c.reading.ensures)
+returns-clause-fails g c = error_of (g.K.KeepsRecord.kept c.reading.new.keeper) c.reading.result _ (fails_by (held_after (g.K.KeepsRecord.kept c.reading.new.keeper) c.reading.result) c.args.bytes.now (λ i. omega (arith, c.type_inv.bytes i)) c.reading.ensures)
 
 pub returns-clause-refuses : goal.returns-clause-refuses
-returns-clause-refuses c = λ e fails. subst (GivesReading (held_after c.reading.new.«record» c.reading.result)) (cause_told c.args.bytes.now e (λ i. omega (arith, c.type_inv.bytes i)) fails) c.reading.ensures
+returns-clause-refuses g c = λ e fails. subst (GivesReading (held_after (g.K.KeepsRecord.kept c.reading.new.keeper) c.reading.result)) (cause_told c.args.bytes.now e (λ i. omega (arith, c.type_inv.bytes i)) fails) c.reading.ensures

@@ -8,67 +8,67 @@ use Rattle.wal_log.proofs.PageLaws.{further_maps}
 use Rattle.wal_log.proofs.RoomLaws.{HasRoomMade, comes_to_rest, fault_since, made_on, none_made, pages_made, rests_without_turn}
 use Rattle.wal_log.proofs.room.make_room.Given.{Over}
 use Rattle.wal_log.proofs.room.make_room.Goals as goal
-use Rattle.wal_log.proofs.room.make_room.Goals.{After-was_mapped, After-map_ahead, After-write_ahead}
+use Rattle.wal_log.proofs.room.make_room.Goals.{After-is_seen_to, After-map_ahead, After-write_ahead}
 
 -- ---- the page's end was looked at
 
-looked : (g : Over) (c : After-was_mapped g) → HasRoomMade c.args.seated.now c.was_mapped.new.seated
+looked : (g : Over) (c : After-is_seen_to g) → HasRoomMade c.args.seated.now c.is_seen_to.new.seated
 looked g c =
-    pages_made c.args.seated.now c.args.seated.now c.was_mapped.new.seated
+    pages_made c.args.seated.now c.args.seated.now c.is_seen_to.new.seated
     (none_made c.args.seated.now (rests_without_turn c.args.seated.now c.requires.rests)
-    c.requires.up) c.was_mapped.ensures.maps
+    c.requires.up) c.is_seen_to.ensures.maps
 
-pub returns-then-was_mapped-clause-ends : goal.returns-then-was_mapped-clause-ends
-returns-then-was_mapped-clause-ends g c =
-    (looked g (goal.at.returns-then-was_mapped-clause-ends g c).After-was_mapped).up
+pub returns-then-is_seen_to-clause-ends : goal.returns-then-is_seen_to-clause-ends
+returns-then-is_seen_to-clause-ends g c =
+    (looked g (goal.at.returns-then-is_seen_to-clause-ends g c).After-is_seen_to).up
 
-pub returns-then-was_mapped-clause-log : goal.returns-then-was_mapped-clause-log
-returns-then-was_mapped-clause-log g c =
-    ((looked g (goal.at.returns-then-was_mapped-clause-log g c).After-was_mapped).adds).log
+pub returns-then-is_seen_to-clause-log : goal.returns-then-is_seen_to-clause-log
+returns-then-is_seen_to-clause-log g c =
+    ((looked g (goal.at.returns-then-is_seen_to-clause-log g c).After-is_seen_to).adds).log
 
-pub returns-then-was_mapped-clause-rests : goal.returns-then-was_mapped-clause-rests
-returns-then-was_mapped-clause-rests g c =
-    let so_far = looked g (goal.at.returns-then-was_mapped-clause-rests g c).After-was_mapped in
-    comes_to_rest c.args.seated.now c.was_mapped.new.seated c.requires.rests so_far.adds so_far.rests
+pub returns-then-is_seen_to-clause-rests : goal.returns-then-is_seen_to-clause-rests
+returns-then-is_seen_to-clause-rests g c =
+    let so_far = looked g (goal.at.returns-then-is_seen_to-clause-rests g c).After-is_seen_to in
+    comes_to_rest c.args.seated.now c.is_seen_to.new.seated c.requires.rests so_far.adds so_far.rests
 
 pub write_ahead-requires-clause-rests : goal.write_ahead-requires-clause-rests
 write_ahead-requires-clause-rests g c =
-    (looked g (goal.at.write_ahead-requires-clause-rests g c).After-was_mapped).rests
+    (looked g (goal.at.write_ahead-requires-clause-rests g c).After-is_seen_to).rests
 
 pub write_ahead-requires-clause-up : goal.write_ahead-requires-clause-up
 write_ahead-requires-clause-up g c =
-    (looked g (goal.at.write_ahead-requires-clause-up g c).After-was_mapped).up
+    (looked g (goal.at.write_ahead-requires-clause-up g c).After-is_seen_to).up
 
 -- ---- the disk failed
 
 pub returns-in_err-write_ahead-clause-ends : goal.returns-in_err-write_ahead-clause-ends
 returns-in_err-write_ahead-clause-ends g c =
     let p = err_from_is_err_and c.from_residual.result c.from_residual.ensures.1 in
-    let so_far = looked g (goal.at.returns-in_err-write_ahead-clause-ends g c).After-was_mapped in
+    let so_far = looked g (goal.at.returns-in_err-write_ahead-clause-ends g c).After-is_seen_to in
     rw (p.1, p.2)
-    (fault_since (view_of c.args.seated.now) (view_of c.was_mapped.new.seated)
+    (fault_since (view_of c.args.seated.now) (view_of c.is_seen_to.new.seated)
     (view_of c.write_ahead.new.seated) c.requires.up so_far.up c.in_err-write_ahead.field-0.0
     c.in_err-write_ahead.ensures.ends)
 
 pub returns-in_err-write_ahead-clause-log : goal.returns-in_err-write_ahead-clause-log
 returns-in_err-write_ahead-clause-log g c =
-    let so_far = looked g (goal.at.returns-in_err-write_ahead-clause-log g c).After-was_mapped in
+    let so_far = looked g (goal.at.returns-in_err-write_ahead-clause-log g c).After-is_seen_to in
     (c.write_ahead.ensures.adds_nothing).log ∙ (so_far.adds).log
 
 pub returns-in_err-write_ahead-clause-rests : goal.returns-in_err-write_ahead-clause-rests
 returns-in_err-write_ahead-clause-rests g c =
-    let so_far = looked g (goal.at.returns-in_err-write_ahead-clause-rests g c).After-was_mapped in
+    let so_far = looked g (goal.at.returns-in_err-write_ahead-clause-rests g c).After-is_seen_to in
     comes_to_rest c.args.seated.now c.write_ahead.new.seated c.requires.rests
-    (adds_on c.args.seated.now c.was_mapped.new.seated c.write_ahead.new.seated so_far.adds
+    (adds_on c.args.seated.now c.is_seen_to.new.seated c.write_ahead.new.seated so_far.adds
     c.write_ahead.ensures.adds_nothing) c.write_ahead.ensures.rests
 
 -- ---- pages were mapped
 
 module _ (g : Over) (c : After-write_ahead g)
-    (so_far : HasRoomMade c.args.seated.now c.was_mapped.new.seated)
+    (so_far : HasRoomMade c.args.seated.now c.is_seen_to.new.seated)
     (up : KnowsNoFault (view_of c.write_ahead.new.seated)) where
   written : HasRoomMade c.args.seated.now c.write_ahead.new.seated
-  written = made_on c.args.seated.now c.was_mapped.new.seated c.write_ahead.new.seated so_far
+  written = made_on c.args.seated.now c.is_seen_to.new.seated c.write_ahead.new.seated so_far
       c.write_ahead.ensures.adds_nothing c.write_ahead.ensures.rests up
 
   still_away : (view_of c.write_ahead.new.seated).mapping.stage ≡ Away
@@ -77,7 +77,7 @@ module _ (g : Over) (c : After-write_ahead g)
 pub map_ahead-requires : goal.map_ahead-requires
 map_ahead-requires g c =
     let path = goal.at.map_ahead-requires g c in record {
-      away = still_away g path.After-write_ahead (looked g path.After-was_mapped)
+      away = still_away g path.After-write_ahead (looked g path.After-is_seen_to)
           c.in_ok-write_ahead.ensures.ends;
     }
 
@@ -92,17 +92,17 @@ pub returns-then-branch-clause-ends : goal.returns-then-branch-clause-ends
 returns-then-branch-clause-ends g c =
     let path = goal.at.returns-then-branch-clause-ends g c in
     (mapped g path.After-map_ahead (written g path.After-write_ahead
-    (looked g path.After-was_mapped) c.in_ok-write_ahead.ensures.ends)).up
+    (looked g path.After-is_seen_to) c.in_ok-write_ahead.ensures.ends)).up
 
 pub returns-then-branch-clause-log : goal.returns-then-branch-clause-log
 returns-then-branch-clause-log g c =
     let path = goal.at.returns-then-branch-clause-log g c in
     ((mapped g path.After-map_ahead (written g path.After-write_ahead
-    (looked g path.After-was_mapped) c.in_ok-write_ahead.ensures.ends)).adds).log
+    (looked g path.After-is_seen_to) c.in_ok-write_ahead.ensures.ends)).adds).log
 
 pub returns-then-branch-clause-rests : goal.returns-then-branch-clause-rests
 returns-then-branch-clause-rests g c =
     let path = goal.at.returns-then-branch-clause-rests g c in
     let made = mapped g path.After-map_ahead (written g path.After-write_ahead
-    (looked g path.After-was_mapped) c.in_ok-write_ahead.ensures.ends) in
+    (looked g path.After-is_seen_to) c.in_ok-write_ahead.ensures.ends) in
     comes_to_rest c.args.seated.now c.map_ahead.new.seated c.requires.rests made.adds made.rests

@@ -11,8 +11,8 @@ use Rattle.wal_log.specs.declared.turns.TurnErr.{TurnErr}
 use Rattle.wal_log.specs.declared.turns.TurnErr.TheVariants.{Down, Taken}
 use Rattle.wal_log.proofs.AddingNothing.{adds_on, held_else}
 use Rattle.wal_log.proofs.InHandLaws.{may_put_stored}
-use Rattle.wal_log.proofs.Keeping.{both_up, meets_since, still_up}
-use Rattle.wal_log.proofs.Watched.{Watches, behind_leaves, copied_is, finished_leaves, still_no_turn, watches}
+use Rattle.wal_log.proofs.Keeping.{both_up, meets_since, same_pass, still_up}
+use Rattle.wal_log.proofs.Watched.{Watches, behind_leaves, behind_word, copied_is, finished_leaves, still_no_turn, watches}
 use Rattle.wal_log.proofs.writing.write_copied.Given.{Over}
 use Rattle.wal_log.proofs.writing.write_copied.Goals as goal
 use Rattle.wal_log.proofs.writing.write_copied.Goals.{After-give_back, After-take_ready, After-watch, After-write_known}
@@ -44,7 +44,9 @@ returns-in-Behind-clause-rests g c = still_no_turn c.args.seated.now c.watch.new
 
 pub returns-in-Behind-clause-ends : goal.returns-in-Behind-clause-ends
 returns-in-Behind-clause-ends g c = (
-  (c.watch.ensures.behind c.in-Behind.lock c.in-Behind.word c.in-Behind.is).holds_back.0,
+  behind_word c.args.upto (view_of c.args.seated.now) (view_of c.watch.new.seated)
+      c.in-Behind.lock c.in-Behind.word
+      (c.watch.ensures.behind c.in-Behind.lock c.in-Behind.word c.in-Behind.is),
   (behind g (goal.at.returns-in-Behind-clause-ends g c).After-watch
       c.in-Behind.lock c.in-Behind.word c.in-Behind.is).leaves.up c.requires.up,
 )
@@ -61,11 +63,11 @@ take_ready-requires-clause-up g c =
 
 -- ---- the turn was not had
 
-write_told : (old watched new : View) → KnowsNoFault old → KnowsNoFault watched → (e : TurnErr)
-    → TellsTurnErr watched new e → TellsWriteErr old new (write_err_of_turn e)
-write_told old watched new before up (Down faults) told =
+write_told : (upto : ℕ) (old watched new : View) → KnowsNoFault old → KnowsNoFault watched
+    → (e : TurnErr) → TellsTurnErr watched new e → TellsWriteErr upto old new (write_err_of_turn e)
+write_told upto old watched new before up (Down faults) told =
     meets_since old watched new faults (both_up old watched before up) told
-write_told old watched new before up (Taken turn) told = (told.0, told.2)
+write_told upto old watched new before up (Taken turn) told = (told.0, told.2)
 
 module _ (g : Over) (c : After-take_ready g)
     (seen : Watches c.args.seated.now c.watch.new.seated) where
@@ -88,7 +90,7 @@ returns-in_err-take_ready-clause-ends g c =
     let watched = all_seen g (goal.at.returns-in_err-take_ready-clause-ends g c).After-watch
     c.in-Finished.upto c.in-Finished.is in
     rw (p.1, p.2)
-    (write_told (view_of c.args.seated.now) (view_of c.watch.new.seated)
+    (write_told c.args.upto (view_of c.args.seated.now) (view_of c.watch.new.seated)
     (view_of c.take_ready.new.seated) c.requires.up (watched.leaves.up c.requires.up)
     c.in_err-take_ready.field-0.0 c.in_err-take_ready.ensures.ready.0)
 
@@ -140,5 +142,23 @@ returns-clause-rests g c = record {
 
 pub returns-clause-ends : goal.returns-clause-ends
 returns-clause-ends g c =
-    still_up (view_of c.write_known.new.seated) Idle (view_of c.give_back.new.seated)
-    (ap (λ m. m.0) c.give_back.ensures.view) c.in_ok-write_known.ensures.ends.0.up
+    let given_back = ap (λ m. m.0) c.give_back.ensures.view in
+    let wrote = c.in_ok-write_known.ensures.ends in
+    let adds = adds_on c.watch.new.seated c.take_ready.new.seated c.write_known.new.seated
+    c.take_ready.ensures.adds_nothing c.write_known.ensures.adds_nothing in (
+      record {
+        bound = c.in-Finished.upto;
+        asked = view_of c.args.seated.now;
+        since = same_pass (view_of c.args.seated.now);
+        watched = view_of c.watch.new.seated;
+        finished = c.watch.ensures.finished c.in-Finished.upto c.in-Finished.is;
+        writing = c.write_known.new.seated;
+        keeps = ((adds.works).work).pass;
+        stored = wrote.0;
+        written = wrote.1;
+        same_table = c.give_back.ensures.same_table;
+        given_back = given_back;
+      },
+      still_up (view_of c.write_known.new.seated) Idle (view_of c.give_back.new.seated)
+          given_back wrote.0.up,
+    )

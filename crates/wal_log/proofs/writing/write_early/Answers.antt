@@ -14,6 +14,7 @@ use Rattle.wal_log.proofs.AddingNothing.{adds_on}
 use Rattle.wal_log.proofs.CopyLaws.{alone_still, stood_still}
 use Rattle.wal_log.proofs.Keeping.{meets_since, told_pass}
 use Rattle.wal_log.proofs.Seated.{hand_is, view_is}
+use Rattle.wal_log.proofs.WriteLaws.{written_since}
 use Rattle.wal_log.proofs.writing.write_early.Given.{Over}
 use Rattle.wal_log.proofs.writing.write_early.Goals as goal
 use Rattle.wal_log.proofs.writing.write_early.Goals.{After-tell_progress, After-write_copied}
@@ -87,22 +88,29 @@ returns-clause-copies_on g c =
     }) added.log ((added.works).work).working
 
 -- what was told of the disk behind it
-told_since : (old one new : View) → one.writing.down_set ≡ old.writing.down_set → (e : WriteErr)
-    → TellsWriteErr one new e → TellsWriteErr old new e
-told_since old one new same (Fault (Disk faults)) told = told
-told_since old one new same (Fault (Down faults)) told = meets_since old one new faults same told
-told_since old one new same (Behind lock word) told = told
-told_since old one new same (Turn turn) told = told
+told_since : (upto : ℕ) (old one new : View) → one.writing.down_set ≡ old.writing.down_set
+    → (e : WriteErr) → TellsWriteErr upto one new e → TellsWriteErr upto old new e
+told_since upto old one new same (Fault (Disk faults)) told = told
+told_since upto old one new same (Fault (Down faults)) told =
+    meets_since old one new faults same told
+told_since upto old one new same (Behind lock word) told = told
+told_since upto old one new same (Turn turn) told = told
 
-match_since : {A : Type 0} → (old one new : View) → one.writing.down_set ≡ old.writing.down_set
-    → (r : Result A WriteErr)
-    → MatchResult r (λ _. KnowsNoFault new) (λ e. TellsWriteErr one new e)
-    → MatchResult r (λ _. KnowsNoFault new) (λ e. TellsWriteErr old new e)
-match_since old one new same (Ok done) ends = ends
-match_since old one new same (Err e) ends = told_since old one new same e ends
+match_since : {A : Type 0} {Wrote WroteSince : Type 0} → (upto : ℕ) (old one new : View)
+    → one.writing.down_set ≡ old.writing.down_set → (Wrote → WroteSince) → (r : Result A WriteErr)
+    → MatchResult r (λ _. Wrote × KnowsNoFault new) (λ e. TellsWriteErr upto one new e)
+    → MatchResult r (λ _. WroteSince × KnowsNoFault new) (λ e. TellsWriteErr upto old new e)
+match_since upto old one new same since (Ok done) ends = (since ends.0, ends.1)
+match_since upto old one new same since (Err e) ends = told_since upto old one new same e ends
 
 pub returns-clause-ends : goal.returns-clause-ends
 returns-clause-ends g c =
     let same = ap (λ (v : View). v.writing.down_set) (view_is (c.tell_progress.ensures.told).view) in
-    match_since (view_of c.args.seated.now) (view_of c.tell_progress.new.seated)
-    (view_of c.write_copied.new.seated) same c.write_copied.result c.write_copied.ensures.ends
+    let keeps = (((told_adds c.args.seated.now c.tell_progress.new.seated (locks_of c.args.held)
+    (c.args.placed.now).next c.tell_progress.ensures.told).works).work).pass in
+    match_since c.args.upto (view_of c.args.seated.now) (view_of c.tell_progress.new.seated)
+    (view_of c.write_copied.new.seated) same
+    (written_since g.D.Disk.tape g.D.Disk.moment g.D.Disk.faults c.args.upto
+    (view_of c.args.seated.now) (view_of c.tell_progress.new.seated) c.write_copied.new.seated
+    keeps)
+    c.write_copied.result c.write_copied.ensures.ends

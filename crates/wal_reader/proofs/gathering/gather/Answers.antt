@@ -1,8 +1,10 @@
-use Rattle.std.proofs.Common.{◌<◌, vec_len, ◌∙◌, arith}
+use Rattle.std.proofs.Common.{◌≡◌, ℕ, ◌<◌, vec_len, refl, sym, ap, subst, ◌∙◌, arith}
 use Rattle.std.proofs.lemmas.Result.{err_from_is_err_and}
 use Rattle.wal_reader.proofs.CacheLaws.{held_page}
-use Rattle.wal_reader.proofs.ReadsOnLaws.{reads_more}
-use Rattle.wal_reader.proofs.GatherLaws.{crosses_further, page_rises, told_behind}
+use Rattle.wal_reader.specs.PageCursor.{HasGathered}
+use Rattle.wal_reader.specs.Pages.{bytes_from}
+use Rattle.wal_reader.proofs.ReadsOnLaws.{reads_more, reads_none}
+use Rattle.wal_reader.proofs.GatherLaws.{crosses_further, crosses_none, page_rises, told_behind}
 use Rattle.wal_reader.proofs.gathering.gather.Goals as goal
 
 pub returns-in_err-cursor-clause-gathers : goal.returns-in_err-cursor-clause-gathers
@@ -31,6 +33,7 @@ pages-preserved g c =
       reads_on = reads_on;
       len = took.len.1;
       on = took.cursor.0;
+      passed = rw took.page turned.passed;
       beyond = λ far.
           (let before = inv.beyond far in
           let now = turned.beyond (omega (arith, far, before.2)) in
@@ -58,3 +61,50 @@ returns-in_err-cursor-2-clause-beyond g c = λ far.
     let before = c.pages.invariant.beyond far in
     let now = c.in_ok-cursor.ensures.beyond (omega (arith, far, before.2)) in
     (now.0 ∙ before.0, now.1 ∙ before.1, rw stop.1 tt)
+
+pub pages-init : goal.pages-init
+pages-init g c = record {
+  reads_on = reads_none g.D.Disk.tape g.D.Disk.moment c.args.disk.now c.args.buffers.now.cache;
+  len = c.requires.upto.0;
+  on = c.requires.gathering.on;
+  passed = c.requires.passed;
+  beyond = λ far. (refl, refl, refl);
+  gathered = c.requires.gathering.gathered;
+  bytes = λ pages sees had. had;
+  crosses = λ pages sees. crosses_none c.args.buffers.now.cache.geometry pages c.args.gathering.extent.at c.args.gathering.extent.total c.args.gathering.cursor.page;
+  faults = refl;
+}
+
+pub returns-in_err-cursor-2-clause-gathers : goal.returns-in_err-cursor-2-clause-gathers
+returns-in_err-cursor-2-clause-gathers g c = λ pages sees.
+    let inv = c.pages.invariant in
+    let stop = err_from_is_err_and c.from_residual-in_err-cursor-2.result c.from_residual-in_err-cursor-2.ensures.1 in
+    record {
+      bytes = λ had. rw stop.1 tt;
+      passed = λ had. record { count = vec_len c.pages.buffers.room; page = c.pages.cursor.page; bytes = c.in_err-cursor-2.ensures.kept ∙ inv.bytes pages sees had; last = inv.gathered.last; crossed = inv.crosses pages sees };
+      checks = rw (stop.1, stop.2) tt;
+    }
+
+pub returns-clause-gathered : goal.returns-clause-gathered
+returns-clause-gathered g c =
+    let inv = c.pages.invariant in
+    let position = c.args.gathering.extent.at.position in
+    let full : vec_len c.pages.buffers.room ≡ c.args.upto = omega (arith, inv.len, c.len.ensures, c.pages-test.false) in
+    let sized = subst (λ (size : ℕ). HasGathered size position (vec_len c.pages.buffers.room) c.pages.cursor) (sym inv.reads_on.geometry) inv.gathered in (
+      full,
+      record {
+        reachable = c.requires.gathering.reachable;
+        on = inv.on;
+        gathered = subst (λ (n : ℕ). HasGathered c.pages.buffers.cache.geometry position n c.pages.cursor) full sized;
+      },
+    )
+
+pub returns-clause-gathers : goal.returns-clause-gathers
+returns-clause-gathers g c = λ pages sees.
+    let inv = c.pages.invariant in
+    let full : vec_len c.pages.buffers.room ≡ c.args.upto = omega (arith, inv.len, c.len.ensures, c.pages-test.false) in
+    record {
+      bytes = λ had. inv.bytes pages sees had ∙ ap (λ (n : ℕ). bytes_from c.args.buffers.now.cache.geometry pages n c.args.gathering.extent.at.position) full;
+      passed = λ had. record { count = vec_len c.pages.buffers.room; page = c.pages.cursor.page; bytes = inv.bytes pages sees had; last = inv.gathered.last; crossed = inv.crosses pages sees };
+      checks = inv.crosses pages sees;
+    }

@@ -29,7 +29,7 @@ returns-clause-gives g c pages sees =
     let start = c.args.start.0 in
     let end = option_map (λ (e : Lsn). e.0) c.args.end in
     let now = c.read_given.new.buffers.room.items in
-    let result = read_with c.read_given.new.value c.read_given.result in
+    let result = read_with (g.K.KeepsRecord.kept c.read_given.new.value) c.read_given.result in
     elim c.match-from.branch [
       | in-Some w ↦
           (let here : Sees (g.D.Disk.tape c.match-from.disk) c.match-from.buffers.cache pages = rw (w.buffers-is, w.disk-is) sees in

@@ -92,7 +92,7 @@ returns-then-found-start-clause-gives g c pages sees =
     let size = c.args.buffers.now.cache.geometry in
     let here = c.in_ok-found.ensures.reads pages (inv.reads_on.sees pages sees) in
     let end = option_map (λ (e : Lsn). e.0) c.args.end in
-    let found = found_with c.read_record.new.value c.in_ok-found.found in
+    let found = found_with (g.K.KeepsRecord.kept c.read_record.new.value) c.in_ok-found.found in
     let read = read_of c.records.buffers.cache.geometry size pages end c.records.at (Ok (found, c.in_ok-found.behind)) inv.reads_on.geometry here.reads in
     record {
       next = λ others answer rest. inv.comes pages sees (found ∷ others) answer (GivesFrom-given size pages c.args.start.0 end c.records.at found c.in_ok-found.behind read.0 read.1 others answer rest c.if-found-start.true);
@@ -132,7 +132,7 @@ records-preserved g c = record {
   comes = λ pages sees. (let here = c.in_ok-found.ensures.reads pages (c.records.invariant.reads_on.sees pages sees) in
       let end = option_map (λ (e : Lsn). e.0) c.args.end in
       let size = c.args.buffers.now.cache.geometry in
-      let found = found_with c.read_record.new.value c.in_ok-found.found in
+      let found = found_with (g.K.KeepsRecord.kept c.read_record.new.value) c.in_ok-found.found in
       let read = read_of c.records.buffers.cache.geometry size pages end c.records.at (Ok (found, c.in_ok-found.behind)) c.records.invariant.reads_on.geometry here.reads in
       λ others answer rest. c.records.invariant.comes pages sees others answer (GivesFrom-passed size pages c.args.start.0 end c.records.at found c.in_ok-found.behind read.0 read.1 others answer rest c.if-found-start.false));
 }

@@ -5,6 +5,7 @@ use Rattle.wal_page.specs.Page.{is_continued, is_overwritten, remaining_of}
 use Rattle.wal_reader.specs.Pages.{Pages}
 use Rattle.wal_reader.specs.PageCursor.{Sees}
 use Rattle.wal_reader.proofs.PageCheckLaws.{page_fails, is_given_up, is_not_continued, is_continued_otherwise, continues}
+use Rattle.wal_reader.proofs.ReadyLaws.{passes_again}
 use Rattle.wal_reader.proofs.page_checks.turn_page.Goals as goal
 use Rattle.wal_reader.proofs.page_checks.turn_page.Goals.{After-check_held}
 
@@ -46,3 +47,6 @@ returns-clause-checks g c = λ pages sees.
     let continued : is_continued c.load.new.self.bytes.value ≡ true = sym c.in_ok-info.ensures.continued ∙ sym c.is_continued.ensures ∙ c.if-not-is_continued.false in
     let same : eqb (remaining_of c.load.new.self.bytes.value) c.args.owed ≡ true = eq-eqb _ _ (sym c.in_ok-info.ensures.info.1 ∙ c.if-info-owed.false) in
     rw (← c.in_ok-load.ensures.reads_on.geometry) (continues c.load.new.self.geometry (c.args.cursor.page + 1) c.args.cursor.timeline c.args.start.0 c.args.owed _ _ here c.in_ok-info.ensures.checks flag continued same)
+
+pub returns-clause-passed : goal.returns-clause-passed
+returns-clause-passed g c = record { passes = passes_again c.load.new.self.geometry (c.args.cursor.page + 1) c.args.cursor.timeline c.load.new.self.bytes.value c.in_ok-info.ensures.checks }

@@ -21,6 +21,7 @@ use Rattle.wal_reader.proofs.ReadsOnLaws.{reads_more}
 use Rattle.wal_reader.proofs.ReachLaws.{is_before_end, no_page_above, read_at-out_of_reach}
 use Rattle.wal_reader.proofs.RecordAt.{size_in_page, read_at-not_opened, read_at-no_size, read_at-rest}
 use Rattle.wal_reader.proofs.ReadAtLaws.{read_is_spelled}
+use Rattle.wal_reader.proofs.ReadyLaws.{opening_passed}
 use Rattle.wal_reader.proofs.RecordReads.{read_as, room_as, stop_tells}
 use Rattle.wal_reader.proofs.record_reading.read_record.Goals as goal
 use Rattle.wal_reader.proofs.record_reading.read_record.Goals.{After-claimed}
@@ -94,10 +95,10 @@ returns-in_ok-whole-clause-reads g c = λ pages sees.
     let total : c.in_ok-extent.extent.total ≡ number_at w32 c.open_ready.new.cache.bytes.value c.in_ok-cursor.cursor.offset = ap (λ (e : RecordExtent). e.total) extent.0 in
     let passes = rw opened.reads_on.geometry at c.in_ok-extent.ensures.checks in
     let rest = read_at-rest size pages (option_map (λ (l : Lsn). l.0) c.args.end) c.args.at before _ there (opened.checks pages sees) c.in_ok-cursor.cursor opened.place.0 opened.cursor.1 c.in_ok-extent.ensures.whole opened.place.1 c.in_ok-extent.extent.total total extent.1 passes in
-    let reads = read_as size pages c.args.at c.in_ok-extent.extent _ (read_with c.read_in_page.new.value (Ok c.in_ok-whole.whole)) (ap (λ (e : RecordExtent). e.at) extent.0) rest (rw opened.reads_on.geometry at (c.in_ok-whole.ensures.reads pages (here g at pages sees))) in
+    let reads = read_as size pages c.args.at c.in_ok-extent.extent _ (read_with (g.K.KeepsRecord.kept c.read_in_page.new.value) (Ok c.in_ok-whole.whole)) (ap (λ (e : RecordExtent). e.at) extent.0) rest (rw opened.reads_on.geometry at (c.in_ok-whole.ensures.reads pages (here g at pages sees))) in
     record {
       reads = reads;
-      spelled = read_is_spelled size pages (option_map (λ (l : Lsn). l.0) c.args.end) c.args.at opened.cursor.1.stands.valid (read_with c.read_in_page.new.value (Ok c.in_ok-whole.whole)) reads;
+      spelled = read_is_spelled size pages (option_map (λ (l : Lsn). l.0) c.args.end) c.args.at opened.cursor.1.stands.valid (read_with (g.K.KeepsRecord.kept c.read_in_page.new.value) (Ok c.in_ok-whole.whole)) reads;
       room = inl refl;
     }
 
@@ -135,11 +136,11 @@ returns-in_ok-read-clause-reads g c = λ pages sees.
     let total : c.in_ok-extent.extent.total ≡ number_at w32 c.open_ready.new.cache.bytes.value c.in_ok-cursor.cursor.offset = ap (λ (e : RecordExtent). e.total) extent.0 in
     let passes = rw opened.reads_on.geometry at c.in_ok-extent.ensures.checks in
     let rest = read_at-rest size pages (option_map (λ (l : Lsn). l.0) c.args.end) c.args.at before _ there (opened.checks pages sees) c.in_ok-cursor.cursor opened.place.0 opened.cursor.1 c.in_ok-extent.ensures.whole opened.place.1 c.in_ok-extent.extent.total total extent.1 passes in
-    let reads = read_as size pages c.args.at c.in_ok-extent.extent _ (read_with c.read_over_pages.new.value (Ok c.in_ok-read.read)) (ap (λ (e : RecordExtent). e.at) extent.0) rest (rw opened.reads_on.geometry at (c.in_ok-read.ensures.reads pages (opened.reads_on.sees pages sees))) in
+    let reads = read_as size pages c.args.at c.in_ok-extent.extent _ (read_with (g.K.KeepsRecord.kept c.read_over_pages.new.value) (Ok c.in_ok-read.read)) (ap (λ (e : RecordExtent). e.at) extent.0) rest (rw opened.reads_on.geometry at (c.in_ok-read.ensures.reads pages (opened.reads_on.sees pages sees))) in
     let claimed = size_in_page size pages (option_map (λ (l : Lsn). l.0) c.args.end) c.args.at before _ there (opened.checks pages sees) c.in_ok-cursor.cursor opened.place.0 opened.cursor.1 c.in_ok-extent.ensures.whole opened.place.1 in
     record {
       reads = reads;
-      spelled = read_is_spelled size pages (option_map (λ (l : Lsn). l.0) c.args.end) c.args.at opened.cursor.1.stands.valid (read_with c.read_over_pages.new.value (Ok c.in_ok-read.read)) reads;
+      spelled = read_is_spelled size pages (option_map (λ (l : Lsn). l.0) c.args.end) c.args.at opened.cursor.1.stands.valid (read_with (g.K.KeepsRecord.kept c.read_over_pages.new.value) (Ok c.in_ok-read.read)) reads;
       room = inr (opened.checks pages sees, room_as size pages c.args.at c.in_ok-extent.extent _ _ (ap (λ (e : RecordExtent). e.at) extent.0) (ap (λ (e : RecordExtent). e.total) extent.0 ∙ sym claimed) (rw opened.reads_on.geometry at (c.in_ok-read.ensures.room pages (opened.reads_on.sees pages sees))));
     }
 
@@ -151,7 +152,7 @@ rises_behind size held valid from at read same answered =
 
 pub returns-in_ok-whole-clause-rises : goal.returns-in_ok-whole-clause-rises
 returns-in_ok-whole-clause-rises g c =
-    rises_behind c.args.buffers.now.cache.geometry _ c.in_ok-cursor.ensures.cursor.1.stands.valid c.in_ok-extent.extent.at c.args.at (read_with c.read_in_page.new.value (Ok c.in_ok-whole.whole)) (ap (λ (e : RecordExtent). e.at) c.in_ok-extent.ensures.extent.0) c.in_ok-whole.ensures.answered
+    rises_behind c.args.buffers.now.cache.geometry _ c.in_ok-cursor.ensures.cursor.1.stands.valid c.in_ok-extent.extent.at c.args.at (read_with (g.K.KeepsRecord.kept c.read_in_page.new.value) (Ok c.in_ok-whole.whole)) (ap (λ (e : RecordExtent). e.at) c.in_ok-extent.ensures.extent.0) c.in_ok-whole.ensures.answered
 
 pub ready_behind-requires-clause-opens : goal.ready_behind-requires-clause-opens
 ready_behind-requires-clause-opens g c =
@@ -162,4 +163,12 @@ ready_behind-requires-clause-opens g c =
 
 pub returns-in_ok-read-clause-rises : goal.returns-in_ok-read-clause-rises
 returns-in_ok-read-clause-rises g c =
-    rises_behind c.args.buffers.now.cache.geometry _ c.in_ok-cursor.ensures.cursor.1.stands.valid c.in_ok-extent.extent.at c.args.at (read_with c.read_over_pages.new.value (Ok c.in_ok-read.read)) (ap (λ (e : RecordExtent). e.at) c.in_ok-extent.ensures.extent.0) c.in_ok-read.ensures.answered
+    rises_behind c.args.buffers.now.cache.geometry _ c.in_ok-cursor.ensures.cursor.1.stands.valid c.in_ok-extent.extent.at c.args.at (read_with (g.K.KeepsRecord.kept c.read_over_pages.new.value) (Ok c.in_ok-read.read)) (ap (λ (e : RecordExtent). e.at) c.in_ok-extent.ensures.extent.0) c.in_ok-read.ensures.answered
+
+pub read_over_pages-requires-clause-passed : goal.read_over_pages-requires-clause-passed
+read_over_pages-requires-clause-passed g c =
+    let opened = c.in_ok-cursor.ensures in
+    let cache = c.open_ready.new.cache in
+    let page = rw (← opened.reads_on.geometry) at opened.place.0 in
+    let opens = subst (λ (n : ℕ). opening_fault n c.args.at (Some cache.bytes.value) ≡ None) (sym opened.reads_on.geometry) opened.opens in
+    opening_passed cache c.args.at c.in_ok-cursor.cursor.page page opens

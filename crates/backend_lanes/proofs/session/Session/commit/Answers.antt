@@ -1,5 +1,6 @@
-use Rattle.std.proofs.Common.{refl, sym, ap, ◌∙◌}
+use Rattle.std.proofs.Common.{refl, sym, subst, ap, ◌∙◌}
 use Rattle.told_lines.specs.Answered.{told_of_commit}
+use Rattle.wal_script.specs.Bodies.{IsBodyOf}
 use Rattle.backend_lanes.proofs.Answering.{commit_leaves_session, commit_plays_answer}
 use Rattle.backend_lanes.proofs.EndsKept.{end_behind}
 use Rattle.backend_lanes.proofs.LinePasses.{no_switch}
@@ -7,38 +8,41 @@ use Rattle.backend_lanes.proofs.session.Session.commit.Goals as goal
 
 pub commit-requires-clause-inserted : goal.commit-requires-clause-inserted
 commit-requires-clause-inserted g c =
-    no_switch c.args.body.now c.requires.record.0 c.requires.record.1
+    no_switch c.as_body-lent.result c.requires.record.0
+    (subst (IsBodyOf c.requires.record.0) (sym c.as_body-lent.ensures) c.requires.record.1)
 
 pub returns-in-Ok-clause-plays : goal.returns-in-Ok-clause-plays
-returns-in-Ok-clause-plays g c =
+returns-in-Ok-clause-plays g c = λ value is.
     commit_plays_answer c.args.log.now c.args.self.now c.note.new.self c.commit.new.pass
     c.requires.session c.note.ensures.pass c.commit.ensures.keeps c.commit.ensures.pass
-    c.of_commit.result c.args.body.now c.commit.result
+    c.of_commit.result c.as_body-lent.result c.commit.result
     (c.of_commit.ensures ∙ ap told_of_commit (sym c.in-Ok.is)) c.commit.ensures.commits
     c.body_knows_its_record.ensures c.commit.ensures.down_again
+    value (subst (IsBodyOf value) (sym c.as_body-lent.ensures) is)
 
 pub returns-in-Ok-clause-leaves : goal.returns-in-Ok-clause-leaves
 returns-in-Ok-clause-leaves g c =
     commit_leaves_session c.args.log.now c.args.self.now c.note.new.self c.commit.new.pass
     c.requires.session c.note.ensures.pass c.commit.ensures.keeps c.commit.ensures.pass
-    c.of_commit.result c.args.body.now c.commit.result
+    c.of_commit.result c.as_body-lent.result c.commit.result
     (c.of_commit.ensures ∙ ap told_of_commit (sym c.in-Ok.is)) c.commit.ensures.commits
     (c.note.ensures.end ∙ ap (end_behind c.args.self.now.end.0) (sym c.of_commit.ensures))
 
-pub returns-in-Err-clause-plays : goal.returns-in-Err-clause-plays
-returns-in-Err-clause-plays g c =
+pub returns-clause-plays : goal.returns-clause-plays
+returns-clause-plays g c = λ value is.
     commit_plays_answer c.args.log.now c.args.self.now
     (record { pass = c.commit.new.pass; end = c.args.self.now.end }) c.commit.new.pass
     c.requires.session refl c.commit.ensures.keeps c.commit.ensures.pass c.of_commit-in-Err.result
-    c.args.body.now c.commit.result
+    c.as_body-lent.result c.commit.result
     (c.of_commit-in-Err.ensures ∙ ap told_of_commit (sym c.in-Err.is)) c.commit.ensures.commits
     c.body_knows_its_record.ensures c.commit.ensures.down_again
+    value (subst (IsBodyOf value) (sym c.as_body-lent.ensures) is)
 
-pub returns-in-Err-clause-leaves : goal.returns-in-Err-clause-leaves
-returns-in-Err-clause-leaves g c =
+pub returns-clause-leaves : goal.returns-clause-leaves
+returns-clause-leaves g c =
     commit_leaves_session c.args.log.now c.args.self.now
     (record { pass = c.commit.new.pass; end = c.args.self.now.end }) c.commit.new.pass
     c.requires.session refl c.commit.ensures.keeps c.commit.ensures.pass c.of_commit-in-Err.result
-    c.args.body.now c.commit.result
+    c.as_body-lent.result c.commit.result
     (c.of_commit-in-Err.ensures ∙ ap told_of_commit (sym c.in-Err.is)) c.commit.ensures.commits
     (ap (end_behind c.args.self.now.end.0) (sym c.of_commit-in-Err.ensures))

@@ -50,10 +50,10 @@ knows_still g c pages log knows =
 
 -- what next_given answers, of the reader's log and its room
 here : (g : Over) (c : After-next_given g) (pages : Pages) → IsLogOf (g.D.Disk.tape c.args.disk.now) c.args.self.now.geometry pages → Knows c.args.self.now pages
-    → IsNextIn c.args.self.now.geometry pages c.args.self.now.start.0 (option_map (λ (e : Lsn). e.0) c.args.self.now.end) c.match-self.from (reader_room c.args.self.now) c.next_given.new.buffers.room.items (read_with c.next_given.new.value c.next_given.result)
+    → IsNextIn c.args.self.now.geometry pages c.args.self.now.start.0 (option_map (λ (e : Lsn). e.0) c.args.self.now.end) c.match-self.from (reader_room c.args.self.now) c.next_given.new.buffers.room.items (read_with (g.K.KeepsRecord.kept c.next_given.new.value) c.next_given.result)
 here g c pages log knows =
     let next = c.next_given.ensures.gives pages (sees g c pages log knows) in
-    let size : ℕ → List ℕ → Type 0 = λ n room. IsNextIn n pages c.args.self.now.start.0 (option_map (λ (e : Lsn). e.0) c.args.self.now.end) c.match-self.from room c.next_given.new.buffers.room.items (read_with c.next_given.new.value c.next_given.result) in
+    let size : ℕ → List ℕ → Type 0 = λ n room. IsNextIn n pages c.args.self.now.start.0 (option_map (λ (e : Lsn). e.0) c.args.self.now.end) c.match-self.from room c.next_given.new.buffers.room.items (read_with (g.K.KeepsRecord.kept c.next_given.new.value) c.next_given.result) in
     subst (size c.args.self.now.geometry) (room_before g c) (subst (λ (n : ℕ). size n c.in-Some.buffers.room.items) (fit g c) next)
 
 stands : (g : Over) (c : After-next_given g) → c.args.self.now.standing ≡ standing_from c.match-self.from
@@ -78,7 +78,7 @@ returns-in-Ok-clause-gives g c pages log knows =
     let self = c.args.self.now in
     let end = option_map (λ (e : Lsn). e.0) self.end in
     let got = here g before pages log knows in
-    let value = c.next_given.new.value in
+    let value = g.K.KeepsRecord.kept c.next_given.new.value in
     let found = found_with value c.in-Ok.found in
     let next : ComesNext self.geometry pages self.start.0 end c.match-self.from (Ok (found, c.in-Ok.behind)) = subst (λ (r : Result (FoundHead × RecordPlace) ReadFailure). ComesNext self.geometry pages self.start.0 end c.match-self.from (read_with value r)) c.in-Ok.is got.next in
     record {
@@ -91,7 +91,7 @@ returns-in-Ok-clause-gives g c pages log knows =
 pub returns-in-Ok-clause-behind : goal.returns-in-Ok-clause-behind
 returns-in-Ok-clause-behind g c =
     let before = (goal.at.returns-in-Ok-clause-behind g c).After-next_given in
-    subst (λ (n : ℕ). IsBehind n (found_with c.next_given.new.value c.in-Ok.found) c.in-Ok.behind) (fit g before) c.in-Ok.ensures.answered.behind
+    subst (λ (n : ℕ). IsBehind n (found_with (g.K.KeepsRecord.kept c.next_given.new.value) c.in-Ok.found) c.in-Ok.behind) (fit g before) c.in-Ok.ensures.answered.behind
 
 pub returns-in-Err-Told-clause-gives : goal.returns-in-Err-Told-clause-gives
 returns-in-Err-Told-clause-gives g c pages log knows =
@@ -100,13 +100,13 @@ returns-in-Err-Told-clause-gives g c pages log knows =
     let end = option_map (λ (e : Lsn). e.0) self.end in
     let got = here g before pages log knows in
     let said : Result (FoundRecord × RecordPlace) ReadFailure = Err (failures.Told c.in-Err-Told.answer) in
-    let next : ComesNext self.geometry pages self.start.0 end c.match-self.from said = subst (λ (r : Result (FoundHead × RecordPlace) ReadFailure). ComesNext self.geometry pages self.start.0 end c.match-self.from (read_with c.next_given.new.value r)) (c.in-Err-Told.is ∙ ap Err c.in-Err-Told.field-0-is) got.next in
+    let next : ComesNext self.geometry pages self.start.0 end c.match-self.from said = subst (λ (r : Result (FoundHead × RecordPlace) ReadFailure). ComesNext self.geometry pages self.start.0 end c.match-self.from (read_with (g.K.KeepsRecord.kept c.next_given.new.value) r)) (c.in-Err-Told.is ∙ ap Err c.in-Err-Told.field-0-is) got.next in
     let gives = Gives-comes pages (reader_state self) c.match-self.from [] c.in-Err-Told.answer (stands g before) next in
     let held = knows_still g before pages log knows in
     record {
       knows = rw c.forget_page.ensures (held.0, tt);
-      next = rw (c.told.ensures c.next_given.new.value) (IsNext-told pages (reader_state self) _ c.in-Err-Told.answer gives);
-      spelled = rw (c.told.ensures c.next_given.new.value) (SpelledIn-told self.geometry pages c.in-Err-Told.answer);
+      next = rw (c.told.ensures (g.K.KeepsRecord.kept c.next_given.new.value)) (IsNext-told pages (reader_state self) _ c.in-Err-Told.answer gives);
+      spelled = rw (c.told.ensures (g.K.KeepsRecord.kept c.next_given.new.value)) (SpelledIn-told self.geometry pages c.in-Err-Told.answer);
       room = rw c.forget_page.ensures got.room;
     }
 
@@ -125,15 +125,15 @@ pub returns-in-Err-Told-clause-forgets : goal.returns-in-Err-Told-clause-forgets
 returns-in-Err-Told-clause-forgets g c =
     let before = (goal.at.returns-in-Err-Told-clause-forgets g c).After-next_given in
     let geometry = c.next_given.ensures.reads_on.geometry ∙ fit g before in
-    rw (c.told.ensures c.next_given.new.value) (OnEnd-told c.in-Err-Told.answer _ (λ others. rw c.forget_page.ensures (geometry, tt)))
+    rw (c.told.ensures (g.K.KeepsRecord.kept c.next_given.new.value)) (OnEnd-told c.in-Err-Told.answer _ (λ others. rw c.forget_page.ensures (geometry, tt)))
 
 pub returns-in-Err-Told-clause-behind : goal.returns-in-Err-Told-clause-behind
 returns-in-Err-Told-clause-behind g c =
-    rw (c.told.ensures c.next_given.new.value) (StandsAfter-told c.args.self.now.geometry _ c.in-Err-Told.answer)
+    rw (c.told.ensures (g.K.KeepsRecord.kept c.next_given.new.value)) (StandsAfter-told c.args.self.now.geometry _ c.in-Err-Told.answer)
 
 pub returns-in-Err-Told-clause-leaves : goal.returns-in-Err-Told-clause-leaves
 returns-in-Err-Told-clause-leaves g c =
-    rw (c.after-self.ensures, c.told.ensures c.next_given.new.value) (Leaves-told (reader_state c.args.self.now) c.in-Err-Told.answer)
+    rw (c.after-self.ensures, c.told.ensures (g.K.KeepsRecord.kept c.next_given.new.value)) (Leaves-told (reader_state c.args.self.now) c.in-Err-Told.answer)
 
 -- and the page is the one that the reader held
 page_before : (g : Over) (c : After-next_given g) → c.in-Some.buffers.cache.number ≡ reader_page c.args.self.now

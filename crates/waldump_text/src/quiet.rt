@@ -1,0 +1,65 @@
+//! A listing of which nothing is printed, by a filter without rules: its records are read, checked
+//! and counted, and not kept.
+
+ghost use Rattle.std.specs.Prelude.{◌≡◌, ℕ, List, Option, Ok, IfOk, IfSome, IsFalse, IsTrue, if◌then◌else◌, nat_le, option_map, ◌≤◌};
+ghost use Rattle.segment_disk.specs.Tape.{IsUncalled};
+ghost use Rattle.wal_types.specs.declared.record.Record.{Record};
+ghost use Rattle.wal_reader.specs.Filled.{step_with};
+ghost use Rattle.listing_filter.specs.declared.listed.Listed.{Listed};
+ghost use Rattle.listing_filter.specs.Keeping.{keeps};
+ghost use Rattle.waldump_text.specs.Dump.{HasDumpCause, IsDump};
+ghost use Rattle.waldump_text.specs.Listing.{listed_in};
+
+use crate::dumping::DumpErr;
+use byte_position::Geometry;
+use listing_filter::Filter;
+use record_decode::Unkept;
+use segment_disk::Disk;
+use std::alloc::Global;
+use wal_reader::{Comes, Reader};
+
+/// Counts the records that a filter lists which prints nothing and keeps all from its start on.
+pub(crate) fn count_records<D: Disk>(
+    alloc: Global,
+    disk: &mut D,
+    geometry: Geometry,
+    filter: &Filter,
+) -> Result<u64, DumpErr>
+    requires plain { IsFalse filter.now.stats }
+    requires quiet { IsTrue filter.now.quiet }
+    requires keeps { (r : Listed) → keeps filter.now r ≡ nat_le filter.now.start.0 r.start.0 }
+    // A listing that puts nothing, whatever the sink had taken.
+    ensures listed { (taken : Option (List ℕ)) → IfSome (D.tape disk.old)
+        (IsDump geometry filter.now taken taken result) }
+    ensures uncalled { IsUncalled D.tape D.moment disk.old disk.new }
+    ensures cause { (sink : ℕ) → HasDumpCause (D.faults disk.old) (D.faults disk.new) sink sink
+        result }
+{
+    // That a log decodes to something rests on a valid size.
+    let _size = geometry.segment_size();
+    let mut reader = Reader::new(geometry, filter.start, filter.end);
+    let mut unkept = Unkept::new();
+    let mut count = 0;
+    'records: while !filter.is_full(count) {
+        let step = reader.next_into(alloc, disk, &mut unkept)?;
+        let Some(more) = counted(filter, step) else {
+            return Ok(count);
+        };
+        count += more;
+    }
+    Ok(count)
+}
+
+// What a step adds to the count of the records that are listed. At the log's end it is `None`.
+#[inline(always)]
+fn counted(filter: &Filter, step: Comes) -> Option<u64>
+    ensures counts { (value : Record) → IfOk (step_with value (Ok step)) (λ step. result
+        ≡ option_map (λ r. if nat_le filter.now.start.0 r.start.0 then 1 else 0)
+        (listed_in step)) }
+    ensures one { IfSome result (λ more. more ≤ 1) }
+{
+    match step {
+        Comes::Record { start, .. } => Some(u64::from(filter.start.0 <= start.0)),
+        Comes::End { .. } => None,
+    }
+}
