@@ -17,9 +17,12 @@ use Rattle.found_log.proofs.SpelledLaws.{ends_low}
 -- a record was read as the one of a body that starts at a position and ends there
 abbrev pub IsReadSo : ℕ → Assembled → SpelledEnd → ℕ → FoundRecord → Type 0
 IsReadSo size body end finish f =
-    (f.start.0 ≡ address_of size end.position) × (f.end.0 ≡ finish) × (f.prev.0 ≡ end.last_start.0) × (f.total ≡ assembled_size body)
+    (f.start.0 ≡ address_of size end.position) × (f.end.0 ≡ finish) × (f.prev.0 ≡ end.last_start.0)
+    × (f.total ≡ assembled_size body)
 
-module _ (size sysid made : ℕ) (valid : IsSegmentSize size) (few : made ≤ 4096) (end : SpelledEnd) (ends : EndsSpelled size sysid end) (reaches : Reaches size made end) (f : FoundRecord) (body : Assembled) (spells : SpellsValue f.value body) where
+module _ (size sysid made : ℕ) (valid : IsSegmentSize size) (few : made ≤ 4096) (end : SpelledEnd)
+    (ends : EndsSpelled size sysid end) (reaches : Reaches size made end) (f : FoundRecord)
+    (body : Assembled) (spells : SpellsValue f.value body) where
   abbrev es : List Entry
   es = spelled_entries end
 
@@ -29,13 +32,22 @@ module _ (size sysid made : ℕ) (valid : IsSegmentSize size) (few : made ≤ 40
       let low = ends_low size sysid made valid few end ends reaches in
       let size_low = logged_size f.value spells.logged in
       let same = ap assembled_size spells.same in
-      omega (arith, low, size_low, same, assembled_room_at-bound size valid end.position body, usable-bound size valid)
+      omega (
+        arith,
+        low,
+        size_low,
+        same,
+        assembled_room_at-bound size valid end.position body,
+        usable-bound size valid,
+      )
 
   abbrev finish : ℕ
   finish = end_address_of size (end.position + assembled_room_at size end.position body)
 
-  behind_is : end.position + assembled_room_at size end.position body ≡ end_position size es + assembled_room_at size (end_position size es) (assembled f.value)
-  behind_is = ap₂ (λ (p : ℕ) (a : Assembled). p + assembled_room_at size p a) ends.position_is (sym spells.same)
+  behind_is : end.position + assembled_room_at size end.position body ≡ end_position size es
+      + assembled_room_at size (end_position size es) (assembled f.value)
+  behind_is = ap₂ (λ (p : ℕ) (a : Assembled). p + assembled_room_at size p a) ends.position_is
+      (sym spells.same)
 
   is_as_written : IsReadSo size body end finish f → IsAsWritten size es f
   is_as_written so = record {
@@ -53,13 +65,18 @@ module _ (size sysid made : ℕ) (valid : IsSegmentSize size) (few : made ≤ 40
     is.total ∙ ap assembled_size spells.same,
   )
 
-  pub not_next : (IsReadSo size body end finish f → ⊥) → NoOrderBegins size (found_of size es ++ f ∷ [])
+  pub not_next : (IsReadSo size body end finish f → ⊥) → NoOrderBegins size (found_of size es ++ f
+      ∷ [])
   not_next not_so = no_order_by_place size es f ends.chained (λ is. not_so (is_read_so is))
 
-  pub follows_so : IsReadSo size body end finish f → (new : SpelledEnd) → EndsSpelled size sysid new → new.count ≡ end.count + 1 → Reaches size made new → spelled_entries new ≡ es ++ nobodys_entry end.position f.value ∷ [] → Follows size sysid made f end new
+  pub follows_so : IsReadSo size body end finish f → (new : SpelledEnd) → EndsSpelled size sysid new
+      → new.count ≡ end.count + 1 → Reaches size made new → spelled_entries new ≡ es
+      ++ nobodys_entry end.position f.value ∷ [] → Follows size sysid made f end new
   follows_so so new new_ends counted new_reaches entries = record {
     ends = new_ends;
     reaches = new_reaches;
     counted = counted;
-    one_more = ap (found_of size) entries ∙ ap (λ (p : ℕ). found_of size (es ++ nobodys_entry p f.value ∷ [])) ends.position_is ∙ found_more size es f (is_as_written so);
+    one_more = ap (found_of size) entries
+        ∙ ap (λ (p : ℕ). found_of size (es ++ nobodys_entry p f.value ∷ [])) ends.position_is
+        ∙ found_more size es f (is_as_written so);
   }

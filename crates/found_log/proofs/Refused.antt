@@ -18,6 +18,9 @@ switch_is_refused : refusal_of switch_record ≡ Some Switch
 unfolding refusal_of
 switch_is_refused = refl
 
-pub refused_is_not_logged : (r : Record) (e : BodyErr) → refusal_of r ≡ Some e → (e ≡ Switch → r ≡ switch_record → ⊥) → IsLogRecord r → ⊥
-refused_is_not_logged r e refused other (inserted writable) = no_reason e (sym (not_refused r writable) ∙ refused)
-refused_is_not_logged r e refused other (switched is) = other (same_reason e Switch (sym refused ∙ ap refusal_of is ∙ switch_is_refused)) is
+pub refused_is_not_logged : (r : Record) (e : BodyErr) → refusal_of r ≡ Some e
+    → (e ≡ Switch → r ≡ switch_record → ⊥) → IsLogRecord r → ⊥
+refused_is_not_logged r e refused other (inserted writable) =
+    no_reason e (sym (not_refused r writable) ∙ refused)
+refused_is_not_logged r e refused other (switched is) =
+    other (same_reason e Switch (sym refused ∙ ap refusal_of is ∙ switch_is_refused)) is

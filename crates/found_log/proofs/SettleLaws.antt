@@ -10,15 +10,23 @@ use Rattle.found_log.specs.Spelled.{spelled_entries}
 
 module _ (size end : ℕ) (new : Option Tape) (m0 m1 : ℕ) where
   -- no call was made before
-  pub settled_since : (old one : Option Tape) (m made : ℕ) → IsNotMade old one m m0 → HasSettled size end made one new m0 m1 → HasSettled size end made old new m m1
+  pub settled_since : (old one : Option Tape) (m made : ℕ) → IsNotMade old one m m0
+      → HasSettled size end made one new m0 m1 → HasSettled size end made old new m m1
   settled_since old one m made same settled =
-      let on_tape = subst (λ (t : Option Tape). HasSettled size end made t new m0 m1) same.same_tape settled in
+      let on_tape = subst (λ (t : Option Tape). HasSettled size end made t new m0 m1) same.same_tape
+      settled in
       subst (λ (n : ℕ). HasSettled size end made old new n m1) same.same_moment on_tape
 
-  pub stopped_since : (old one : Option Tape) (m : ℕ) → IsNotMade old one m m0 → HasNotSettled size end one new m0 m1 → HasNotSettled size end old new m m1
+  pub stopped_since : (old one : Option Tape) (m : ℕ) → IsNotMade old one m m0
+      → HasNotSettled size end one new m0 m1 → HasNotSettled size end old new m m1
   stopped_since old one m same stopped =
-      let on_tape = subst (λ (t : Option Tape). HasNotSettled size end t new m0 m1) same.same_tape stopped in
+      let on_tape = subst (λ (t : Option Tape). HasNotSettled size end t new m0 m1) same.same_tape
+      stopped in
       subst (λ (n : ℕ). HasNotSettled size end old new n m1) same.same_moment on_tape
 
-pub there_of : (size sysid cap : ℕ) (log : FoundLog) (tape : Option Tape) → FindsLog size sysid cap tape log → IfSome tape (λ t. AreAllThere size (state_now t) log.made)
-there_of size sysid cap log tape finds = lifted tape (IsFound size sysid cap (spelled_entries log.spelled) log.made) (λ (t : Tape). AreAllThere size (state_now t) log.made) (λ t found. found.counted.there) finds.tells
+pub there_of : (size sysid cap : ℕ) (log : FoundLog) (tape : Option Tape)
+    → FindsLog size sysid cap tape log → IfSome tape (λ t. AreAllThere size (state_now t) log.made)
+there_of size sysid cap log tape finds =
+    lifted tape (IsFound size sysid cap (spelled_entries log.spelled) log.made)
+    (λ (t : Tape). AreAllThere size (state_now t) log.made) (λ t found. found.counted.there)
+    finds.tells

@@ -17,12 +17,6 @@ impl PicksSpelled for Brand {
     ghost entries = { [] };
 }
 
-struct NoneSpelled;
-
-impl PicksSpelled for NoneSpelled {
-    ghost entries = { [] };
-}
-
 /// The entries that were spelled of a log. It takes no memory: what is read of a log is let go
 /// record by record, and only the proof keeps all of them.
 #[derive(Drop)]
@@ -40,7 +34,7 @@ impl SpelledEntries {
     pub(crate) fn none() -> SpelledEntries
         ensures { result.entries ≡ [] }
     {
-        SpelledEntries::of::<NoneSpelled>()
+        SpelledEntries::of::<Brand>()
     }
 
     // With a record's entry behind them, which starts at a byte position.

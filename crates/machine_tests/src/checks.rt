@@ -4,12 +4,26 @@ use crate::played::SETUP;
 use machine_checks::{BackendNow, MachineNow, Part, ReservedSpan, fault_of};
 use machine_core::{PlainFlight, PlainHold, PlainPlace, PlainStage, PlainView, PlainWatching};
 use machine_words::is_setup;
+use machine_words::layout::{
+    BUFFER_ENDS, FLUSHED, INITIALISED_END, LAST_START, MAPPING_TURN, MOMENT, POSITION, WRITE_TURN,
+    WRITTEN,
+};
 use std::alloc::{AllocError, Global};
 use std::test::Fail;
 
 const FIRST_ADDRESS: u64 = 1 << 20;
 
 const BEGINNING: u64 = 1_045_488;
+
+// The locks' words stand sixteen apart.
+const LOCK_0: usize = 16;
+
+const LOCK_3: usize = 64;
+
+const LOCK_4: usize = 80;
+
+// The first word of the ring, behind its four pages' ends.
+const RING: usize = BUFFER_ENDS + 4;
 
 // The only record, of 40 bytes, and the ten words of the log: a page's header and the record.
 static ORDER: [ReservedSpan; 1] = [ReservedSpan {
@@ -25,28 +39,28 @@ static LOG: [u64; 10] = [21, 22, 23, 24, 25, 26, 27, 28, 29, 30];
 // the pass 3 has both turns, the log is written up to its third word, the ring has the first four
 // pages, and the record's last two words are not copied.
 static WORDS: [(usize, u64); 22] = [
-    (0, BEGINNING + 41),
-    (1, FIRST_ADDRESS + 40),
-    (32, FIRST_ADDRESS + 65),
-    (40, 1),
-    (72, 4),
-    (80, 4),
-    (88, FIRST_ADDRESS + 32_768),
-    (96, FIRST_ADDRESS + 16),
-    (104, FIRST_ADDRESS),
-    (105, 3),
-    (120, FIRST_ADDRESS + 8192),
-    (121, FIRST_ADDRESS + 16_384),
-    (122, FIRST_ADDRESS + 24_576),
-    (123, FIRST_ADDRESS + 32_768),
-    (124, 21),
-    (125, 22),
-    (126, 23),
-    (127, 24),
-    (128, 25),
-    (129, 26),
-    (130, 27),
-    (131, 28),
+    (POSITION, BEGINNING + 41),
+    (LAST_START, FIRST_ADDRESS + 40),
+    (LOCK_3, FIRST_ADDRESS + 65),
+    (LOCK_4, 1),
+    (MAPPING_TURN, 4),
+    (WRITE_TURN, 4),
+    (INITIALISED_END, FIRST_ADDRESS + 32_768),
+    (WRITTEN, FIRST_ADDRESS + 16),
+    (FLUSHED, FIRST_ADDRESS),
+    (MOMENT, 3),
+    (BUFFER_ENDS, FIRST_ADDRESS + 8192),
+    (BUFFER_ENDS + 1, FIRST_ADDRESS + 16_384),
+    (BUFFER_ENDS + 2, FIRST_ADDRESS + 24_576),
+    (BUFFER_ENDS + 3, FIRST_ADDRESS + 32_768),
+    (RING, 21),
+    (RING + 1, 22),
+    (RING + 2, 23),
+    (RING + 3, 24),
+    (RING + 4, 25),
+    (RING + 5, 26),
+    (RING + 6, 27),
+    (RING + 7, 28),
 ];
 
 const IDLE: PlainView = PlainView {
@@ -102,39 +116,39 @@ static BACKENDS: [BackendNow; 3] = [
 // A word that is another, and the part that is told to be wrong.
 static FAULTS: &[(usize, u64, Option<Part>)] = &[
     // The disk's moment is looked at by no check.
-    (105, 4, None),
+    (MOMENT, 4, None),
     // The position is behind the last record, and one more where it is locked.
-    (0, BEGINNING + 40, Some(Part::Order)),
-    (0, BEGINNING + 49, Some(Part::Order)),
-    (1, 0, Some(Part::Order)),
+    (POSITION, BEGINNING + 40, Some(Part::Order)),
+    (POSITION, BEGINNING + 49, Some(Part::Order)),
+    (LAST_START, 0, Some(Part::Order)),
     // A lock is taken where one holds it.
-    (8, 1, Some(Part::Locks)),
-    (40, 0, Some(Part::Locks)),
+    (LOCK_0, 1, Some(Part::Locks)),
+    (LOCK_4, 0, Some(Part::Locks)),
     // A turn names who has it.
-    (72, 0, Some(Part::Turns)),
-    (72, 3, Some(Part::Turns)),
-    (80, 5, Some(Part::Turns)),
+    (MAPPING_TURN, 0, Some(Part::Turns)),
+    (MAPPING_TURN, 3, Some(Part::Turns)),
+    (WRITE_TURN, 5, Some(Part::Turns)),
     // A lock tells no word that is not copied.
-    (32, FIRST_ADDRESS + 73, Some(Part::Progress)),
-    (40, 2, Some(Part::Progress)),
+    (LOCK_3, FIRST_ADDRESS + 73, Some(Part::Progress)),
+    (LOCK_4, 2, Some(Part::Progress)),
     // A word of a page is its record's: one that is copied, one that is not, and one behind.
-    (131, 0, Some(Part::Ring)),
-    (132, 28, Some(Part::Ring)),
-    (132, 29, None),
-    (134, 31, Some(Part::Ring)),
+    (RING + 7, 0, Some(Part::Ring)),
+    (RING + 8, 28, Some(Part::Ring)),
+    (RING + 8, 29, None),
+    (RING + 10, 31, Some(Part::Ring)),
     // A page is in its own buffer.
-    (121, 0, Some(Part::Pages)),
-    (121, FIRST_ADDRESS + 24_576, Some(Part::Pages)),
-    (88, FIRST_ADDRESS + 24_576, Some(Part::Pages)),
+    (BUFFER_ENDS + 1, 0, Some(Part::Pages)),
+    (BUFFER_ENDS + 1, FIRST_ADDRESS + 24_576, Some(Part::Pages)),
+    (INITIALISED_END, FIRST_ADDRESS + 24_576, Some(Part::Pages)),
     // Nothing is written that is not copied, or flushed that is not written.
-    (96, FIRST_ADDRESS + 72, Some(Part::Positions)),
-    (104, FIRST_ADDRESS + 24, Some(Part::Positions)),
-    (104, 0, Some(Part::Positions)),
+    (WRITTEN, FIRST_ADDRESS + 72, Some(Part::Positions)),
+    (FLUSHED, FIRST_ADDRESS + 24, Some(Part::Positions)),
+    (FLUSHED, 0, Some(Part::Positions)),
 ];
 
 // These words, but for one that is another.
 fn words_with(alloc: Global, number: usize, word: u64) -> Result<Vec<u64>, AllocError> {
-    let mut words = vec![in alloc; 0; 120 + 4 + 4096]?;
+    let mut words = vec![in alloc; 0; RING + 4096]?;
     for (number, word) in &WORDS {
         put(&mut words, *number, *word);
     }

@@ -1,8 +1,9 @@
 //! Where the words that all backends share stand: their numbers, in a machine's list as in the
 //! table of the log that threads share. Behind the buffers' ends stand the words of the ring, 1,024
 //! for each buffer, and behind these the last word. Before them each word that backends store into
-//! on their own begins a line of memory, eight words, which no processor has to take from another
-//! one for the sake of a neighbour; the words between are 0, and nobody touches them.
+//! on their own begins a pair of lines of memory, sixteen words: a processor that stores into a line
+//! takes it from all others, and may fetch the line beside it too. The words between are 0, and
+//! nobody touches them.
 
 ghost use Rattle.std.specs.Prelude.{◌≡◌, ◌+◌, ◌*◌, ◌≤◌};
 ghost use Rattle.wal_core.specs.Words.{ends_number, lock_number};
@@ -16,37 +17,37 @@ pub const POSITION: usize = 0;
 pub const LAST_START: usize = 1;
 
 /// The first of the insertion locks.
-const FIRST_LOCK: usize = 8;
+const FIRST_LOCK: usize = 16;
 
-/// How far apart they are: as many words as a line of memory has.
-const LOCK_STRIDE: usize = 8;
+/// How far apart they are: as many words as two lines of memory have.
+const LOCK_STRIDE: usize = 16;
 
 /// How many insertion locks there are (NUM_XLOGINSERT_LOCKS).
 pub const LOCKS: u32 = 8;
 
 /// Who has the turn to map a page.
-pub const MAPPING_TURN: usize = 72;
+pub const MAPPING_TURN: usize = 144;
 
 /// Who has the turn to write.
-pub const WRITE_TURN: usize = 80;
+pub const WRITE_TURN: usize = 160;
 
 /// The address below which each page has been mapped.
-pub const INITIALISED_END: usize = 88;
+pub const INITIALISED_END: usize = 176;
 
 /// The address below which the log is written.
-pub const WRITTEN: usize = 96;
+pub const WRITTEN: usize = 192;
 
 /// The address below which the log is durable.
-pub const FLUSHED: usize = 104;
+pub const FLUSHED: usize = 208;
 
 /// The disk's moment when the last flush had ended: stored together with the flushed address.
-pub const MOMENT: usize = 105;
+pub const MOMENT: usize = 209;
 
 /// The disk's count of faults, where it has failed.
-pub const DOWN: usize = 112;
+pub const DOWN: usize = 224;
 
 /// The first buffer's end word.
-pub const BUFFER_ENDS: usize = 120;
+pub const BUFFER_ENDS: usize = 240;
 
 /// An insertion lock's number.
 #[inline]

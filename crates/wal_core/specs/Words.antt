@@ -8,8 +8,9 @@
 -- is.
 --
 -- A line of memory holds eight words, and a processor that stores into one takes the whole line
--- from all others. So each word that backends store into on their own begins a line: words whose
--- numbers differ by eight are on different lines wherever the first one lies. What is stored
+-- from all others, and may fetch the line beside it too. So each word that backends store into on
+-- their own begins a pair of lines: words whose numbers differ by sixteen are on different pairs
+-- wherever the first one lies. What is stored
 -- together shares one: the last start with the position under whose lock it is stored, the moment
 -- with the flushed address. No step loads or stores the words between, which stay 0.
 use Rattle.std.specs.Prelude.{ℕ, ◌+◌, ◌*◌, List, slice_index}
@@ -17,36 +18,36 @@ use Rattle.byte_position.specs.Position.{end_address_of, first_position, usable_
 use Rattle.wal_page.specs.Order.{Entry, end_position}
 use Rattle.wal_core.specs.declared.setup.Setup.{Setup}
 
--- an insertion lock's number, of eight: 8, 16, up to 64
+-- an insertion lock's number, of eight: 16, 32, up to 128
 abbrev pub lock_number : ℕ → ℕ
-lock_number lock = 8 + 8 * lock
+lock_number lock = 16 + 16 * lock
 
 -- the numbers of the words that are one each, in their order; the position's is 0, the last start's
 -- 1
 abbrev pub mapping_turn_number : ℕ
-mapping_turn_number = 72
+mapping_turn_number = 144
 
 abbrev pub write_turn_number : ℕ
-write_turn_number = 80
+write_turn_number = 160
 
 abbrev pub initialised_number : ℕ
-initialised_number = 88
+initialised_number = 176
 
 abbrev pub written_number : ℕ
-written_number = 96
+written_number = 192
 
 abbrev pub flushed_number : ℕ
-flushed_number = 104
+flushed_number = 208
 
 abbrev pub moment_number : ℕ
-moment_number = 105
+moment_number = 209
 
 abbrev pub down_number : ℕ
-down_number = 112
+down_number = 224
 
 -- the number of the first buffer's end; all words before it are those above
 abbrev pub ends_number : ℕ
-ends_number = 120
+ends_number = 240
 
 -- the byte position up to which records are reserved; it is even, and one more while it is locked
 abbrev pub position_word : List ℕ → ℕ

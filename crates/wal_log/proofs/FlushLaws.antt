@@ -1,9 +1,11 @@
 -- What is told to be durable: by what steps, and that no promise told before names more.
 use Rattle.std.specs.Prelude.{Result, Ok, Err}
-use Rattle.std.proofs.Common.{◌≡◌, ℕ, ◌<◌, ◌≤◌, All, List, [], ◌∷◌, ◌++◌, length, max, refl, sym, ap, subst, inl, inr, ◌∙◌, arith}
+use Rattle.std.proofs.Common.{◌≡◌, ℕ, ◌<◌, ◌≤◌, All, List, [], ◌∷◌, ◌++◌, length, max, true, is_lt, nat_cmp, refl, sym, ap, subst, inl, inr, ◌∙◌, arith}
+use Rattle.std.proofs.lemmas.Cmp.{by_ranked, ranked}
 use Rattle.std.proofs.lemmas.List.Elements.{All-contains, All-weaker, Contains-push}
 use Rattle.std.proofs.Math.Logic.{∥∥₁_elim}
 use Rattle.std.specs.Coded.{le_prop}
+use mathlib.Core.Bool.{true≢false}
 use mathlib.Core.Option.{none}
 use Rattle.atomic_table.proofs.Lists.{at_map}
 use Rattle.byte_position.specs.Position.{position_of}
@@ -35,6 +37,12 @@ use Rattle.wal_log.specs.Standing.{KeepsPass, KeepsWork}
 use Rattle.wal_log.specs.Moments.{HasMoment, HaveReached}
 use Rattle.wal_log.proofs.Keeping.{further_pass, meets_since, same_pass}
 use Rattle.wal_log.proofs.Plain.{flushed_loaded, moment_loaded}
+
+-- the less of two numbers, by their order
+pub lt_from_is_lt : (a b : ℕ) → is_lt (nat_cmp a b) ≡ true → a < b
+lt_from_is_lt a b is = by_ranked (a < b) (a ≡ b) (b < a) (nat_cmp a b) (ranked a b _ refl)
+    (λ _ less. less) (λ e _. absurd (true≢false (sym is ∙ ap is_lt e)))
+    (λ e _. absurd (true≢false (sym is ∙ ap is_lt e)))
 
 -- ---- no promise is above what the writer in hand has done
 

@@ -1,19 +1,36 @@
 -- What a pass keeps that looks whether room is made, and makes it.
 use mathlib.Core.Option.{some}
+use Rattle.segment_disk.specs.Tape.{Tape}
 use Rattle.wal_page.specs.Placed.{PlacedState}
 use Rattle.wal_core.specs.declared.setup.Setup.{Setup}
-use Rattle.std.proofs.Common.{◌≡◌, ℕ, ◌≤◌, List, refl, sym, ap, ◌∙◌, subst, arith}
+use Rattle.std.specs.Prelude.{MatchBool, Option, nat_lt}
+use Rattle.std.proofs.Common.{◌≡◌, ℕ, ◌*◌, ◌%◌, ◌≤◌, Bool, true, false, List, inl, inr, refl, sym, ap, ◌∙◌, subst, arith}
+use Rattle.std.proofs.lemmas.Bool.{ltb-false, ltb-true}
+use Rattle.wal_core.specs.Steps.{load_buffer_end}
 use Rattle.wal_core.specs.Views.{View, Working}
 use Rattle.wal_rule.specs.declared.seated.SeatedPass.{SeatedPass}
-use Rattle.wal_rule.specs.SeatedPasses.{StandsAtRest, view_of}
+use Rattle.wal_rule.specs.SeatedPasses.{StandsAtRest, setup_of, view_of}
+use Rattle.wal_rule.specs.Stepping.{Meets}
 use Rattle.wal_log.specs.declared.fault.Fault.{Fault}
 use Rattle.wal_log.specs.declared.fault.Fault.TheVariants.{Disk, Down}
 use Rattle.wal_log.specs.Copying.{MapsPage, mapped_view}
 use Rattle.wal_log.specs.Downs.{KnowsNoFault, MeetsFault}
 use Rattle.wal_log.specs.PassLogs.{log_of_pass}
+use Rattle.wal_log.specs.Room.{MakesRoom, MeetsMapped, MeetsUnmapped, end_in_the_way}
 use Rattle.wal_log.specs.Standing.{AddsNothing, ComesToRest, CopiesUnder, HasNoTurn, KeepsWork, entry_in_flight, entry_of_flight}
+use Rattle.wal_log.specs.Writing.{IsHeldUp, WritesCopied}
 use Rattle.wal_log.proofs.AddingNothing.{adds_on, as_before}
 use Rattle.wal_log.proofs.Keeping.{both_up, meets_since, rested_on}
+use Rattle.wal_log.proofs.WriteLaws.{written_since}
+
+-- an end word that was met tells whether its page was mapped
+pub end_tells : (setup : Setup) (page end : ℕ) (v : View) (behind : Bool)
+    → nat_lt (page * 8192) end ≡ behind → Meets v (load_buffer_end (page % setup.ring_pages)) end
+    → MatchBool behind (MeetsMapped setup page v) (MeetsUnmapped setup page v)
+end_tells setup page end v true is met =
+    record { end = end; met = met; behind = ltb-true (page * 8192) end is }
+end_tells setup page end v false is met =
+    record { end = end; met = met; before = ltb-false (page * 8192) end is }
 
 -- so far a pass added nothing, has no turn, and knows of no failed disk
 pub record HasRoomMade {D : Type 0} (old now : SeatedPass D) : Type 0 where
@@ -100,3 +117,36 @@ fault_since old now new before up (Down faults) told =
 pub flies : (setup : Setup) (locks : List ℕ) (placed : PlacedState) (v : View)
     → (c : CopiesUnder setup locks placed v) → entry_in_flight v ≡ some (c.copy).entry
 flies setup locks placed v c = ap (λ (w : Working). entry_of_flight w.flight) c.working
+
+-- ---- what was done for a page that was met not mapped
+
+module _ {D : Type 0} (tape : D → Option Tape) (moment faults : D → ℕ) (page upto : ℕ)
+    (old now new : SeatedPass D) (unmapped : MeetsUnmapped (setup_of old) page (view_of old))
+    (wrote : Bool) (tells : MatchBool wrote (WritesCopied tape moment faults upto (view_of now) new)
+    (IsHeldUp upto (view_of new))) where
+  -- what was to be written first was not
+  pub was_held_up : wrote ≡ false → upto ≡ end_in_the_way (setup_of old) page
+      → MakesRoom tape moment faults page old new
+  was_held_up not_wrote is = inr (
+    unmapped,
+    inl (subst (λ (n : ℕ). IsHeldUp n (view_of new)) is
+        (subst (λ (b : Bool). MatchBool b (WritesCopied tape moment faults upto (view_of now) new)
+        (IsHeldUp upto (view_of new))) not_wrote tells)),
+  )
+
+  -- it was, and pages were mapped
+  pub was_written : wrote ≡ true → upto ≡ end_in_the_way (setup_of old) page
+      → AddsNothing old now → (mapped : SeatedPass D) → MapsPage new mapped
+      → MakesRoom tape moment faults page old mapped
+  was_written has_written is adds mapped maps = inr (
+    unmapped,
+    inr (record {
+      written = new;
+      writes = subst (λ (n : ℕ). WritesCopied tape moment faults n (view_of old) new) is
+          (written_since tape moment faults upto (view_of old) (view_of now) new
+          (adds.works).work.pass
+          (subst (λ (b : Bool). MatchBool b (WritesCopied tape moment faults upto (view_of now) new)
+          (IsHeldUp upto (view_of new))) has_written tells));
+      maps = maps;
+    }),
+  )

@@ -17,6 +17,10 @@ pub record MeetsWriteTurn (turn : ℕ) (v : View) : Type 0 where
   pub met : Meets v take_write_turn turn
   pub taken : turn ≢ 0
 
+-- nobody had it: a pass with this view met its word, which was 0
+abbrev pub MeetsFreeWriteTurn : View → Type 0
+MeetsFreeWriteTurn v = Meets v take_write_turn 0
+
 -- why the turn to write was not had: the down value was met, or the turn was taken, and the view is
 -- as it was
 abbrev pub TellsTurnErr : View → View → TurnErr → Type 0

@@ -30,8 +30,8 @@ use wal_rule::SeatedPass;
 use wal_types::Lsn;
 use word_ring::{MapTry, Presence, confirm, copy_page, copy_present, map_ahead, try_map};
 
-// How many pages are mapped behind one that was needed, as far as their buffers are free: so most
-// copies find their page, and need no turn.
+// How many pages are mapped behind one that was needed, as far as their buffers are free. Room is
+// made ahead by room.rt; who needed a page himself all the same maps some behind it too.
 const AHEAD: u32 = 32;
 
 // How often a page's end word is looked at, where somebody else has a turn that the page needs,

@@ -96,9 +96,8 @@ pub(crate) fn land_and_make_room<'p, 'a, D: Disk, R: Wait>(
     Ok(())
 }
 
-// Yields at each so many-th page, with nothing held and nothing in flight. Beside more backends than
-// processors the system stops one now and then, and if that is in the midst of an insert all others
-// wait for its copy in the end. One that yields may be stopped here instead.
+// Yields at each so many-th page, with nothing held and nothing in flight. That this gains is
+// measured (docs/PERFORMANCE.md); why it does was not traced.
 #[inline(always)]
 fn let_others_run(page: u64) {
     if page % YIELDS == 0 {

@@ -5,10 +5,11 @@
 // and pages are mapped under one turn. Others may copy into the pages between meanwhile. The pass
 // has nothing in flight, and holds no lock.
 ghost use Rattle.std.specs.Prelude.{◌≡◌, ◌<◌, ◌^◌, IfOk, MatchBool, MatchResult};
-ghost use Rattle.wal_rule.specs.SeatedPasses.{StandsAtRest, view_of};
+ghost use Rattle.wal_rule.specs.SeatedPasses.{StandsAtRest, setup_of, view_of};
 ghost use Rattle.wal_log.specs.Copying.{MapsPage};
 ghost use Rattle.wal_log.specs.Downs.{KnowsNoFault, MeetsFault};
 ghost use Rattle.wal_log.specs.PassLogs.{log_of_pass};
+ghost use Rattle.wal_log.specs.Room.{IsSeenTo, IsToBeSeenTo, MakesRoom, MeetsMapped, MeetsUnmapped, page_ahead};
 ghost use Rattle.wal_log.specs.Standing.{AddsNothing, ComesToRest, HasNoTurn};
 ghost use Rattle.wal_log.specs.Writing.{IsHeldUp, WritesCopied};
 
@@ -37,6 +38,10 @@ pub(crate) fn make_room<'p, D: Disk>(seated: &mut SeatedPass<'p, D>, page: u64) 
     // Its log is as it was, and it is about nothing behind it. If the disk fails, it tells so.
     ensures ends { MatchResult result (λ _. KnowsNoFault (view_of seated.new))
         (λ e. MeetsFault (view_of seated.old) (view_of seated.new) e) }
+    // At Ok the page half a ring behind was met mapped, or somebody or a copy was in the way, or
+    // all that it knew to be copied is written. Whether pages were mapped then is in no clause.
+    ensures makes { IfOk result (λ _. MakesRoom D.tape D.moment D.faults
+        (page_ahead (setup_of seated.old) page) seated.old seated.new) }
     ensures log { log_of_pass (view_of seated.new) ≡ log_of_pass (view_of seated.old) }
     ensures rests { ComesToRest seated.old seated.new }
 {
@@ -56,6 +61,10 @@ pub(crate) fn make_room<'p, D: Disk>(seated: &mut SeatedPass<'p, D>, page: u64) 
 fn is_seen_to<'p, D: Disk>(seated: &mut SeatedPass<'p, D>, page: u64) -> bool
     requires rests { HasNoTurn seated.old }
     requires low { page < 2 ^ 40 }
+    // At true that was met; at false it met the page not mapped, and the turn free.
+    ensures tells { MatchBool result
+        (IsSeenTo (setup_of seated.old) page (view_of seated.old) (view_of seated.new))
+        (IsToBeSeenTo (setup_of seated.old) page (view_of seated.old) (view_of seated.new)) }
     ensures maps { MapsPage seated.old seated.new }
 {
     was_mapped(seated, page) || is_turn_taken(seated)
@@ -64,6 +73,9 @@ fn is_seen_to<'p, D: Disk>(seated: &mut SeatedPass<'p, D>, page: u64) -> bool
 // Whether a page is in its buffer, or was there before: then the buffer holds a later one.
 fn was_mapped<'p, D: Disk>(seated: &mut SeatedPass<'p, D>, page: u64) -> bool
     requires low { page < 2 ^ 40 }
+    // At true the end word of its buffer, as it was met, says so; at false it says otherwise.
+    ensures tells { MatchBool result (MeetsMapped (setup_of seated.old) page (view_of seated.old))
+        (MeetsUnmapped (setup_of seated.old) page (view_of seated.old)) }
     ensures maps { MapsPage seated.old seated.new }
 {
     match confirm(seated, page) {

@@ -5,7 +5,7 @@
 // turn had stays 0 unless this pass sets it. The writer goes back first, then the turn's word
 // becomes 0. Before that all that it has written is stored as written, or its fault as down: so who
 // takes the turn next finds no fault that was not told.
-ghost use Rattle.std.specs.Prelude.{◌≡◌, ℕ, [], true, MatchResult};
+ghost use Rattle.std.specs.Prelude.{◌≡◌, ℕ, [], MatchBool, MatchResult};
 ghost use mathlib.Core.Option.{some};
 ghost use Rattle.page_writing.specs.InHand.{HasHand, IsReady, known_copied, writer_in};
 ghost use Rattle.wal_core.specs.Moves.{copied_below, with_hold};
@@ -13,7 +13,7 @@ ghost use Rattle.wal_core.specs.Steps.{slot_in, MayStep};
 ghost use Rattle.wal_core.specs.Views.{Idle};
 ghost use Rattle.wal_rule.specs.SeatedPasses.{HasView, hand_of, view_of};
 ghost use Rattle.wal_log.specs.Downs.{KnowsNoFault};
-ghost use Rattle.wal_log.specs.Hands.{MeetsWriteTurn, SetsDownAndRests, TellsTurnErr};
+ghost use Rattle.wal_log.specs.Hands.{MeetsFreeWriteTurn, MeetsWriteTurn, SetsDownAndRests, TellsTurnErr};
 ghost use Rattle.wal_log.specs.Standing.{AddsNothing, HasNoTurn};
 
 use flush_core::DiskFault;
@@ -68,9 +68,10 @@ pub(crate) fn take_ready<'p, D: Disk>(seated: &mut SeatedPass<'p, D>) -> Result<
 // Whether somebody else has the turn to write. If it is free it is taken, and given back at once.
 pub(crate) fn is_turn_taken<'p, D: Disk>(seated: &mut SeatedPass<'p, D>) -> bool
     requires rests { HasNoTurn seated.old }
-    // Nothing has changed for the pass; at true it met the turn's word, which was not 0.
+    // Nothing has changed for the pass. It met the turn's word, which was not 0 exactly at true.
     ensures same { HasView (view_of seated.old) seated.old seated.new }
-    ensures taken { result ≡ true → (turn : ℕ) × MeetsWriteTurn turn (view_of seated.new) }
+    ensures taken { MatchBool result ((turn : ℕ) × MeetsWriteTurn turn (view_of seated.new))
+        (MeetsFreeWriteTurn (view_of seated.new)) }
 {
     let turn = seated.take_write_turn();
     if turn != 0 {

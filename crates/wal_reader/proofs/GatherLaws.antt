@@ -120,17 +120,36 @@ module _ (size position : ℕ) (cursor : PageCursor) (stands : StandsIn size pos
         reach = reach;
       }
 
-  -- a byte behind a page's end lies on a further page
-  pub page_behind : (p : ℕ) → cursor.offset ≡ 8192 → position ≤ p → cursor.page + 1 ≤ address_of size p / 8192
-  page_behind p full behind =
+  -- a byte behind those that the page has lies on a further page
+  page_beyond : (p : ℕ) → position + (8192 - cursor.offset) ≤ p
+      → cursor.page + 1 ≤ address_of size p / 8192
+  page_beyond p behind =
       let swap : (cursor.page + 1) * 8192 ≡ 8192 * (cursor.page + 1) = omega arith in
       let at = stands.at ∙ ap (position_of size) swap in
       let small = header_size_bounds size stands.valid (cursor.page + 1) in
       let first = address_of-page size stands.valid (cursor.page + 1) 0 (omega arith) in
-      let same : position_of size (8192 * (cursor.page + 1)) + 0 ≡ position = omega arith in
+      let next = position + (8192 - cursor.offset) in
+      let same : position_of size (8192 * (cursor.page + 1)) + 0 ≡ next = omega arith in
       let start = sym (ap (address_of size) same) ∙ first in
-      let up = address_of-mono size stands.valid position p behind in
+      let up = address_of-mono size stands.valid next p behind in
       omega arith
+
+  pub page_behind : (p : ℕ) → cursor.offset ≡ 8192 → position ≤ p
+      → cursor.page + 1 ≤ address_of size p / 8192
+  page_behind p full behind = page_beyond p (omega arith)
+
+  -- a byte from the cursor on is on its page if the page has so many, and only then
+  pub on_page : (p : ℕ) → position ≤ p → p - position < 8192 - cursor.offset
+      → address_of size p / 8192 ≡ cursor.page
+  on_page p behind within =
+      let same : position + (p - position) ≡ p = omega arith in
+      ap (λ (b : ℕ). address_of size b / 8192) (sym same) ∙ page_from (p - position) (omega arith)
+
+  pub not_on_page : (p : ℕ) → position ≤ p → 8192 - cursor.offset ≤ p - position
+      → address_of size p / 8192 ≡ cursor.page → ⊥
+  not_on_page p behind past same =
+      let next = page_beyond p (omega arith) in
+      absurd (omega arith)
 
   -- the bytes that the page has from the cursor on
   module _ (pages : Pages) (bytes : List ℕ) (here : pages cursor.page ≡ Some bytes) (whole : IsPage bytes) where

@@ -2,7 +2,7 @@
 //! that has the last one's end, no address is made of a byte position, and the page's header is
 //! looked at once.
 
-ghost use Rattle.std.specs.Prelude.{◌≡◌, ◌↔◌, ◌+◌, ◌/◌, ◌%◌, ◌<◌, ◌≤◌, ◌^◌, IfOk, IsTrue, Some, None, option_map};
+ghost use Rattle.std.specs.Prelude.{◌≡◌, ◌↔◌, ◌+◌, ◌/◌, ◌%◌, ◌<◌, ◌≤◌, ◌^◌, IfOk, IsTrue, Some, None, is_some, option_map};
 ghost use Rattle.byte_position.specs.Position.{address_of};
 ghost use Rattle.wal_reader.specs.Decodes.{is_at_end, opening_fault};
 ghost use Rattle.wal_reader.specs.Gathering.{IsGathering, IsOpened};
@@ -35,7 +35,10 @@ pub(crate) fn ready_behind(
     requires opens { opening_fault cache.now.geometry opened.extent.at
         (Some cache.now.bytes.value) ≡ None }
     requires timeline { behind.timeline ≡ opened.cursor.timeline }
-    ensures { IsReadyAt cache.now behind result }
+    ensures ready { IsReadyAt cache.now behind result }
+    // It is told if and only if that record starts on this one's page, behind its first byte.
+    ensures told { IsTrue (is_some result) ↔ (opened.extent.at.position < behind.position)
+        × (address_of cache.now.geometry behind.position / 8192 ≡ opened.cursor.page) }
 {
     let cursor = opened.cursor;
     let position = opened.extent.at.position;
@@ -62,7 +65,11 @@ pub(crate) fn ready_over(
     requires some { 0 < gathered.extent.total }
     requires passed { HasPassed cache.now gathered.cursor.page }
     requires timeline { behind.timeline ≡ gathered.cursor.timeline }
-    ensures { IsReadyAt cache.now behind result }
+    ensures ready { IsReadyAt cache.now behind result }
+    // It is told if and only if that record starts on that page, at this one's end or behind.
+    ensures told { IsTrue (is_some result)
+        ↔ (gathered.extent.at.position + gathered.extent.total ≤ behind.position)
+        × (address_of cache.now.geometry behind.position / 8192 ≡ gathered.cursor.page) }
 {
     let cursor = gathered.cursor;
     let end = gathered.extent.at.position + u64::from(gathered.extent.total);

@@ -9,7 +9,7 @@
 //! what the bytes spell. So a size is believed only as far as pages have passed, and no more room
 //! is taken than those pages fill.
 
-ghost use Rattle.std.specs.Prelude.{◌≡◌, ℕ, ◌+◌, ◌*◌, ◌/◌, ◌^◌, ◌<◌, ◌≤◌, Some, length, None, take, drop, option_map, false, IfOk, IfErr, IfSome, MatchResult, OnOk};
+ghost use Rattle.std.specs.Prelude.{◌≡◌, ℕ, ◌+◌, ◌-◌, ◌*◌, ◌/◌, ◌^◌, ◌<◌, ◌≤◌, min, Some, length, None, take, drop, option_map, false, IfOk, IfErr, IfSome, MatchResult, OnOk};
 ghost use Rattle.byte_position.specs.Position.{address_of};
 ghost use Rattle.wal_page.specs.Page.{first_fault};
 ghost use Rattle.wal_reader.specs.Cache.{HoldsLastPage};
@@ -216,6 +216,9 @@ fn first_part(opened: Gathering) -> u32
     ensures header { 24 ≤ result }
     ensures total { result ≤ opened.extent.total }
     ensures page { 24 < result → opened.cursor.offset + result ≤ 8192 }
+    // Where the page has the header whole, it is all that the page has of the record.
+    ensures here { opened.cursor.offset + 24 ≤ 8192
+        → result ≡ min opened.extent.total (8192 - opened.cursor.offset) }
 {
     let here = opened.extent.total.min(PAGE_LEN - opened.cursor.offset);
     here.max(HEADER_LEN as u32)

@@ -11,7 +11,8 @@ invariant-records g l = record {
   ends : EndsSpelled l.fn.geometry l.fn.sysid l.end;
   reaches : Reaches l.fn.geometry l.fn.made l.end;
   bounded : l.end.count + left_of (reader_state l.reader) ≤ 2 ^ 60;
-  gave : GaveSo (g.D.Disk.tape l.initial.disk) l.fn.geometry l.reader (IsReadAs l.fn.geometry (spelled_entries l.end));
+  gave : GaveSo (g.D.Disk.tape l.initial.disk) l.fn.geometry l.reader (IsReadAs l.fn.geometry
+      (spelled_entries l.end));
   tape : g.D.Disk.tape l.disk ≡ g.D.Disk.tape l.initial.disk;
   moment : g.D.Disk.moment l.disk ≡ g.D.Disk.moment l.initial.disk;
   faults : g.D.Disk.faults l.disk ≡ g.D.Disk.faults l.initial.disk;

@@ -12,6 +12,10 @@ returns-clause-put c = λ k less.
     let new = c.put_words.new.words in
     let after = put_mid from (upto - from) c.args.words.now new in
     let long : from ≤ length c.args.words.now = omega (arith, c.told-words, c.requires.within) in
-    let wide : length (mid_of from (upto - from) c.args.words.now) ≡ upto - from = mid_len from upto c.args.words.now (omega (arith, c.told-words, c.requires.within)) in
-    let part = between-put_mid from (upto - from) c.args.words.now new upto long (c.put_words.auto.words ∙ wide) in
-    sym (get_or-between after from upto k 0 (omega (arith, less))) ∙ ap (λ (ws : List ℕ). slice_index ws k) part ∙ c.put_words.ensures.words k (omega (arith, wide, less))
+    let wide : length (mid_of from (upto - from) c.args.words.now) ≡ upto - from =
+    mid_len from upto c.args.words.now (omega (arith, c.told-words, c.requires.within)) in
+    let part = between-put_mid from (upto - from) c.args.words.now new upto long
+    (c.put_words.auto.words ∙ wide) in
+    sym (get_or-between after from upto k 0 (omega (arith, less)))
+    ∙ ap (λ (ws : List ℕ). slice_index ws k) part ∙ c.put_words.ensures.words k
+    (omega (arith, wide, less))

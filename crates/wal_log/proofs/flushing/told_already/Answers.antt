@@ -1,8 +1,10 @@
-use Rattle.std.proofs.Common.{◌≡◌, sym, ap, ◌∙◌}
+use Rattle.std.proofs.Common.{◌≡◌, ℕ, ◌<◌, sym, ap, ◌∙◌, subst}
 use Rattle.std.proofs.lemmas.Map.Keys.{ge_from_not_lt}
 use Rattle.wal_core.specs.Views.{View}
 use Rattle.wal_rule.specs.SeatedPasses.{view_of}
-use Rattle.wal_log.proofs.FlushLaws.{flushed_work, met_latest, met_since, met_told, met_word, told_is, told_view, told_work}
+use Rattle.wal_log.specs.Downs.{KnowsNoFault}
+use Rattle.wal_log.specs.PassLogs.{log_of_pass}
+use Rattle.wal_log.proofs.FlushLaws.{flushed_work, lt_from_is_lt, met_latest, met_since, met_told, met_word, told_is, told_view, told_work}
 use Rattle.wal_log.proofs.Seated.{further_seated, seat_stays, view_is}
 use Rattle.wal_log.proofs.flushing.told_already.Given.{Over}
 use Rattle.wal_log.proofs.flushing.told_already.Goals as goal
@@ -54,6 +56,16 @@ returns-clause-stays g c =
     }
 
 -- the flushed address alone was loaded
+pub returns-then-lt-clause-told : goal.returns-then-lt-clause-told
+returns-then-lt-clause-told g c =
+    let is = view_is c.load_flushed.ensures.steps in (
+      ap log_of_pass is,
+      subst (λ (n : ℕ). n < c.args.upto.0) (sym (ap (λ (v : View). v.writing.flushed) is))
+          (lt_from_is_lt c.load_flushed.result c.args.upto.0 (sym c.lt.ensures ∙ c.if-lt.true)),
+      subst KnowsNoFault (sym is)
+          (record { met = c.requires.up.met; set = c.requires.up.set }),
+    )
+
 pub returns-then-lt-clause-stays : goal.returns-then-lt-clause-stays
 returns-then-lt-clause-stays g c =
     let old = view_of c.args.seated.now in

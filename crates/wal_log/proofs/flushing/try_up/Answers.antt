@@ -1,6 +1,4 @@
-use mathlib.Core.Bool.{true≢false}
-use Rattle.std.proofs.Common.{◌≡◌, ℕ, ◌<◌, ◌≤◌, true, is_lt, nat_cmp, refl, ap, sym, subst, inl, ◌∙◌, arith}
-use Rattle.std.proofs.lemmas.Cmp.{by_ranked, ranked}
+use Rattle.std.proofs.Common.{◌≡◌, ℕ, ◌<◌, ◌≤◌, ap, sym, subst, inl, ◌∙◌, arith}
 use Rattle.std.proofs.lemmas.Map.Keys.{ge_from_not_lt}
 use Rattle.byte_position.proofs.EndAddresses.{end_address_of-mono}
 use Rattle.wal_core.specs.declared.setup.Setup.{Setup}
@@ -10,19 +8,13 @@ use Rattle.insert_locks.specs.Watching.{SeesPosition, with_sight}
 use Rattle.wal_rule.specs.SeatedPasses.{setup_of, view_of}
 use Rattle.wal_log.specs.Standing.{HasNoTurn, WorksOn}
 use Rattle.wal_log.proofs.AddingNothing.{works_on}
-use Rattle.wal_log.proofs.FlushLaws.{told_behind, tried_behind}
+use Rattle.wal_log.proofs.FlushLaws.{lt_from_is_lt, told_behind, tried_behind}
 use Rattle.wal_log.proofs.Keeping.{both_up}
 use Rattle.wal_log.proofs.Seated.{own_setup, same_setup, seat_stays, valid_size, view_is}
 use Rattle.wal_log.proofs.Watched.{Watches, seen_leaves, still_no_turn, watches}
 use Rattle.wal_log.proofs.flushing.try_up.Given.{Over}
 use Rattle.wal_log.proofs.flushing.try_up.Goals as goal
 use Rattle.wal_log.proofs.flushing.try_up.Goals.{After-see_end, After-told_already}
-
--- the less of two numbers, by their order
-lt_from_is_lt : (a b : ℕ) → is_lt (nat_cmp a b) ≡ true → a < b
-lt_from_is_lt a b is = by_ranked (a < b) (a ≡ b) (b < a) (nat_cmp a b) (ranked a b _ refl)
-    (λ _ less. less) (λ e _. absurd (true≢false (sym is ∙ ap is_lt e)))
-    (λ e _. absurd (true≢false (sym is ∙ ap is_lt e)))
 
 module _ (g : Over) (c : After-see_end g) where
   seen : Watches c.args.seated.now c.see_end.new.seated

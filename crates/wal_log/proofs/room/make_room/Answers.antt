@@ -1,11 +1,13 @@
-use Rattle.std.proofs.Common.{◌≡◌, ◌∙◌}
+use Rattle.std.proofs.Common.{◌≡◌, ℕ, ◌+◌, ◌-◌, ◌*◌, ◌/◌, ap, ◌∙◌, subst}
 use Rattle.std.proofs.lemmas.Result.{err_from_is_err_and}
+use Rattle.wal_core.specs.declared.setup.Setup.{Setup}
 use Rattle.wal_core.specs.Views.{Away}
-use Rattle.wal_rule.specs.SeatedPasses.{view_of}
+use Rattle.wal_rule.specs.SeatedPasses.{setup_of, view_of}
 use Rattle.wal_log.specs.Downs.{KnowsNoFault}
+use Rattle.wal_log.specs.Room.{MeetsUnmapped, end_in_the_way, page_ahead}
 use Rattle.wal_log.proofs.AddingNothing.{adds_on}
 use Rattle.wal_log.proofs.PageLaws.{further_maps}
-use Rattle.wal_log.proofs.RoomLaws.{HasRoomMade, comes_to_rest, fault_since, made_on, none_made, pages_made, rests_without_turn}
+use Rattle.wal_log.proofs.RoomLaws.{HasRoomMade, comes_to_rest, fault_since, made_on, none_made, pages_made, rests_without_turn, was_held_up, was_written}
 use Rattle.wal_log.proofs.room.make_room.Given.{Over}
 use Rattle.wal_log.proofs.room.make_room.Goals as goal
 use Rattle.wal_log.proofs.room.make_room.Goals.{After-is_seen_to, After-map_ahead, After-write_ahead}
@@ -62,6 +64,41 @@ returns-in_err-write_ahead-clause-rests g c =
     (adds_on c.args.seated.now c.is_seen_to.new.seated c.write_ahead.new.seated so_far.adds
     c.write_ahead.ensures.adds_nothing) c.write_ahead.ensures.rests
 
+-- ---- somebody or a copy was in the way
+
+module _ (g : Over) (c : After-write_ahead g) where
+  pages_is : c.from-pages.result ≡ (setup_of c.args.seated.now).ring_pages
+  pages_is = c.from-pages.ensures ∙ c.ring_pages.ensures.pages
+      ∙ ap (λ (s : Setup). s.ring_pages) c.shape.ensures
+
+  upto_is : c.saturating_sub.result * 8192 ≡ end_in_the_way (setup_of c.args.seated.now)
+      (page_ahead (setup_of c.args.seated.now) c.args.page)
+  upto_is = ap (λ (n : ℕ). n * 8192) (c.saturating_sub.ensures
+      ∙ ap (λ (n : ℕ). c.args.page + n / 2 + 1 - n) pages_is)
+
+  unmapped : MeetsUnmapped (setup_of c.args.seated.now) (c.args.page + c.from-pages.result / 2)
+      (view_of c.args.seated.now) → MeetsUnmapped (setup_of c.args.seated.now)
+      (page_ahead (setup_of c.args.seated.now) c.args.page) (view_of c.args.seated.now)
+  unmapped met = subst (λ (n : ℕ). MeetsUnmapped (setup_of c.args.seated.now) (c.args.page + n / 2)
+      (view_of c.args.seated.now)) pages_is met
+
+pub returns-else-branch-clause-makes : goal.returns-else-branch-clause-makes
+returns-else-branch-clause-makes g c =
+    let path = goal.at.returns-else-branch-clause-makes g c in
+    was_held_up g.D.Disk.tape g.D.Disk.moment g.D.Disk.faults
+    (page_ahead (setup_of c.args.seated.now) c.args.page) (c.saturating_sub.result * 8192)
+    c.args.seated.now c.is_seen_to.new.seated c.write_ahead.new.seated
+    (unmapped g path.After-write_ahead c.if-is_seen_to.ensures.tells.0)
+    c.in_ok-write_ahead.field-0 c.in_ok-write_ahead.ensures.tells c.if-branch.false
+    (upto_is g path.After-write_ahead)
+
+pub returns-else-branch-clause-rests : goal.returns-else-branch-clause-rests
+returns-else-branch-clause-rests g c =
+    let so_far = looked g (goal.at.returns-else-branch-clause-rests g c).After-is_seen_to in
+    comes_to_rest c.args.seated.now c.write_ahead.new.seated c.requires.rests
+    (adds_on c.args.seated.now c.is_seen_to.new.seated c.write_ahead.new.seated so_far.adds
+    c.write_ahead.ensures.adds_nothing) c.write_ahead.ensures.rests
+
 -- ---- pages were mapped
 
 module _ (g : Over) (c : After-write_ahead g)
@@ -106,3 +143,16 @@ returns-then-branch-clause-rests g c =
     let made = mapped g path.After-map_ahead (written g path.After-write_ahead
     (looked g path.After-is_seen_to) c.in_ok-write_ahead.ensures.ends) in
     comes_to_rest c.args.seated.now c.map_ahead.new.seated c.requires.rests made.adds made.rests
+
+pub returns-then-branch-clause-makes : goal.returns-then-branch-clause-makes
+returns-then-branch-clause-makes g c =
+    let path = goal.at.returns-then-branch-clause-makes g c in
+    was_written g.D.Disk.tape g.D.Disk.moment g.D.Disk.faults
+    (page_ahead (setup_of c.args.seated.now) c.args.page) (c.saturating_sub.result * 8192)
+    c.args.seated.now c.is_seen_to.new.seated c.write_ahead.new.seated
+    (unmapped g path.After-write_ahead c.if-is_seen_to.ensures.tells.0)
+    c.in_ok-write_ahead.field-0 c.in_ok-write_ahead.ensures.tells c.if-branch.true
+    (upto_is g path.After-write_ahead) (looked g path.After-is_seen_to).adds
+    c.map_ahead.new.seated
+    (further_maps c.write_ahead.new.seated c.map_ahead.new.seated c.map_ahead.ensures.stays
+    c.map_ahead.ensures.maps)

@@ -19,7 +19,9 @@ returns c =
       spelled = c.none.result;
     } in
     record {
-      ends = λ sysid. subst (λ (es : List Entry). EndsOrder c.args.geometry sysid es end) (sym c.none.ensures) (ends_first c.args.geometry sysid valid end refl start (c.position_of.ensures ∙ ap (position_of c.args.geometry) start) refl);
+      ends = λ sysid. subst (λ (es : List Entry). EndsOrder c.args.geometry sysid es end)
+          (sym c.none.ensures) (ends_first c.args.geometry sysid valid end refl start
+          (c.position_of.ensures ∙ ap (position_of c.args.geometry) start) refl);
       reaches = λ made. omega (arith, start);
       none = (refl, c.none.ensures);
     }
