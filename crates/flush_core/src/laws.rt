@@ -1,10 +1,13 @@
 //! Laws of the definitions, each proved by a function that does nothing: what a caller of `Writer`
 //! may say of crashes without knowing its calls.
 
-ghost use Rattle.std.specs.Prelude.{◌≡◌, ℕ, ◌+◌, ◌<◌, ◌++◌, false, List, length, Option, IfSome};
+ghost use Rattle.std.specs.Prelude.{◌≡◌, ℕ, ◌+◌, ◌/◌, ◌<◌, ◌≤◌, ◌++◌, false, List, length, Option, IfSome};
+ghost use mathlib.Core.Option.{none, some};
+ghost use Rattle.byte_position.specs.Geometry.{pages_of};
 ghost use Rattle.segment_disk.specs.declared.disk.Call.{Call};
 ghost use Rattle.segment_disk.specs.Tape.{DiskState, Tape};
 ghost use Rattle.segment_disk.specs.DiskImage.{DiskImage, LeftAt, MayLeave};
+ghost use Rattle.flush_core.specs.Calls.{page_calls, put_calls};
 ghost use Rattle.flush_core.specs.SettledLog.{SettledLogsAreWhole, SettlingKeepsLawful, SyncedLogsAreLawful};
 ghost use Rattle.flush_core.specs.declared.planning.SettlePlan.{SettlePlan};
 ghost use Rattle.flush_core.specs.Planned.{IsPlanOf, call_count, settled_tape};
@@ -46,4 +49,14 @@ pub fn settled_tapes_are_planned()
         → IsPlanOf size end count old plan → IfSome old (λ t. moment ≡ length t.calls)
         → IfSome (settled_tape size end count old)
         (λ t. moment + call_count plan ≡ length t.calls) }
+{}
+
+/// A law: where what waits for a sync is of the segment under way, which is made, or where nothing
+/// waits, a page is put by the calls of a writer that has its disk for itself.
+pub fn settling_is_for_other_segments()
+    ensures own { (size made page upto : ℕ) (bytes : List ℕ) → page / pages_of size ≤ made
+        → page_calls size made (some (page / pages_of size)) page upto bytes
+        ≡ put_calls size made page upto bytes }
+    ensures free { (size made page upto : ℕ) (bytes : List ℕ)
+        → page_calls size made none page upto bytes ≡ put_calls size made page upto bytes }
 {}

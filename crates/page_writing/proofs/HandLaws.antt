@@ -1,15 +1,18 @@
 -- Steps of a pass that has the writer in hand, as plain updates of its view.
-use Rattle.std.specs.Prelude.{Result, Err, Ok, MatchResult, None, Some}
+use Rattle.std.specs.Prelude.{Result, Err, Ok, MatchResult, None, Some, ◌&&◌, nat_lt, not}
 use Rattle.std.specs.Option.{option_eq}
 use Rattle.std.proofs.Math.Dec.{eqb}
 use Rattle.std.proofs.lemmas.Bool.{eqb-true}
-use Rattle.std.proofs.Common.{◌≡◌, ℕ, Bool, true, List, ◌∷◌, refl, sym, ap, ◌∙◌, subst}
+use Rattle.std.proofs.Common.{◌≡◌, ℕ, Bool, true, List, [], ◌∷◌, ◌++◌, refl, sym, ap, ◌∙◌, subst, arith}
 use mathlib.Core.Option.{Option, none, some}
 use Rattle.atomic_table.specs.declared.shared.Seat.{Seat}
-use Rattle.segment_disk.specs.Tape.{Tape}
+use Rattle.segment_disk.specs.declared.disk.Call.{Call}
+use Rattle.segment_disk.specs.Tape.{Tape, create_call, sync_call, write_call}
+use Rattle.flush_core.specs.Calls.{is_under_way}
 use Rattle.flush_core.specs.declared.writer.DiskFault.{DiskFault}
 use Rattle.wal_core.specs.Views.{Hold, Lent, Out, Plain, View}
 use Rattle.wal_core.specs.Moves.{CallOutcome, Done, Failed, with_hold}
+use Rattle.wal_core.specs.Words.{Opening}
 use Rattle.wal_core.specs.Steps.{create, load_ring_word, sync, view_behind, write}
 use Rattle.wal_rule.specs.declared.seated.SeatedPass.{SeatedPass}
 use Rattle.wal_rule.specs.declared.writer.LogWriter.{LogWriter}
@@ -19,6 +22,8 @@ use Rattle.wal_rule.specs.SeatedPasses.{HasView, Steps, began_of, hand_of, openi
 use Rattle.wal_rule.specs.Slotted.{EndsAs, as_machine_has}
 use Rattle.wal_rule.specs.Tables.{began_of_table, opening_of_table, setup_of_table}
 use Rattle.page_writing.specs.InHand.{CallsEnd, ChangesHand, HasHand, IsReady, IsSame, Loads, hand_view, lent_in, writer_in}
+use Rattle.page_writing.specs.MadeCalls.{EndCalls, HasBrokenOff, HasCalled}
+use Rattle.page_writing.proofs.CallLists.{called_none, counted_failed, ended_on, not_counted, one_more_is}
 
 abbrev pub HasLent : View → Type 0
 HasLent v = (l : Lent) × ((v.writing).hold ≡ Out l)
@@ -31,6 +36,11 @@ hold_is v has = has.1 ∙ ap (λ (h : Hold). Out (lent_in h)) (sym has.1)
 module _ {D : Type 0} where
   pub me_same : (old new : SeatedPass D) → IsSame old new → (new.seat).me ≡ (old.seat).me
   me_same old new same = ap (λ (s : Seat (LogWriter D) View). s.me) same.same_seat
+
+  pub same_in_hand : (old new : SeatedPass D) → IsSame old new
+      → writer_in (view_of new) ≡ writer_in (view_of old)
+  same_in_hand old new same =
+      ap (λ (m : View × List (ℕ × LogWriter D)). writer_in m.0) (me_same old new same)
 
   pub unchanged : (old new : SeatedPass D) → IsSame old new → HasLent (view_of old)
       → ChangesHand old new
@@ -83,6 +93,36 @@ behind_call v has (writes segment page upto bytes) outcome =
 behind_call v has (syncs segment) outcome =
     ap (λ (h : Hold). view_behind (with_hold h v) (sync segment outcome) 0 none) (hold_is v has)
 
+-- the call itself
+abbrev pub call_of : ℕ → DeviceCall → Call
+call_of size (creates segment) = create_call size segment
+call_of size (writes segment page upto bytes) = write_call size segment page bytes
+call_of size (syncs segment) = sync_call size segment
+
+counts_done : (size : ℕ) (call : DeviceCall) (w : Plain)
+    → HasCalled (call_of size call ∷ []) w (writer_behind size call Done w)
+counts_done size (creates segment) w =
+    record { made = one_more_is (create_call size segment) w.calls; moment = omega arith }
+counts_done size (writes segment page upto bytes) w =
+    record { made = one_more_is (write_call size segment page bytes) w.calls; moment = omega arith }
+counts_done size (syncs segment) w =
+    record { made = one_more_is (sync_call size segment) w.calls; moment = omega arith }
+
+counts_failed : (size faults : ℕ) (counted : Option Bool) (call : DeviceCall) (w : Plain)
+    → HasBrokenOff (call_of size call ∷ []) w (writer_behind size call (Failed faults counted) w)
+counts_failed size faults none (creates segment) w =
+    not_counted (create_call size segment) w _ refl refl
+counts_failed size faults (some made) (creates segment) w =
+    counted_failed made (create_call size segment) w _ refl refl
+counts_failed size faults none (writes segment page upto bytes) w =
+    not_counted (write_call size segment page bytes) w _ refl refl
+counts_failed size faults (some made) (writes segment page upto bytes) w =
+    counted_failed made (write_call size segment page bytes) w _ refl refl
+counts_failed size faults none (syncs segment) w =
+    not_counted (sync_call size segment) w _ refl refl
+counts_failed size faults (some made) (syncs segment) w =
+    counted_failed made (sync_call size segment) w _ refl refl
+
 faults_kept : (size faults : ℕ) (counted : Option Bool) (call : DeviceCall) (w : Plain)
     → (writer_behind size call (Failed faults counted) w).fault ≡ some faults
 faults_kept size faults none (creates segment) w = refl
@@ -115,6 +155,20 @@ module _ (v w : View) (has : HasLent v) (call : DeviceCall) (outcome : CallOutco
   told_so (Err e) failed = ap (λ (x : Plain). x.fault)
       (writer_is ∙ ap (λ (o : CallOutcome). left o) failed.1)
       ∙ faults_kept ((v.opening).setup).segment_size e.faults failed.0 call (writer_in v)
+
+  -- and it tells the call
+  pub called_so : (result : Result Unit DiskFault) → EndsAs result outcome
+      → EndCalls (call_of ((v.opening).setup).segment_size call ∷ []) result (writer_in v)
+      (writer_in w)
+  called_so (Ok _) is = subst
+      (λ (x : Plain). HasCalled (call_of ((v.opening).setup).segment_size call ∷ [])
+      (writer_in v) x)
+      (sym (writer_is ∙ ap (λ (o : CallOutcome). left o) is))
+      (counts_done ((v.opening).setup).segment_size call (writer_in v))
+  called_so (Err e) failed = subst
+      (λ (x : Plain). HasBrokenOff (call_of ((v.opening).setup).segment_size call ∷ [])
+      (writer_in v) x) (sym (writer_is ∙ ap (λ (o : CallOutcome). left o) failed.1))
+      (counts_failed ((v.opening).setup).segment_size e.faults failed.0 call (writer_in v))
 
 -- ---- the writer stays in hand
 
@@ -207,7 +261,9 @@ module _ {D : Type 0} (tape : D → Rattle.std.specs.Prelude.Option Tape) (momen
         (writer_in (view_of old)))
         → DeviceCallEnds tape moment faults (began_of tape old) (opening_of old) call result
         (view_of old) (new.seat).me
-        → new.table ≡ old.table → CallsEnd tape moment faults Stands result old new
+        → new.table ≡ old.table
+        → CallsEnd tape moment faults Stands
+        (call_of (setup_of old).segment_size call ∷ []) result old new
     ended old new hand call result Stands done ends same =
         let has = has_lent old hand in
         record {
@@ -221,28 +277,39 @@ module _ {D : Type 0} (tape : D → Rattle.std.specs.Prelude.Option Tape) (momen
           };
           told = told_so (view_of old) (view_of new) has call ends.outcome ends.view_is Stands
               done result ends.ends;
+          called = subst (λ (o : Opening). EndCalls (call_of (o.setup).segment_size call ∷ [])
+              result (writer_in (view_of old)) (writer_in (view_of new))) (old.seated).own
+              (called_so (view_of old) (view_of new) has call ends.outcome ends.view_is Stands
+              done result ends.ends);
           hand = hand_there old new same (ends.lent, ends.writer, ends.in_hand);
         }
 
-    -- the last one failed
-    pub failed_behind : (Q P : Plain → Plain → Type 0) (a b c : SeatedPass D) (e : DiskFault)
-        → ChangesHand a b → CallsEnd tape moment faults Q (Err e) b c
-        → CallsEnd tape moment faults P (Err e) a c
-    failed_behind Q P a b c e before ends = record {
+    -- a call failed behind others, and more were to come
+    pub failed_behind : (Q P : Plain → Plain → Type 0) (calls all : List Call)
+        (a b c : SeatedPass D) (e : DiskFault) → ChangesHand a b
+        → CallsEnd tape moment faults Q calls (Err e) b c
+        → HasBrokenOff all (writer_in (view_of a)) (writer_in (view_of c))
+        → CallsEnd tape moment faults P all (Err e) a c
+    failed_behind Q P calls all a b c e before ends broken = record {
       changes = further a b c before ends.changes;
       told = ends.told;
+      called = broken;
       hand = ends.hand;
     }
 
     -- the last one does what is asked of all of them
-    pub behind_others : (Q P : Plain → Plain → Type 0) (result : Result Unit DiskFault)
-        (a b c : SeatedPass D) → ChangesHand a b
+    pub behind_others : (Q P : Plain → Plain → Type 0) (first calls : List Call)
+        (result : Result Unit DiskFault) (a b c : SeatedPass D) → ChangesHand a b
+        → HasCalled first (writer_in (view_of a)) (writer_in (view_of b))
         → (Q (writer_in (view_of b)) (writer_in (view_of c))
         → P (writer_in (view_of a)) (writer_in (view_of c)))
-        → CallsEnd tape moment faults Q result b c → CallsEnd tape moment faults P result a c
-    behind_others Q P result a b c before law ends = record {
+        → CallsEnd tape moment faults Q calls result b c
+        → CallsEnd tape moment faults P (first ++ calls) result a c
+    behind_others Q P first calls result a b c before called law ends = record {
       changes = further a b c before ends.changes;
       told = by_result result ends.told;
+      called = ended_on first calls (writer_in (view_of a)) (writer_in (view_of b))
+          (writer_in (view_of c)) result called ends.called;
       hand = ends.hand;
     }
       where
@@ -257,28 +324,44 @@ module _ {D : Type 0} (tape : D → Rattle.std.specs.Prelude.Option Tape) (momen
     -- nothing was called
     pub stays : (old new : SeatedPass D) → IsSame old new
         → HasHand tape moment faults old → (Q : Plain → Plain → Type 0)
-        → Q (writer_in (view_of old)) (writer_in (view_of old))
-        → CallsEnd tape moment faults Q (Ok tt) old new
-    stays old new same hand Q so = record {
+        → Q (writer_in (view_of old)) (writer_in (view_of old)) → (calls : List Call) → calls ≡ []
+        → CallsEnd tape moment faults Q calls (Ok tt) old new
+    stays old new same hand Q so calls empty = record {
       changes = unchanged old new same (has_lent old hand);
       told = subst (λ (w : Plain). Q (writer_in (view_of old)) w)
-          (sym (ap (λ (m : View × List (ℕ × LogWriter D)). writer_in m.0)
-          (me_same old new same))) so;
+          (sym (same_in_hand old new same)) so;
+      called = subst (λ (w : Plain). HasCalled calls (writer_in (view_of old)) w)
+          (sym (same_in_hand old new same))
+          (subst (λ (l : List Call). HasCalled l (writer_in (view_of old))
+          (writer_in (view_of old))) (sym empty) (called_none (writer_in (view_of old))));
       hand = same_hand old new same hand;
     }
 
-    -- of a pass that is still the same
+    -- of a pass that is still the same: these calls are those asked for
     pub from_same : (old mid new : SeatedPass D) → IsSame old mid
-        → HasHand tape moment faults old → (Q : Plain → Plain → Type 0)
-        (result : Result Unit DiskFault) → CallsEnd tape moment faults Q result mid new
-        → CallsEnd tape moment faults Q result old new
-    from_same old mid new same hand Q result ends =
-        behind_others Q Q result old mid new (unchanged old mid same (has_lent old hand))
-        (λ so. subst (λ (w : Plain). Q w (writer_in (view_of new)))
-        (ap (λ (m : View × List (ℕ × LogWriter D)). writer_in m.0) (me_same old mid same)) so)
-        ends
+        → HasHand tape moment faults old → (Q P : Plain → Plain → Type 0)
+        → (Q (writer_in (view_of old)) (writer_in (view_of new))
+        → P (writer_in (view_of old)) (writer_in (view_of new)))
+        → (calls all : List Call) → calls ≡ all
+        → (result : Result Unit DiskFault) → CallsEnd tape moment faults Q calls result mid new
+        → CallsEnd tape moment faults P all result old new
+    from_same old mid new same hand Q P law calls all are result ends =
+        subst (λ (l : List Call). CallsEnd tape moment faults P l result old new) are
+        (behind_others Q P [] calls result old mid new (unchanged old mid same (has_lent old hand))
+        (subst (λ (w : Plain). HasCalled [] (writer_in (view_of old)) w)
+        (sym (same_in_hand old mid same)) (called_none (writer_in (view_of old))))
+        (λ so. law (subst (λ (w : Plain). Q w (writer_in (view_of new)))
+        (same_in_hand old mid same) so)) ends)
+
+-- ---- what waits
 
 pub waits_for : (waiting : Rattle.std.specs.Prelude.Option ℕ) (segment : ℕ)
     → option_eq eqb waiting (Some segment) ≡ true → as_machine_has waiting ≡ some segment
 waits_for None segment same = absurd (cc)
 waits_for (Some x) segment same = ap (λ (n : ℕ). some n) (eqb-true x segment same)
+
+pub under_way : (made segment : ℕ) (waiting : Rattle.std.specs.Prelude.Option ℕ)
+    → is_under_way made (as_machine_has waiting) segment
+    ≡ (option_eq eqb waiting (Some segment) && not (nat_lt made segment))
+under_way made segment None = refl
+under_way made segment (Some x) = refl

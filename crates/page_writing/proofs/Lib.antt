@@ -1,6 +1,8 @@
 pub mod HandLaws
 pub mod Bounds
 pub mod Calls
+pub mod CallLists
+pub mod PutCalls
 pub mod PageBytes
 pub mod PageLaws
 pub mod PageNumbers

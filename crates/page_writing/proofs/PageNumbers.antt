@@ -1,7 +1,8 @@
 -- Pages and segments of the written address.
-use Rattle.std.proofs.Common.{◌≡◌, ℕ, ◌+◌, ◌*◌, ◌/◌, ◌%◌, ◌<◌, ◌≤◌, List, length, min, refl, sym, ap, ◌∙◌, subst, arith}
-use Rattle.std.proofs.Math.Nat.{add-mul, div-mul-le_self, le_of_mul-le-mul_right, le_trans, mod-lt, mul_assoc, mul_comm}
-use Rattle.std.proofs.lemmas.Nat.{div-add-mod'}
+use Rattle.std.proofs.Common.{◌≡◌, ◌≢◌, ℕ, ◌+◌, ◌-◌, ◌*◌, ◌/◌, ◌%◌, ◌<◌, ◌≤◌, inl, inr, List, length, min, refl, sym, ap, ◌∙◌, subst, arith}
+use Rattle.std.proofs.Math.Nat.{add-mul, div-mul-le_self, le_of_mul-le-mul_right, le_trans, mod-lt, mul-mod_left, mul_assoc, mul_comm}
+use Rattle.std.proofs.lemmas.Nat.{div-add-mod', div-mul-add}
+use Rattle.std.proofs.lemmas.Bool.{cases_lt}
 use Rattle.byte_position.specs.Geometry.{pages_of}
 use Rattle.wal_core.specs.Steps.{IsNextWrite, IsPageLoaded}
 use Rattle.wal_core.specs.Views.{Plain, View}
@@ -24,7 +25,36 @@ segment_begun size pages page written segment whole is of =
     subst (λ (n : ℕ). n * pages ≤ page) (sym of) (div-mul-le_self page pages) in
     omega (arith, product, begun, is)
 
--- it is at most the one behind the last that reaches so far
+-- an address behind a page's start, up to its end, and not a segment's end, lies in the page's
+-- segment
+pub segment_at : (size pages page upto : ℕ) → 8192 * pages ≡ size → 0 < pages
+    → page * 8192 < upto → upto ≤ (page + 1) * 8192 → upto % size ≢ 0 → page / pages ≡ upto / size
+segment_at size pages page upto whole some behind within inside =
+    let segment = page / pages in
+    let product : segment * size ≡ 8192 * (segment * pages) =
+    ap (λ (n : ℕ). segment * n) (sym whole) ∙ sym (mul_assoc segment 8192 pages)
+    ∙ ap (λ (n : ℕ). n * pages) (mul_comm segment 8192) ∙ mul_assoc 8192 segment pages in
+    let parts = div-add-mod' page pages in
+    let on = mod-lt page some in
+    let least : segment * size < upto = omega (arith, product, parts, behind) in
+    let most : upto ≤ segment * size + size = omega (arith, product, parts, on, within, whole) in
+    let rest : upto ≡ segment * size + (upto - segment * size) = omega (arith, least) in
+    let full : segment * size + size ≡ segment * size + 1 * size = omega arith in
+    let low : upto - segment * size < size = elim (cases_lt (upto - segment * size) size) [
+      | inl less ↦ less
+      | inr over ↦ absurd (inside (
+          ap (λ (n : ℕ). n % size) (at_end least most over ∙ full)
+          ∙ ap (λ (n : ℕ). n % size) (sym (add-mul segment 1 size))
+          ∙ mul-mod_left (segment + 1) size
+          ))
+    ] in
+    sym (ap (λ (n : ℕ). n / size) rest ∙ div-mul-add segment size (upto - segment * size) low)
+  where
+    at_end : page / pages * size < upto → upto ≤ page / pages * size + size
+        → size ≤ upto - page / pages * size → upto ≡ page / pages * size + size
+    at_end least most over = omega (arith, least, most, over)
+
+-- the segment of a page is at most the one behind the last that reaches so far
 pub segment_next : (size written made segment : ℕ) → 0 < size → segment * size ≤ written
     → written ≤ made * size + size → segment ≤ made + 1
 segment_next size written made segment some begun reached =
@@ -70,7 +100,7 @@ next_write setup v old page count known upto bytes whole some is left known_is a
       up = there.up;
       page_is = page_again setup.segment_size count count page _ refl whole at;
       on_segment = subst (λ (n : ℕ). page % count < n) whole (mod-lt page some);
-      is_made = there.made;
+      is_made = (let made = there.made in omega (arith, made));
       alone = there.alone;
       rises = omega (arith, is, left, here, upto_is);
       behind_start = omega (arith, is, left, here, upto_is);

@@ -1,6 +1,7 @@
 -- What a seated pass with the writer in hand knows of the writer, and what calls leave of it.
 use Rattle.std.specs.Prelude.{◌≡◌, ℕ, List, [], MatchResult, Result, None}
 use mathlib.Core.Option.{none, some}
+use Rattle.segment_disk.specs.declared.disk.Call.{Call}
 use Rattle.segment_disk.specs.Tape.{Tape}
 use Rattle.flush_core.specs.declared.writer.DiskFault.{DiskFault}
 use Rattle.wal_core.specs.Views.{Hold, Idle, Lent, Out, Plain, Turned, View}
@@ -10,6 +11,7 @@ use Rattle.wal_rule.specs.declared.writer.LogWriter.{LogWriter}
 use Rattle.wal_rule.specs.Ruled.{HasInHand}
 use Rattle.wal_rule.specs.SeatedPasses.{HasView, began_of, opening_of, view_of}
 use Rattle.wal_rule.specs.Slotted.{as_machine_has}
+use Rattle.page_writing.specs.MadeCalls.{EndCalls}
 use Rattle.page_writing.specs.declared.reading.WriterNow.{WriterNow}
 
 -- what a view keeps with the writer in hand; all is 0 where it has no writer
@@ -84,11 +86,13 @@ module _ {D : Type 0} (tape : D → Rattle.std.specs.Prelude.Option Tape) (momen
       pub view : HasView (hand_view (writer_in (view_of old)) staged (view_of old)) old new
       pub hand : HasHand new
 
-    -- calls of the device ended: where all succeeded the writer stands so to the one before, else
-    -- it keeps the fault that is told. However they ended, it is in hand still
-    pub record CallsEnd (Stands : Plain → Plain → Type 0) (result : Result Unit DiskFault)
-        (old new : SeatedPass D) : Type 0 where
+    -- these calls of the device ended: where all succeeded the writer stands so to the one before,
+    -- else it keeps the fault that is told. It tells just these calls behind those before, or a
+    -- front of them and the one that failed. However they ended, it is in hand still
+    pub record CallsEnd (Stands : Plain → Plain → Type 0) (calls : List Call)
+        (result : Result Unit DiskFault) (old new : SeatedPass D) : Type 0 where
       pub changes : ChangesHand old new
+      pub called : EndCalls calls result (writer_in (view_of old)) (writer_in (view_of new))
       pub told : MatchResult result
           (λ _. Stands (writer_in (view_of old)) (writer_in (view_of new)))
           (λ e. (writer_in (view_of new)).fault ≡ some e.faults)

@@ -1,3 +1,4 @@
 pub mod InHand
 pub mod Loaded
+pub mod MadeCalls
 pub mod Written

@@ -4,6 +4,8 @@
 // made when its first byte is the next to be written; while writes to one segment wait for a sync,
 // no other one is made or written, so one sync makes all durable that is written. Each leaves the
 // writer in hand.
+ghost use Rattle.std.specs.Prelude.{[], ◌∷◌};
+ghost use Rattle.segment_disk.specs.Tape.{create_call, sync_call, write_call};
 ghost use Rattle.page_writing.specs.InHand.{CallsEnd, HasHand, lent_in};
 ghost use Rattle.page_writing.specs.Written.{IsPagePut, IsSegmentMade, IsSegmentSynced};
 ghost use Rattle.wal_core.specs.Steps.{IsNextCreate, IsNextSync, IsNextWrite};
@@ -24,7 +26,8 @@ pub(crate) fn create_segment<'p, D: Disk>(
     // be written lies in it, and is known to be copied.
     requires next { IsNextCreate (setup_of seated.old) segment
         (lent_in (view_of seated.old).writing.hold) }
-    ensures ends { CallsEnd D.tape D.moment D.faults (IsSegmentMade segment) result seated.old
+    ensures ends { CallsEnd D.tape D.moment D.faults (IsSegmentMade segment)
+        (create_call (setup_of seated.old).segment_size segment ∷ []) result seated.old
         seated.new }
 {
     seated.create(segment)
@@ -44,8 +47,9 @@ pub(crate) fn put_page<'p, D: Disk>(
     // The bytes are those of its words, as the pass has loaded them from the ring.
     requires next { IsNextWrite (setup_of seated.old) segment page upto bytes.now
         (lent_in (view_of seated.old).writing.hold) }
-    ensures ends { CallsEnd D.tape D.moment D.faults (IsPagePut segment upto) result seated.old
-        seated.new }
+    ensures ends { CallsEnd D.tape D.moment D.faults (IsPagePut segment upto)
+        (write_call (setup_of seated.old).segment_size segment page bytes.now ∷ []) result
+        seated.old seated.new }
 {
     seated.write_page(segment, page, upto, bytes)
 }
@@ -57,7 +61,8 @@ pub(crate) fn sync_segment<'p, D: Disk>(
 ) -> Result<(), DiskFault>
     requires hand { HasHand D.tape D.moment D.faults seated.old }
     requires next { IsNextSync segment (lent_in (view_of seated.old).writing.hold) }
-    ensures ends { CallsEnd D.tape D.moment D.faults IsSegmentSynced result seated.old
+    ensures ends { CallsEnd D.tape D.moment D.faults IsSegmentSynced
+        (sync_call (setup_of seated.old).segment_size segment ∷ []) result seated.old
         seated.new }
 {
     seated.sync(segment)

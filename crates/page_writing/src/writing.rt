@@ -4,8 +4,10 @@
 // written. For each page in this order: writes to another segment are synced, its own segment is
 // made unless it is there, its words are loaded, it is written, and behind a segment's last page
 // that segment is synced. So at most one segment waits for a sync. A call that fails is the last.
-ghost use Rattle.std.specs.Prelude.{◌≡◌, ◌+◌, ◌*◌, ◌/◌, ◌<◌, ◌≤◌};
+ghost use Rattle.std.specs.Prelude.{◌≡◌, ◌+◌, ◌*◌, ◌/◌, ◌<◌, ◌≤◌, nat_lt};
+ghost use Rattle.flush_core.specs.Calls.{make_calls, calls_before, waiting_calls};
 ghost use Rattle.page_writing.specs.InHand.{CallsEnd, IsReady, known_copied, writer_in};
+ghost use Rattle.page_writing.specs.MadeCalls.{calls_to_put_page};
 ghost use Rattle.page_writing.specs.Written.{IsAlone, IsPageWritten, IsSegmentThere, LeavesAlone, IsSegmentSynced};
 ghost use Rattle.wal_rule.specs.SeatedPasses.{setup_of, view_of};
 
@@ -31,10 +33,13 @@ pub fn write_next<'p, D: Disk>(
     requires known { known ≡ known_copied (view_of seated.old) }
     requires page { page ≡ (writer_in (view_of seated.old)).written / 8192 }
     requires left { (writer_in (view_of seated.old)).written < known }
-    // At a fault nothing is said of how far it came. In both cases the writer stays in hand, and
-    // nothing else of the view has changed but what is loaded.
+    // The device is called just as `calls_to_put_page` lists it, up to a call that fails. However
+    // that ends the writer stays in hand, and nothing else of the view has changed but what is
+    // loaded.
     ensures ends { CallsEnd D.tape D.moment D.faults
-        (IsPageWritten (setup_of seated.old).segment_size known) result seated.old seated.new }
+        (IsPageWritten (setup_of seated.old).segment_size known)
+        (calls_to_put_page (setup_of seated.old).segment_size known page bytes.new
+        (writer_in (view_of seated.old))) result seated.old seated.new }
 {
     let shape = seated.shape();
     let pages = u64::from(shape.geometry().pages());
@@ -54,8 +59,9 @@ pub fn write_next<'p, D: Disk>(
 // waits.
 fn settle<'p, D: Disk>(seated: &mut SeatedPass<'p, D>, segment: u64) -> Result<(), DiskFault>
     requires ready { IsReady D.tape D.moment D.faults seated.old }
-    ensures ends { CallsEnd D.tape D.moment D.faults (LeavesAlone segment) result seated.old
-        seated.new }
+    ensures ends { CallsEnd D.tape D.moment D.faults (LeavesAlone segment)
+        (calls_before (setup_of seated.old).segment_size (writer_in (view_of seated.old)).made
+        (writer_in (view_of seated.old)).waiting segment) result seated.old seated.new }
 {
     let now = writer_now(seated);
     if now.waiting == Some(segment) && segment <= now.made {
@@ -73,8 +79,9 @@ fn make_segment<'p, D: Disk>(seated: &mut SeatedPass<'p, D>, segment: u64) -> Re
     requires next { segment ≤ (writer_in (view_of seated.old)).made + 1 }
     requires left { (writer_in (view_of seated.old)).written < known_copied (view_of seated.old) }
     requires alone { IsAlone segment (writer_in (view_of seated.old)) }
-    ensures ends { CallsEnd D.tape D.moment D.faults (IsSegmentThere segment) result seated.old
-        seated.new }
+    ensures ends { CallsEnd D.tape D.moment D.faults (IsSegmentThere segment)
+        (make_calls (setup_of seated.old).segment_size segment
+        (nat_lt (writer_in (view_of seated.old)).made segment)) result seated.old seated.new }
 {
     if segment <= writer_now(seated).made {
         return Ok(());
@@ -85,7 +92,9 @@ fn make_segment<'p, D: Disk>(seated: &mut SeatedPass<'p, D>, segment: u64) -> Re
 /// Makes the writes that wait for it durable, by one call or none: they are all of one segment.
 pub fn sync_written<'p, D: Disk>(seated: &mut SeatedPass<'p, D>) -> Result<(), DiskFault>
     requires ready { IsReady D.tape D.moment D.faults seated.old }
-    ensures ends { CallsEnd D.tape D.moment D.faults IsSegmentSynced result seated.old seated.new }
+    ensures ends { CallsEnd D.tape D.moment D.faults IsSegmentSynced
+        (waiting_calls (setup_of seated.old).segment_size (writer_in (view_of seated.old)).waiting)
+        result seated.old seated.new }
 {
     match writer_now(seated).waiting {
         Some(segment) => sync_segment(seated, segment),

@@ -1,6 +1,7 @@
 -- A call waits for a page or for the position: what stays of its pass while it looks again and
 -- again.
-use Rattle.std.proofs.Common.{◌≡◌, ℕ, ◌≤◌, max, List, refl, sym, ap, ◌∙◌, subst, arith}
+use Rattle.std.specs.Prelude.{Result, Ok, Err}
+use Rattle.std.proofs.Common.{◌≡◌, ℕ, ◌≤◌, MatchResult, max, List, refl, sym, ap, ◌∙◌, subst, arith}
 use Rattle.std.proofs.Math.Nat.{le-max_left}
 use mathlib.Core.Option.{none}
 use Rattle.wal_core.specs.Moves.{ready, unlocked, with_seen}
@@ -16,10 +17,12 @@ use Rattle.wal_log.specs.declared.fault.Fault.TheVariants.{Disk, Down}
 use Rattle.wal_log.specs.Downs.{FindsDown, KnowsNoFault}
 use Rattle.wal_log.specs.PassLogs.{log_of_pass}
 use Rattle.wal_log.specs.Standing.{ComesToRest, KeepsPass, KeepsWork, SeesMore, StaysAtWork}
+use Rattle.wal_log.specs.Waiting.{FindsUp}
 use Rattle.wal_log.proofs.FlushLaws.{flushed_work}
 use Rattle.wal_log.proofs.Keeping.{both_up, further_work, meets_since, rested_on, same_work}
 use Rattle.wal_log.proofs.Seated.{further_seated, hand_is, seat_stays, view_is}
 use Rattle.wal_log.proofs.Trying.{HasTriedOn, rests_again}
+use Rattle.wal_log.proofs.WaitLaws.{up_behind}
 
 -- ---- a page is looked at
 
@@ -68,7 +71,7 @@ end_keeps end v = record {
   confirmed = le-max_left (v.mapping).confirmed end;
 }
 
-end_stays : {D : Type 0} → (end : ℕ) (a b : SeatedPass D)
+pub end_stays : {D : Type 0} → (end : ℕ) (a b : SeatedPass D)
     → HasView (confirmed_view end (view_of a)) a b → StaysAtWork a b
 end_stays end a b has = record {
   stays = seat_stays has;
@@ -107,20 +110,28 @@ looked_at_flushed old now new flushed looked load =
     }
 
 -- the written address alone was loaded
+written_pass : (written : ℕ) (old new : View) → new ≡ view_behind old load_written written none
+    → KeepsPass old new
+written_pass written old new is = subst (λ (w : View). KeepsPass old w) (sym is) (record {
+  opening = refl;
+  live = refl;
+  number = refl;
+  spare = refl;
+  spare_end = refl;
+  joined = refl;
+  counts = omega arith;
+  rises = omega arith;
+  down = λ faults knows. knows;
+})
+
+pub loaded_written : {D : Type 0} → (written : ℕ) (a b : SeatedPass D)
+    → Steps load_written written a b → KeepsPass (view_of a) (view_of b)
+loaded_written written a b load = written_pass written (view_of a) (view_of b) (view_is load)
+
 written_work : (written : ℕ) (old new : View) → new ≡ view_behind old load_written written none
     → new.mapping.stage ≡ old.mapping.stage → KeepsWork old new
 written_work written old new is stage = record {
-  pass = subst (λ (w : View). KeepsPass old w) (sym is) (record {
-    opening = refl;
-    live = refl;
-    number = refl;
-    spare = refl;
-    spare_end = refl;
-    joined = refl;
-    counts = omega arith;
-    rises = omega arith;
-    down = λ faults knows. knows;
-  });
+  pass = written_pass written old new is;
   place = ap (λ (w : View). w.reserving.place) is;
   working = ap (λ (w : View). w.working) is;
   stage = stage;
@@ -169,6 +180,15 @@ pub finds_since : (old now new : View) → KnowsNoFault old → KnowsNoFault now
 finds_since old now new before up (Disk faults) finds = absurd finds
 finds_since old now new before up (Down faults) finds =
     meets_since old now new faults (both_up old now before up) finds
+
+-- as a last look tells it
+pub found_since : {A : Type 0} → (old now new : View) → KnowsNoFault old → KnowsNoFault now
+    → KeepsPass old now → (r : Result A Fault)
+    → MatchResult r (λ _. KnowsNoFault new × FindsUp now new) (λ e. FindsDown now new e)
+    → MatchResult r (λ _. KnowsNoFault new × FindsUp old new) (λ e. FindsDown old new e)
+found_since old now new before up keeps (Ok done) ends =
+    (ends.0, up_behind old now new keeps ends.1)
+found_since old now new before up keeps (Err e) ends = finds_since old now new before up e ends
 
 -- ---- the position is looked at
 

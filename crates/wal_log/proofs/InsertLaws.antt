@@ -13,12 +13,12 @@ use Rattle.wal_log.specs.declared.fault.Fault.{Fault}
 use Rattle.wal_log.specs.declared.fault.Fault.TheVariants.{Disk, Down}
 use Rattle.wal_log.specs.Beginning.{IsBegunUnder, IsPlaceBegun}
 use Rattle.wal_log.specs.Downs.{KnowsNoFault, MeetsDown, MeetsFault}
-use Rattle.wal_log.specs.Inserting.{HasReserved, IsReceipt, IsStarted, RefusesInsert, insert_err_of_fault}
+use Rattle.wal_log.specs.Inserting.{HasReserved, InsertsOnly, IsReceipt, IsStarted, RefusesInsert, insert_err_of_fault}
 use Rattle.wal_log.specs.PassLogs.{log_of_pass}
 use Rattle.wal_log.specs.Standing.{KeepsPass}
-use Rattle.wal_log.specs.Whole.{CopiesWhole}
+use Rattle.wal_log.specs.Whole.{CopiesLast, CopiesWhole}
 use Rattle.wal_log.proofs.Keeping.{both_up, meets_since, up_before}
-use Rattle.wal_log.proofs.WholeLaws.{copied_since}
+use Rattle.wal_log.proofs.WholeLaws.{copied_since, last_since}
 
 -- a record began under locks, and then its copy was ended or given up
 module _ (setup : Setup) (body : Assembled) (locks : List ℕ) (old mid new : View) (start end : ℕ)
@@ -73,6 +73,15 @@ module _ (setup : Setup) (body : Assembled) (old mid new : View) (place : Begun)
         ∙ ends_there setup body locks old mid new place.start.0 place.end.0 place.placed began
         before keeps same;
     up = up;
+  }
+
+  pub receives_only : CopiesLast mid new began.entry → KnowsNoFault new → (receipt : Receipt)
+      → receipt.start ≡ place.start → receipt.end ≡ place.end
+      → InsertsOnly setup body old new receipt
+  unfolding receives
+  receives_only last up receipt from to = record {
+    told = receives last.copied up receipt from to;
+    last = last_since old mid new began.entry before last;
   }
 
   started : IsStarted setup body old new place.start.0

@@ -11,6 +11,7 @@ pub mod FlightLaws
 pub mod InHandLaws
 pub mod InsertLaws
 pub mod LandLaws
+pub mod LookLaws
 pub mod Keeping
 pub mod NextWord
 pub mod Opens
@@ -23,7 +24,9 @@ pub mod Trying
 pub mod Unlocking
 pub mod Watched
 pub mod WholeLaws
+mod WaitLaws
 mod WriteLaws
+pub mod WritingCalls
 mod Having
 mod SwitchLaws
 pub mod Seated

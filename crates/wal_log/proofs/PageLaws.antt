@@ -1,12 +1,18 @@
 -- A page is reached: its end is met, or pages are mapped one by one up to it.
-use Rattle.std.proofs.Common.{◌≡◌, ◌≢◌, ℕ, ◌+◌, ◌%◌, ◌<◌, ◌≤◌, max, refl, sym, ap, ◌∙◌, subst, arith}
+use Rattle.std.proofs.Common.{◌≡◌, ◌≢◌, ℕ, ◌+◌, ◌*◌, ◌/◌, ◌%◌, ◌<◌, ◌≤◌, max, refl, sym, ap, ◌∙◌, subst, arith}
 use Rattle.std.proofs.Math.Nat.{le-max_left}
+use mathlib.Core.Option.{none}
+use Rattle.atomic_table.proofs.Lists.{at_map}
 use Rattle.wal_core.specs.declared.setup.Setup.{Setup}
-use Rattle.wal_core.specs.Steps.{load_buffer_end}
-use Rattle.wal_core.specs.Views.{Taken, View}
+use Rattle.wal_core.specs.Locked.{HasTurn}
+use Rattle.wal_core.specs.Paged.{AtStage}
+use Rattle.wal_core.specs.Sound.{IsSound}
+use Rattle.wal_core.specs.Steps.{load_buffer_end, load_initialised_end, view_behind}
+use Rattle.wal_core.specs.Views.{Looked, Stage, Taken, View, mapper_of}
+use Rattle.wal_core.specs.Words.{initialised_word, word_of_ring, written_word}
 use Rattle.wal_rule.specs.declared.seated.SeatedPass.{SeatedPass}
 use Rattle.wal_rule.specs.SeatedPasses.{HasView, StaysSeated, view_of}
-use Rattle.wal_rule.specs.Stepping.{Meets}
+use Rattle.wal_rule.specs.Stepping.{Meets, Stands}
 use Rattle.word_ring.specs.Mapped.{IsOldPageUnwritten, LooksAt, MapsOn, looked_view, staged_view}
 use Rattle.word_ring.specs.Ring.{confirmed_view, end_of_page}
 use Rattle.wal_log.specs.Copying.{MapsPage, MeetsOldPage, MeetsOther, mapped_view}
@@ -33,6 +39,44 @@ maps_on a b c x y =
 
 -- ---- what was met before a page's end or the written address was
 
+-- the pages that are present are as many as the ring has, and those before them are written: so the
+-- page to be replaced is the one on which the written address lies
+module _ (v : View) (at : ℕ) (stands : Stands v) (looked : (v.mapping).stage ≡ Looked at) where
+  abbrev sound : IsSound stands.first v.opening stands.words stands.home stands.views
+  sound = stands.sound
+
+  stage_is : sound.stage ≡ Looked at
+  stage_is =
+      let m : ℕ × Stage = ((v.reserving).number, (v.mapping).stage) in
+      let own = ((sound.locks).mapping).each stands.id m
+      (at_map mapper_of stands.views stands.id v stands.here)
+      (subst HasTurn (sym looked) tt) in
+      own.1 ∙ looked
+
+  at_stage : AtStage ((v.opening).setup).ring_pages (sound.pages).low sound.reach
+      (initialised_word stands.words) (written_word stands.words)
+      (word_of_ring (v.opening).setup stands.words) (Looked at)
+  at_stage = subst (λ (s : Stage). AtStage ((v.opening).setup).ring_pages (sound.pages).low
+      sound.reach (initialised_word stands.words) (written_word stands.words)
+      (word_of_ring (v.opening).setup stands.words) s) stage_is (sound.pages).mapping
+
+  pub old_page_is : (told : ℕ) → told ≡ written_word stands.words
+      → IsOldPageUnwritten (v.opening).setup at told
+      → at + 8192 ≡ end_of_page (told / 8192) + ((v.opening).setup).ring_pages * 8192
+  old_page_is told is old =
+      let stage = at_stage in
+      let given_up = (sound.pages).given_up in
+      omega (arith, is, old, stage.0.0, stage.0.1, stage.1, given_up)
+
+replaced_page : (v : View) (setup : Setup) (at told : ℕ) → (v.opening).setup ≡ setup
+    → LooksAt (staged_view Taken v) at told → IsOldPageUnwritten setup at told
+    → at + 8192 ≡ end_of_page (told / 8192) + setup.ring_pages * 8192
+replaced_page v setup at told own looks old =
+    let met = looks.written_met in
+    subst (λ (s : Setup). at + 8192 ≡ end_of_page (told / 8192) + s.ring_pages * 8192) own
+    (old_page_is (view_behind (staged_view Taken v) load_initialised_end at none) at met.before
+    refl told met.met_is (subst (λ (s : Setup). IsOldPageUnwritten s at told) (sym own) old))
+
 module _ (v w : View) (confirmed written : ℕ) (is : w ≡ mapped_view confirmed written v) where
   looked_back : mapped_view v.mapping.confirmed v.writing.written w ≡ v
   looked_back = ap (mapped_view v.mapping.confirmed v.writing.written) is
@@ -48,15 +92,17 @@ module _ (v w : View) (confirmed written : ℕ) (is : w ≡ mapped_view confirme
     other = other;
   }
 
-  pub old_met : (setup : Setup) (page at told : ℕ) → LooksAt (staged_view Taken v) at told
-      → at < end_of_page page → IsOldPageUnwritten setup at told → MeetsOldPage setup page told w
-  old_met setup page at told looks below old = record {
+  pub old_met : (setup : Setup) (page at told : ℕ) → (v.opening).setup ≡ setup
+      → LooksAt (staged_view Taken v) at told → at < end_of_page page
+      → IsOldPageUnwritten setup at told → MeetsOldPage setup page told w
+  old_met setup page at told own looks below old = record {
     confirmed = v.mapping.confirmed;
     written = v.writing.written;
     at = at;
     looks = subst (λ (x : View). LooksAt (staged_view Taken x) at told) (sym looked_back) looks;
     below = below;
     old = old;
+    replaced = replaced_page v setup at told own looks old;
   }
 
 -- ---- steps

@@ -13,7 +13,7 @@ use Rattle.wal_core.specs.Words.{end_form}
 use Rattle.wal_rule.specs.declared.seated.SeatedPass.{SeatedPass}
 use Rattle.wal_rule.specs.Downs.{KnowsDown}
 use Rattle.wal_rule.specs.SeatedPasses.{HasView, StandsAtRest, StaysSeated, Steps, setup_of, view_of}
-use Rattle.insert_locks.specs.Holding.{MayTell, lock_run}
+use Rattle.insert_locks.specs.Holding.{HasTold, MayTell, lock_run}
 use Rattle.insert_locks.specs.Taking.{with_lock}
 use Rattle.insert_locks.specs.Watching.{with_sight}
 use Rattle.insert_locks.proofs.Runs.{run_locks, run_more}
@@ -35,6 +35,7 @@ use Rattle.wal_log.specs.PassLogs.{PassLog, log_of_pass}
 use Rattle.wal_core.specs.PassLogs.{log_with_stay}
 use Rattle.wal_log.specs.Standing.{ComesToRest, HasLocks, HoldsLocks, KeepsPass}
 use Rattle.wal_log.specs.Switching.{AnswersPlace, AnswersSwitch, FindsNoRoom, FindsSegmentStart, HasSwitched, HoldsOn, IsSwitchBegun, IsSwitchDone, IsSwitchEntry, IsSwitchStarted, RefusesSwitch, TellsDown, TellsNoPlace, switch_err_of_fault}
+use Rattle.wal_log.specs.Waiting.{IsSeenTold}
 use Rattle.wal_log.specs.Whole.{CopiesWhole}
 use Rattle.wal_log.proofs.BeginLaws.{begun_since, begun_under, full_in_vain, full_rests, full_since, holds_in_vain, keeps_in_vain, loaded_keeps, loaded_log, place_keeps, reserved_since, seen_in_vain, stopped_holds, stopped_keeps, stopped_up}
 use Rattle.wal_log.proofs.InsertLaws.{ends_there, met_since, reserved_still}
@@ -212,6 +213,26 @@ module _ {D : Type 0} where
             (sym (ap (λ (w : Working). w.flight) holds)) (omega (arith, own)),
         whole,
       )
+
+  -- what was told under them stays told behind a look at the down value
+  pub looked_told : (old new : SeatedPass D) (met : ℕ) → Steps load_down met old new
+      → (locks : List ℕ) → IsSeenTold locks (view_of old) → IsSeenTold locks (view_of new)
+  looked_told old new met load locks told = subst (λ (v : View). IsSeenTold locks v)
+      (sym (view_is load ∙ down_loaded met (view_of old)))
+      (record { told = told.told; each = told.each })
+
+  pub seen_told : (old p new : SeatedPass D) (locks : List ℕ) (upto : ℕ)
+      → HasView (with_sight ((view_of p).reserving).seen (view_of old)) old p
+      → upto ≡ end_form (setup_of old) ((view_of p).reserving).seen → HasTold locks upto p new
+      → IsSeenTold locks (view_of new)
+  seen_told old p new locks upto sees is told =
+      let v : View = view_of p in
+      let same : (v.opening).setup ≡ setup_of old =
+      own_setup p ∙ same_setup old p sees.same_table in
+      subst (λ (w : View). IsSeenTold locks w) (sym (view_is told.view)) (record {
+        told = is ∙ ap (λ (s : Setup). end_form s (v.reserving).seen) (sym same);
+        each = told.each;
+      })
 
   -- all locks are held, with nothing in hand
   pub holds_all : (old new : SeatedPass D) → StandsAtRest old → HoldsOn every_lock old new

@@ -6,12 +6,13 @@ use Rattle.wal_page.specs.EntryWords.{words_owned}
 use Rattle.wal_page.specs.Order.{Entry}
 use Rattle.wal_page.specs.Placed.{PlacedState}
 use Rattle.wal_core.specs.declared.setup.Setup.{Setup}
+use Rattle.wal_core.specs.Moves.{without_work}
 use Rattle.wal_core.specs.Views.{Copy, Copying, View, Working}
 use Rattle.machine_laws.proofs.EntryLaws.{entries_are_whole_or_in_flight}
 use Rattle.machine_laws.proofs.ShownLaws.{entries_are_copied}
 use Rattle.wal_rule.specs.Stepping.{Stands}
 use Rattle.wal_log.specs.Standing.{CopiesUnder, KeepsPass, entry_in_flight, entry_of_flight}
-use Rattle.wal_log.specs.Whole.{CopiesWhole, StandsWhole}
+use Rattle.wal_log.specs.Whole.{CopiesLast, CopiesWhole, StandsWhole}
 use Rattle.wal_log.proofs.Keeping.{further_pass}
 
 -- in the state in which all words of its entry are copied, each is the log's
@@ -54,6 +55,15 @@ module _ (setup : Setup) (locks : List ℕ) (placed : PlacedState) (old v new : 
             (stands_whole v stood c.copy flies all);
       }
 
+  -- and then the locks were given back
+  pub copies_last : (e : Entry) → entry_in_flight v ≡ some e → KeepsPass old v → KeepsPass v new
+      → new ≡ without_work v → CopiesLast old new e
+  unfolding copies_whole
+  copies_last e is before behind last = record {
+    copied = copies_whole e is before behind;
+    last = last;
+  }
+
 -- it was so also before further steps of the pass
 pub copied_behind : (old mid new : View) (e : Entry) → KeepsPass mid new → CopiesWhole old mid e
     → CopiesWhole old new e
@@ -80,4 +90,12 @@ copied_since old mid new e before was = record {
   entry_is = was.entry_is;
   none_left = was.none_left;
   whole = was.whole;
+}
+
+pub last_since : (old mid new : View) (e : Entry) → KeepsPass old mid → CopiesLast mid new e
+    → CopiesLast old new e
+unfolding copied_since
+last_since old mid new e before was = record {
+  copied = copied_since old mid new e before was.copied;
+  last = was.last;
 }

@@ -2,6 +2,9 @@
 use Rattle.std.specs.Prelude.{◌≡◌, ◌⊎◌, ℕ, ◌*◌, ◌/◌, ◌<◌, ◌≤◌, All, Result, Ok, Err}
 use mathlib.Core.Option.{none}
 use Rattle.wal_types.specs.declared.answers.Hard.{Hard}
+use Rattle.wal_types.specs.declared.answers.Receipt.{Receipt}
+use Rattle.record_spelling.specs.Spelling.{Assembled}
+use Rattle.wal_core.specs.declared.setup.Setup.{Setup}
 use Rattle.wal_core.specs.Moves.{with_async}
 use Rattle.wal_core.specs.Steps.{load_async, load_down, load_flushed, view_behind}
 use Rattle.wal_core.specs.Words.{end_form}
@@ -16,6 +19,7 @@ use Rattle.wal_log.specs.declared.flushing.FlushErr.{FlushErr}
 use Rattle.wal_log.specs.declared.flushing.FlushErr.TheVariants.{Unreserved, Disk, Down}
 use Rattle.wal_log.specs.Downs.{KnowsNoFault, MeetsDown}
 use Rattle.wal_log.specs.Flushing.{FailsItsFlush, IsToldHard}
+use Rattle.wal_log.specs.Inserting.{InsertsOnly}
 use Rattle.wal_log.specs.PassLogs.{log_of_pass}
 
 -- ---- answered ahead
@@ -24,6 +28,14 @@ use Rattle.wal_log.specs.PassLogs.{log_of_pass}
 pub record RaisesAsync {D : Type 0} (old new : SeatedPass D) : Type 0 where
   pub view : HasView (with_async (view_of new).async_met (view_of old)) old new
   pub rises : (view_of old).async_met ≤ (view_of new).async_met
+
+-- a record was inserted, copying it was the last that the pass did before it raised the async
+-- address, and behind that it did nothing
+pub record InsertsAndRaises (setup : Setup) (body : Assembled) (old new : View) (receipt : Receipt)
+    : Type 0 where
+  pub inserted : View
+  pub inserts : InsertsOnly setup body old inserted receipt
+  pub raised : new ≡ with_async new.async_met inserted
 
 -- ---- flushed behind
 

@@ -14,7 +14,8 @@ use Rattle.wal_log.specs.declared.inserting.InsertErr.TheVariants.{Full, Disk, D
 use Rattle.byte_position.specs.Position.{position_of}
 use Rattle.wal_log.specs.Downs.{KnowsNoFault}
 use Rattle.wal_log.specs.Hands.{IsLatestPromise}
-use Rattle.wal_log.specs.Inserting.{IsOwnEntry, RefusesInsert}
+use Rattle.wal_log.specs.Flushing.{IsToldHard}
+use Rattle.wal_log.specs.Inserting.{InsertsOnly, IsOwnEntry, RefusesInsert}
 use Rattle.wal_log.specs.Moments.{HasMoment, HaveReached}
 use Rattle.wal_log.specs.PassLogs.{log_of_pass, log_with_entry, log_with_promise}
 use Rattle.wal_log.specs.Whole.{CopiesWhole}
@@ -39,6 +40,16 @@ pub record IsSealed (setup : Setup) (body : Assembled) (old new : View) (sealed 
   pub start_is : sealed.start.0 ≡ start_of setup.segment_size entry
   pub end_is : sealed.end.0 ≡ finish_of setup.segment_size entry
   pub up : KnowsNoFault new
+
+-- the record was inserted, copying it was the last that the pass did before it flushed, and what it
+-- was told is the flush's
+pub record InsertsAndFlushes (setup : Setup) (body : Assembled) (old new : View) (sealed : Sealed)
+    : Type 0 where
+  pub inserted : View
+  pub inserts : InsertsOnly setup body old inserted
+      (record { start = sealed.start; end = sealed.end })
+  pub upto : ℕ
+  pub flushes : IsToldHard sealed.end.0 upto sealed.moment inserted new
 
 -- why a commit is refused
 abbrev pub RefusesCommit : Setup → Assembled → View → View → Cause → Option Lsn → Type 0

@@ -61,8 +61,9 @@ pub record MeetsMapper (turn : ℕ) (v : View) : Type 0 where
   pub taken : turn ≢ 0
 
 -- with the turn to map had, the initialised end and the written address were met, and the page that
--- begins at that end, which lies before this one's, has a buffer whose page ends above the other.
--- They were met by this view, but for the highest end met and the written address loaded
+-- begins at that end, which lies before this one's, has a buffer whose page ends above the other:
+-- the written address lies on that page. They were met by this view, but for the highest end met
+-- and the written address loaded
 pub record MeetsOldPage (setup : Setup) (page told : ℕ) (v : View) : Type 0 where
   pub confirmed : ℕ
   pub written : ℕ
@@ -70,6 +71,7 @@ pub record MeetsOldPage (setup : Setup) (page told : ℕ) (v : View) : Type 0 wh
   pub looks : LooksAt (staged_view Taken (mapped_view confirmed written v)) at told
   pub below : at < end_of_page page
   pub old : IsOldPageUnwritten setup at told
+  pub replaced : at + 8192 ≡ end_of_page (told / 8192) + setup.ring_pages * 8192
 
 -- why a page was not mapped: the turn was taken, or the page to be replaced is not written
 abbrev pub IsInTheWay : Setup → (page turn written : ℕ) → View → Type 0

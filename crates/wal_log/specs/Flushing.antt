@@ -3,7 +3,7 @@ use Rattle.std.specs.Prelude.{◌≡◌, ◌⊎◌, ℕ, ◌<◌, ◌≤◌, Res
 use mathlib.Core.Option.{none}
 use Rattle.byte_position.specs.Position.{position_of}
 use Rattle.wal_types.specs.declared.answers.Hard.{Hard}
-use Rattle.wal_core.specs.Steps.{load_flushed, load_lock, load_moment, view_behind}
+use Rattle.wal_core.specs.Steps.{load_down, load_flushed, load_lock, load_moment, view_behind}
 use Rattle.wal_core.specs.Words.{end_form}
 use Rattle.wal_rule.specs.Stepping.{Meets}
 use Rattle.insert_locks.specs.Watching.{HoldsBack, SeesPosition, with_sight, with_watching}
@@ -137,3 +137,57 @@ abbrev pub AnswersFlush : ℕ → View → Result Hard FlushErr → View → Typ
 AnswersFlush asked old (Ok hard) new = HasReached asked hard old new
 AnswersFlush asked old (Err e) new =
     (log_of_pass new ≡ log_of_pass old) × TellsFlushErr asked old new e
+
+-- ---- where nothing is to be done
+
+-- a pass with this view met these as flushed, and behind it as the moment, and did nothing else: it
+-- visited no lock, took no turn and called no device
+pub record LoadsHard (hard : Hard) (old new : View) : Type 0 where
+  pub flushed_met : Meets old load_flushed hard.upto.0
+  pub moment_met : Meets (view_behind old load_flushed hard.upto.0 none) load_moment hard.moment
+  pub new_is : new
+      ≡ view_behind (view_behind old load_flushed hard.upto.0 none) load_moment hard.moment none
+
+-- a pass with this view met a flushed address below the one asked for
+pub record MeetsUnflushed (asked : ℕ) (v : View) : Type 0 where
+  pub flushed : ℕ
+  pub met : Meets v load_flushed flushed
+  pub below : flushed < asked
+
+-- the view behind a look at the down value, which was this one, and at the position, by which it
+-- sees so much reserved: all else is as it was
+abbrev pub view_looked : (down seen : ℕ) → View → View
+view_looked down seen v = with_sight seen (view_behind v load_down down none)
+
+-- the pass looked at these two, found the disk up, and then met a flushed address below the one
+-- asked for: it was the first that it met
+abbrev pub FindsUnflushed : (asked : ℕ) → View → Type 0
+FindsUnflushed asked old = (seen : ℕ) × MeetsUnflushed asked (view_looked 0 seen old)
+
+-- the pass looked at these two, and at nothing else
+abbrev pub HasOnlyLooked : (down : ℕ) → View → View → Type 0
+HasOnlyLooked down old new = (seen : ℕ) × (new ≡ view_looked down seen old)
+
+-- a try was over at once: the flushed address that it met, with the moment, is told; or the down
+-- value and the position alone were loaded. A lock or a turn that was in its way is no such answer
+abbrev pub TryEndsAtOnce : View → Result Hard TryFlushErr → View → Type 0
+TryEndsAtOnce old (Ok hard) new = (seen : ℕ) × LoadsHard hard (view_looked 0 seen old) new
+TryEndsAtOnce old (Err (tries.Fault (faults.Disk n))) new = ⊥
+TryEndsAtOnce old (Err (tries.Fault (faults.Down n))) new = HasOnlyLooked n old new
+TryEndsAtOnce old (Err (tries.Unreserved end)) new = HasOnlyLooked 0 old new
+TryEndsAtOnce old (Err (tries.Behind lock word)) new = ⊥
+TryEndsAtOnce old (Err (tries.Turn word)) new = ⊥
+
+abbrev pub FlushEndsAtOnce : View → Result Hard FlushErr → View → Type 0
+FlushEndsAtOnce old (Ok hard) new = (seen : ℕ) × LoadsHard hard (view_looked 0 seen old) new
+FlushEndsAtOnce old (Err (Disk n)) new = ⊥
+FlushEndsAtOnce old (Err (Down n)) new = HasOnlyLooked n old new
+FlushEndsAtOnce old (Err (Unreserved end)) new = HasOnlyLooked 0 old new
+
+-- more is done only where the flushed address that was met first is below the one asked for
+abbrev pub TriesOnlyUnflushed : ℕ → View → Result Hard TryFlushErr → View → Type 0
+TriesOnlyUnflushed asked old answer new = TryEndsAtOnce old answer new ⊎ FindsUnflushed asked old
+
+abbrev pub FlushesOnlyUnflushed : ℕ → View → Result Hard FlushErr → View → Type 0
+FlushesOnlyUnflushed asked old answer new = FlushEndsAtOnce old answer new
+    ⊎ FindsUnflushed asked old

@@ -9,13 +9,15 @@ use Rattle.wal_core.specs.declared.setup.Setup.{Setup}
 use Rattle.wal_core.specs.Moves.{entry_reserved}
 use Rattle.wal_core.specs.Words.{log_limit}
 use Rattle.wal_core.specs.Views.{View}
+use Rattle.wal_rule.specs.declared.company.Company.{Company}
+use Rattle.wal_rule.specs.Company.{HasNoted}
 use Rattle.wal_log.specs.declared.fault.Fault.{Fault}
 use Rattle.wal_log.specs.declared.fault.Fault.TheVariants as faults
 use Rattle.wal_log.specs.declared.inserting.InsertErr.{InsertErr}
 use Rattle.wal_log.specs.declared.inserting.InsertErr.TheVariants.{Full, Disk, Down}
 use Rattle.wal_log.specs.Downs.{KnowsNoFault, MeetsDown, SetsDownItself}
 use Rattle.wal_log.specs.PassLogs.{log_of_pass, log_with_entry, log_with_full}
-use Rattle.wal_log.specs.Whole.{CopiesWhole}
+use Rattle.wal_log.specs.Whole.{CopiesLast, CopiesWhole}
 
 -- an entry is one of the pass that the body's record makes, behind all that the pass had seen, and
 -- within the log
@@ -58,6 +60,12 @@ pub record IsReceipt (setup : Setup) (body : Assembled) (old new : View) (receip
   pub end_is : receipt.end.0 ≡ finish_of setup.segment_size entry
   pub up : KnowsNoFault new
 
+-- and copying it was the last that the pass did in the call, but for giving its lock back
+pub record InsertsOnly (setup : Setup) (body : Assembled) (old new : View) (receipt : Receipt)
+    : Type 0 where
+  pub told : IsReceipt setup body old new receipt
+  pub last : CopiesLast old new told.entry
+
 -- the record was reserved, with this start
 pub record IsStarted (setup : Setup) (body : Assembled) (old new : View) (start : ℕ) : Type 0
   where
@@ -86,3 +94,8 @@ abbrev pub AnswersInsert : Setup → Assembled → View → Result Receipt Inser
     → Type 0
 AnswersInsert setup body old (Ok receipt) new = IsReceipt setup body old new receipt
 AnswersInsert setup body old (Err e) new = RefusesInsert setup body old new e
+
+-- a pass notes where its record was inserted, and nothing of one that was refused
+abbrev pub NotesPlace : Result Receipt InsertErr → (old new : Company) → Type 0
+NotesPlace (Ok receipt) old new = HasNoted receipt.start.0 receipt.end old new
+NotesPlace (Err e) old new = new ≡ old

@@ -14,6 +14,7 @@ pub mod Switching
 pub mod Behind
 pub mod Beginning
 pub mod Copying
+pub mod Waiting
 pub mod Room
 pub mod Committing
 pub mod Flights

@@ -1,7 +1,8 @@
--- An entry of which each word was copied.
+-- An entry of which each word was copied, and a pass that did nothing behind that.
 use Rattle.std.specs.Prelude.{◌≡◌, Contains}
 use Rattle.wal_page.specs.EntryWords.{words_owned}
 use Rattle.wal_page.specs.Order.{Entry}
+use Rattle.wal_core.specs.Moves.{without_work}
 use Rattle.wal_core.specs.Views.{Copy, Copying, View}
 use Rattle.machine_laws.specs.SoundLocks.{IsCopiedWhole}
 use Rattle.wal_rule.specs.Stepping.{Stands}
@@ -25,3 +26,10 @@ pub record CopiesWhole (old new : View) (e : Entry) : Type 0 where
   pub entry_is : copy.entry ≡ e
   pub none_left : copy.copied ≡ words_owned ((view.opening).setup).segment_size e
   pub whole : ∥ StandsWhole view e ∥₁
+
+-- and that was the last that the pass did in the call: the view with which each word was copied is
+-- the one behind it, but that the locks were given back. So behind the copy it looked at no page,
+-- watched nobody, and took no turn to write
+pub record CopiesLast (old new : View) (e : Entry) : Type 0 where
+  pub copied : CopiesWhole old new e
+  pub last : new ≡ without_work copied.view

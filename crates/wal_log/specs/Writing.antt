@@ -1,12 +1,14 @@
 -- What was written early, why a page was not, and what storing leaves.
-use Rattle.std.specs.Prelude.{◌≡◌, ◌⊎◌, ℕ, ◌≤◌, Option}
+use Rattle.std.specs.Prelude.{◌≡◌, ◌⊎◌, ℕ, ◌≤◌, List, Option, Result, nat_lt, if◌then◌else◌}
 use Rattle.segment_disk.specs.Tape.{Tape}
+use Rattle.flush_core.specs.Calls.{waiting_behind}
 use Rattle.wal_core.specs.Moves.{with_hold}
-use Rattle.wal_core.specs.Views.{Idle, Out, View}
+use Rattle.wal_core.specs.Views.{Idle, Out, Plain, View}
 use Rattle.wal_rule.specs.declared.seated.SeatedPass.{SeatedPass}
 use Rattle.wal_rule.specs.SeatedPasses.{view_of}
 use Rattle.insert_locks.specs.Watching.{HasFinished}
 use Rattle.page_writing.specs.InHand.{lent_in, writer_in}
+use Rattle.page_writing.specs.MadeCalls.{EndCalls, HasBrokenOff, HasCalled, calls_to_flush, calls_to_write}
 use Rattle.wal_log.specs.declared.fault.Fault.TheVariants as faults
 use Rattle.wal_log.specs.declared.turns.TurnErr.{TurnErr}
 use Rattle.wal_log.specs.declared.turns.TurnErr.TheVariants as turns
@@ -33,6 +35,25 @@ TellsWriteErr upto old new (Turn turn) = MeetsWriteTurn turn new × KnowsNoFault
 abbrev pub IsHeldUp : ℕ → View → Type 0
 IsHeldUp upto v = ((turn : ℕ) × MeetsWriteTurn turn v)
     ⊎ ((lock : ℕ) × (word : ℕ) × MeetsHeldLock upto lock word v)
+
+-- a writer has written all up to a known address by the calls that this takes, each once and no
+-- other; pages have some bytes. Then this waits for a sync
+pub record WritesAll (size known : ℕ) (old new : Plain) : Type 0 where
+  pub bytes : ℕ → List ℕ
+  pub called : HasCalled (calls_to_write size known bytes old) old new
+  pub waiting : new.waiting
+      ≡ (if nat_lt old.written known then waiting_behind size known else old.waiting)
+
+-- these calls broke off
+pub record BreaksWriting (size known : ℕ) (old new : Plain) : Type 0 where
+  pub bytes : ℕ → List ℕ
+  pub broken : HasBrokenOff (calls_to_write size known bytes old) old new
+
+-- a writer has written all up to a known address and synced what waited then, by the calls that
+-- this takes, each once and no other; or they broke off. Pages have some bytes
+abbrev pub FlushesAll : {T E : Type 0} → (size known : ℕ) → Result T E → (old new : Plain) → Type 0
+FlushesAll size known result old new = (bytes : ℕ → List ℕ)
+    × EndCalls (calls_to_flush size known bytes old) result old new
 
 -- all below a bound is written, and stored as written. The bound is what a watch of the locks told,
 -- which the pass began with the view `asked`: an address, or more, or the end of what was reserved.

@@ -7,11 +7,12 @@
 ghost use Rattle.std.specs.Prelude.{◌≡◌, ◌%◌, ◌≤◌, false, Err, IfOk, None};
 ghost use Rattle.record_spelling.specs.Spelling.{is_assembled_switch};
 ghost use Rattle.wal_core.specs.Words.{end_form};
+ghost use Rattle.wal_rule.specs.Company.{IsAlone};
 ghost use Rattle.wal_rule.specs.Downs.{KnowsDown};
 ghost use Rattle.wal_rule.specs.Passes.{view_of_pass};
 ghost use Rattle.wal_rule.specs.SeatedPasses.{StandsAtRest, setup_of, view_of};
-ghost use Rattle.wal_log.specs.Behind.{RaisesAsync};
-ghost use Rattle.wal_log.specs.Inserting.{AnswersInsert};
+ghost use Rattle.wal_log.specs.Behind.{InsertsAndRaises, RaisesAsync};
+ghost use Rattle.wal_log.specs.Inserting.{AnswersInsert, NotesPlace};
 ghost use Rattle.wal_log.specs.Logs.{IsPassOfLog, setup_of_log};
 ghost use Rattle.wal_log.specs.Standing.{ComesToRest, KeepsPass};
 ghost use Rattle.wal_log.specs.declared.inserting.InsertErr.TheVariants.{Down};
@@ -22,7 +23,7 @@ use crossbeam_utils::Backoff;
 use record_spelling::Body;
 use segment_disk::Disk;
 use std::sync::Wait;
-use wal_rule::{Pass, SeatedPass};
+use wal_rule::{Company, Pass, SeatedPass};
 use wal_types::Receipt;
 
 impl<D: Disk> Wal<D> {
@@ -45,6 +46,12 @@ impl<D: Disk> Wal<D> {
         // flushes behind reaches it.
         ensures counts { IfOk result (λ receipt.
             receipt.end.0 ≤ (view_of_pass pass.new).async_met) }
+        // A pass that is alone does nothing behind the copy, but that it gives its lock back and
+        // raises that address. And it notes its place as by an insert.
+        ensures alone { IsAlone pass.old.company → IfOk result (λ receipt.
+            InsertsAndRaises (setup_of_log self.now) body.now (view_of_pass pass.old)
+            (view_of_pass pass.new) receipt) }
+        ensures company { NotesPlace result pass.old.company pass.new.company }
         // A pass that knows of a failed disk is told of it, and reserves nothing.
         ensures down_again { (faults : _) → KnowsDown faults (view_of_pass pass.old)
             → result ≡ Err (Down faults None) }
@@ -53,7 +60,7 @@ impl<D: Disk> Wal<D> {
         ensures pass { IsPassOfLog self.now pass.new }
     {
         let mut seated = pass.seat(&self.table);
-        let answer = commit_async_on(rt, &mut seated, body);
+        let answer = commit_async_on(rt, &mut seated, &pass.company, body);
         note_place(&mut pass.company, &answer);
         pass.put_back(seated);
         answer
@@ -65,6 +72,7 @@ impl<D: Disk> Wal<D> {
 fn commit_async_on<'p, D: Disk, R: Wait>(
     rt: &R,
     seated: &mut SeatedPass<'p, D>,
+    company: &Company,
     body: &Body,
 ) -> Result<Receipt, InsertErr>
     requires rests { StandsAtRest seated.old }
@@ -72,11 +80,14 @@ fn commit_async_on<'p, D: Disk, R: Wait>(
     ensures inserts { AnswersInsert (setup_of seated.old) body.now (view_of seated.old) result
         (view_of seated.new) }
     ensures counts { IfOk result (λ receipt. receipt.end.0 ≤ (view_of seated.new).async_met) }
+    ensures alone { IsAlone company.now → IfOk result (λ receipt.
+        InsertsAndRaises (setup_of seated.old) body.now (view_of seated.old) (view_of seated.new)
+        receipt) }
     ensures down_again { (faults : _) → KnowsDown faults (view_of seated.old)
         → result ≡ Err (Down faults None) }
     ensures rests { ComesToRest seated.old seated.new }
 {
-    let receipt = insert_on(rt, seated, body)?;
+    let receipt = insert_on(rt, seated, company, body)?;
     raise(rt, seated, receipt.end.0);
     Ok(receipt)
 }

@@ -2,12 +2,13 @@
 // XLogFlush): an insert, then a flush to the record's end. Nothing is held between the two. Others
 // may flush in between, and make this record durable too: then the flush tells what it finds as
 // flushed. If the flush is refused the record keeps its place, and nothing is promised of it.
-ghost use Rattle.std.specs.Prelude.{◌≡◌, false};
+ghost use Rattle.std.specs.Prelude.{◌≡◌, false, IfOk};
 ghost use Rattle.record_spelling.specs.Spelling.{is_assembled_switch};
+ghost use Rattle.wal_rule.specs.Company.{HasNoted, IsAlone};
 ghost use Rattle.wal_rule.specs.Downs.{KnowsDown};
 ghost use Rattle.wal_rule.specs.Passes.{view_of_pass};
 ghost use Rattle.wal_rule.specs.SeatedPasses.{StandsAtRest, setup_of, view_of};
-ghost use Rattle.wal_log.specs.Committing.{AnswersCommit, commit_known_down, refused_of_insert};
+ghost use Rattle.wal_log.specs.Committing.{AnswersCommit, InsertsAndFlushes, commit_known_down, refused_of_insert};
 ghost use Rattle.wal_log.specs.Logs.{IsPassOfLog, setup_of_log};
 ghost use Rattle.wal_log.specs.Standing.{ComesToRest, KeepsPass};
 
@@ -52,6 +53,13 @@ impl<D: Disk> Wal<D> {
         // places and the moment that are told. Or it tells why not.
         ensures commits { AnswersCommit (setup_of_log self.now) body.now
             (view_of_pass pass.old) result (view_of_pass pass.new) }
+        // A pass that is alone does nothing between the copy and the flush, but that it gives its
+        // lock back. And it notes its place as by an insert.
+        ensures alone { IsAlone pass.old.company → IfOk result (λ sealed.
+            InsertsAndFlushes (setup_of_log self.now) body.now (view_of_pass pass.old)
+            (view_of_pass pass.new) sealed) }
+        ensures company { IfOk result (λ sealed.
+            HasNoted sealed.start.0 sealed.end pass.old.company pass.new.company) }
         // A pass that knows of a failed disk is told of it, and reserves nothing.
         ensures down_again { (faults : _) → KnowsDown faults (view_of_pass pass.old)
             → result ≡ commit_known_down faults }
@@ -67,7 +75,8 @@ impl<D: Disk> Wal<D> {
 }
 
 // The commit of a pass, which is about nothing before it and behind it. It leaves of the pass what
-// `Wal::commit` says. In company the flush lets others come first (PostgreSQL's commit_siblings).
+// `Wal::commit` says. Where others inserted lately the flush lets them come first (PostgreSQL's
+// commit_siblings).
 fn commit_on<'p, D: Disk, R: Wait>(
     rt: &R,
     seated: &mut SeatedPass<'p, D>,
@@ -78,11 +87,16 @@ fn commit_on<'p, D: Disk, R: Wait>(
     requires inserted { is_assembled_switch body.now ≡ false }
     ensures commits { AnswersCommit (setup_of seated.old) body.now (view_of seated.old) result
         (view_of seated.new) }
+    ensures alone { IsAlone company.old → IfOk result (λ sealed.
+        InsertsAndFlushes (setup_of seated.old) body.now (view_of seated.old) (view_of seated.new)
+        sealed) }
+    ensures company { IfOk result (λ sealed.
+        HasNoted sealed.start.0 sealed.end company.old company.new) }
     ensures down_again { (faults : _) → KnowsDown faults (view_of seated.old)
         → result ≡ commit_known_down faults }
     ensures rests { ComesToRest seated.old seated.new }
 {
-    let Receipt { start, end } = insert_on(rt, seated, body)?;
+    let Receipt { start, end } = insert_on(rt, seated, company, body)?;
     company.note(start, end);
     match flush_on(rt, seated, end, company.is_there()) {
         Ok(hard) => Ok(Sealed {

@@ -7,9 +7,9 @@
 // which PostgreSQL does before it maps any page (WALInsertLockUpdateInsertingAt): a lock that tells
 // nothing holds every watcher back, also one that would write that page. An insert goes on from
 // there: it loads down before it pauses.
-ghost use Rattle.std.specs.Prelude.{◌≡◌, ◌<◌, ◌≤◌, ◌^◌, MatchResult};
+ghost use Rattle.std.specs.Prelude.{◌≡◌, ◌/◌, ◌<◌, ◌≤◌, ◌^◌, MatchBool, MatchResult};
 ghost use Rattle.insert_locks.specs.Holding.{locks_of};
-ghost use Rattle.wal_core.specs.Views.{Away};
+ghost use Rattle.wal_core.specs.Views.{Away, View};
 ghost use Rattle.wal_page.specs.Placed.{placed_end};
 ghost use Rattle.wal_rule.specs.SeatedPasses.{setup_of, view_of};
 ghost use Rattle.word_ring.specs.Ring.{end_of_page};
@@ -17,6 +17,7 @@ ghost use Rattle.wal_log.specs.Copying.{CopiesFront, CopiesSome, CopyGoesOn, Map
 ghost use Rattle.wal_log.specs.Downs.{FindsDown, KnowsNoFault, MeetsFault};
 ghost use Rattle.wal_log.specs.PassLogs.{log_of_pass};
 ghost use Rattle.wal_log.specs.Standing.{CopiesAlone, StaysAtWork};
+ghost use Rattle.wal_log.specs.Waiting.{CopiesOrWaits, FindsUp, WaitsForPage};
 
 use crate::fault::Fault;
 use crate::writing::{WriteErr, tell_progress, write_early};
@@ -143,17 +144,48 @@ fn copy_rest<'p, 'a, D: Disk, R: Wait>(
 {
     let backoff = Backoff::new();
     for _ in rt.forever() {
-        let copied = copy_front(seated, held, end, placed, u32::MAX);
-        match copied.stop {
-            CopyStop::Whole => return Ok(()),
-            CopyStop::Asked => backoff.reset(),
-            CopyStop::Absent(absent) => {
-                reset_behind(&backoff, copied.k);
-                wait_for_page(seated, held, placed, absent, &backoff)?;
-            }
+        if copy_or_wait(seated, held, end, placed, &backoff)? {
+            return Ok(());
         }
     }
     unreachable!()
+}
+
+// Copies words as long as their pages are in their buffers, or can be mapped. Where words are left
+// it waits once for the page of the next one. It tells whether none is left.
+fn copy_or_wait<'p, 'a, D: Disk>(
+    seated: &mut SeatedPass<'p, D>,
+    held: Held,
+    end: Lsn,
+    placed: &mut Placed<'a>,
+    backoff: &Backoff,
+) -> Result<bool, Fault>
+    requires copies { CopiesAlone (locks_of held) placed.old seated.old }
+    requires end { end.0 ≡ placed_end placed.old }
+    requires up { KnowsNoFault (view_of seated.old) }
+    ensures copies { CopiesAlone (locks_of held) placed.new seated.new }
+    // Where it waits it has looked whether the disk has failed, or has made room.
+    ensures ends { MatchResult result
+        (λ whole. KnowsNoFault (view_of seated.new)
+        × MatchBool whole (placed.new.next ≡ placed_end placed.old)
+        (CopiesOrWaits D.tape D.moment D.faults (setup_of seated.old) placed.old placed.new
+        (view_of seated.old) seated.new))
+        (λ e. MeetsFault (view_of seated.old) (view_of seated.new) e) }
+    ensures copies_on { CopyGoesOn placed.old placed.new seated.old seated.new }
+{
+    let copied = copy_front(seated, held, end, placed, u32::MAX);
+    match copied.stop {
+        CopyStop::Whole => Ok(true),
+        CopyStop::Asked => {
+            backoff.reset();
+            Ok(false)
+        }
+        CopyStop::Absent(absent) => {
+            reset_behind(backoff, copied.k);
+            wait_for_page(seated, held, placed, absent, backoff)?;
+            Ok(false)
+        }
+    }
 }
 
 // Behind words that were copied the next pause is a short one.
@@ -288,10 +320,14 @@ fn wait_for_page<'p, 'a, D: Disk>(
 ) -> Result<(), Fault>
     requires copies { CopiesAlone (locks_of held) placed.now seated.old }
     requires up { KnowsNoFault (view_of seated.old) }
-    requires low { absent.written < 2 ^ 60 }
+    // The page of the next word was met absent.
+    requires absent { (met : View)
+        × TellsAbsent (setup_of seated.old) (placed.now.next / 8192) met absent }
     // It copies so behind it. That the page can be mapped now is not said; the caller looks again.
     ensures copies { CopiesAlone (locks_of held) placed.now seated.new }
-    ensures ends { MatchResult result (λ _. KnowsNoFault (view_of seated.new))
+    ensures ends { MatchResult result
+        (λ _. KnowsNoFault (view_of seated.new)
+        × WaitsForPage D.tape D.moment D.faults placed.now absent (view_of seated.old) seated.new)
         (λ e. MeetsFault (view_of seated.old) (view_of seated.new) e) }
     ensures copies_on { CopyGoesOn placed.now placed.now seated.old seated.new }
 {
@@ -309,7 +345,7 @@ fn wait_for_page<'p, 'a, D: Disk>(
 }
 
 // Pauses, and looks at a page's end word, again and again until it is the page's own, but so many
-// times at most, unless the disk has failed.
+// times at most, unless the disk has failed: before each pause that is looked at.
 fn await_page<'p, D: Disk>(
     seated: &mut SeatedPass<'p, D>,
     page: u64,
@@ -317,19 +353,20 @@ fn await_page<'p, D: Disk>(
 ) -> Result<(), Fault>
     requires low { page < 2 ^ 40 }
     requires up { KnowsNoFault (view_of seated.old) }
-    ensures ends { MatchResult result (λ _. KnowsNoFault (view_of seated.new))
+    ensures ends { MatchResult result
+        (λ _. KnowsNoFault (view_of seated.new) × FindsUp (view_of seated.old) (view_of seated.new))
         (λ e. FindsDown (view_of seated.old) (view_of seated.new) e) }
     // Its locks and its copy the pass has as before, and its log is as it was.
     ensures stays { StaysAtWork seated.old seated.new }
     ensures log { log_of_pass (view_of seated.new) ≡ log_of_pass (view_of seated.old) }
 {
-    for _look in 0..LOOKS {
+    for _look in 1..LOOKS {
         wait_up(seated, backoff)?;
         if let Presence::Present = confirm(seated, page) {
             return Ok(());
         }
     }
-    Ok(())
+    wait_up(seated, backoff)
 }
 
 // Pauses, and looks at the written address, again and again until it is another one than was known,
@@ -341,24 +378,26 @@ fn await_written<'p, D: Disk>(
 ) -> Result<(), Fault>
     requires away { (view_of seated.old).mapping.stage ≡ Away }
     requires up { KnowsNoFault (view_of seated.old) }
-    ensures ends { MatchResult result (λ _. KnowsNoFault (view_of seated.new))
+    ensures ends { MatchResult result
+        (λ _. KnowsNoFault (view_of seated.new) × FindsUp (view_of seated.old) (view_of seated.new))
         (λ e. FindsDown (view_of seated.old) (view_of seated.new) e) }
     // As of `await_page`.
     ensures stays { StaysAtWork seated.old seated.new }
     ensures log { log_of_pass (view_of seated.new) ≡ log_of_pass (view_of seated.old) }
 {
-    for _look in 0..LOOKS {
+    for _look in 1..LOOKS {
         wait_up(seated, backoff)?;
         if seated.load_written() != known {
             return Ok(());
         }
     }
-    Ok(())
+    wait_up(seated, backoff)
 }
 
 // Pauses, unless the disk has failed. Its locks and its copy the pass has as before.
 fn wait_up<'p, D: Disk>(seated: &mut SeatedPass<'p, D>, backoff: &Backoff) -> Result<(), Fault>
-    ensures ends { MatchResult result (λ _. KnowsNoFault (view_of seated.new))
+    ensures ends { MatchResult result
+        (λ _. KnowsNoFault (view_of seated.new) × FindsUp (view_of seated.old) (view_of seated.new))
         (λ e. FindsDown (view_of seated.old) (view_of seated.new) e) }
     ensures stays { StaysAtWork seated.old seated.new }
     ensures log { log_of_pass (view_of seated.new) ≡ log_of_pass (view_of seated.old) }

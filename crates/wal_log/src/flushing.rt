@@ -15,11 +15,12 @@ ghost use Rattle.wal_rule.specs.Downs.{KnowsDown};
 ghost use Rattle.wal_rule.specs.Passes.{view_of_pass};
 ghost use Rattle.wal_rule.specs.SeatedPasses.{StandsAtRest, setup_of, view_of};
 ghost use Rattle.wal_log.specs.Downs.{KnowsNoFault, SetsDownItself};
-ghost use Rattle.wal_log.specs.Flushing.{AnswersFlush, AnswersFlushTry, IsToldHard, flush_err_known_down, flush_err_of_fault, try_flush_err_known_down, try_flush_err_of_turn};
-ghost use Rattle.wal_log.specs.Hands.{HasAllStored};
+ghost use Rattle.wal_log.specs.Flushing.{AnswersFlush, AnswersFlushTry, FlushesOnlyUnflushed, IsToldHard, LoadsHard, MeetsUnflushed, TriesOnlyUnflushed, flush_err_known_down, flush_err_of_fault, try_flush_err_known_down, try_flush_err_of_turn};
+ghost use Rattle.wal_log.specs.Hands.{HasAllStored, HasFailed};
 ghost use Rattle.wal_log.specs.Logs.{IsPassOfLog};
 ghost use Rattle.wal_log.specs.PassLogs.{log_of_pass};
 ghost use Rattle.wal_log.specs.Standing.{ComesToRest, HasNoTurn, KeepsPass, SeesMore, StaysAtWork, WorksOn};
+ghost use Rattle.wal_log.specs.Writing.{FlushesAll};
 ghost use Rattle.wal_log.specs.declared.fault.Fault.TheVariants.{Disk};
 ghost use Rattle.wal_log.specs.declared.flushing.TryFlushErr.TheVariants.{Fault};
 
@@ -27,7 +28,8 @@ use crate::fault::Fault;
 use crate::patience::Patience;
 use crate::turns::{TurnErr, give_back, go_down, take_ready};
 use crate::wal::Wal;
-use crate::writing::{store_written, write_known};
+use crate::writing::{store_written, write_pages};
+use byte_position::PAGE_SIZE;
 use flush_core::DiskFault;
 use insert_locks::{Watched, see_end, see_reserved, watch};
 use page_writing::{sync_written, writer_now};
@@ -115,6 +117,10 @@ impl<D: Disk> Wal<D> {
         // nothing.
         ensures flushes { AnswersFlush upto.0 (view_of_pass pass.old) result
             (view_of_pass pass.new) }
+        // Where the flushed address that it loads first has reached the address, that is told, with
+        // the moment loaded behind it: no lock is visited, no turn taken, no device called.
+        ensures only_unflushed { FlushesOnlyUnflushed upto.0 (view_of_pass pass.old) result
+            (view_of_pass pass.new) }
         // A pass that knows of a failed disk is told of it, also if the address is durable.
         ensures down_again { (faults : _) → KnowsDown faults (view_of_pass pass.old)
             → result ≡ flush_err_known_down faults }
@@ -134,6 +140,9 @@ impl<D: Disk> Wal<D> {
         requires pass { IsPassOfLog self.now pass.old }
         // As a flush tells it, which makes such tries. Or it tells why not, and adds nothing.
         ensures tries { AnswersFlushTry upto.0 (view_of_pass pass.old) result
+            (view_of_pass pass.new) }
+        // Nor does it do more than a flush where the address is flushed already.
+        ensures only_unflushed { TriesOnlyUnflushed upto.0 (view_of_pass pass.old) result
             (view_of_pass pass.new) }
         // A pass that knows of a failed disk is told of it, also if the address is durable.
         ensures down_again { (faults : _) → KnowsDown faults (view_of_pass pass.old)
@@ -161,6 +170,8 @@ pub(crate) fn flush_on<'p, D: Disk, R: Wait>(
 ) -> Result<Hard, FlushErr>
     requires rests { StandsAtRest seated.old }
     ensures flushes { AnswersFlush upto.0 (view_of seated.old) result (view_of seated.new) }
+    ensures only_unflushed { FlushesOnlyUnflushed upto.0 (view_of seated.old) result
+        (view_of seated.new) }
     ensures down_again { (faults : _) → KnowsDown faults (view_of seated.old)
         → result ≡ flush_err_known_down faults }
     ensures rests { ComesToRest seated.old seated.new }
@@ -241,6 +252,8 @@ fn await_flush<'p, D: Disk, R: Wait>(
 fn try_flush<'p, D: Disk>(seated: &mut SeatedPass<'p, D>, upto: Lsn) -> Result<Hard, TryFlushErr>
     requires rests { StandsAtRest seated.old }
     ensures tries { AnswersFlushTry upto.0 (view_of seated.old) result (view_of seated.new) }
+    ensures only_unflushed { TriesOnlyUnflushed upto.0 (view_of seated.old) result
+        (view_of seated.new) }
     ensures down_again { (faults : _) → KnowsDown faults (view_of seated.old)
         → result ≡ try_flush_err_known_down faults }
     ensures rests { ComesToRest seated.old seated.new }
@@ -258,6 +271,8 @@ fn try_up<'p, D: Disk>(seated: &mut SeatedPass<'p, D>, upto: Lsn) -> Result<Hard
     requires rests { HasNoTurn seated.old }
     requires up { KnowsNoFault (view_of seated.old) }
     ensures tries { AnswersFlushTry upto.0 (view_of seated.old) result (view_of seated.new) }
+    ensures only_unflushed { TriesOnlyUnflushed upto.0 (view_of seated.old) result
+        (view_of seated.new) }
     ensures works { WorksOn seated.old seated.new }
     ensures rests { HasNoTurn seated.new }
 {
@@ -322,8 +337,7 @@ fn harden_in_turn<'p, D: Disk>(
         give_back(seated);
         return Ok(hard);
     }
-    write_known(seated, known)?;
-    Ok(harden(seated)?)
+    Ok(harden(seated, known)?)
 }
 
 // What was flushed already, where that is as far as an address: then the moment is loaded, and the
@@ -335,6 +349,10 @@ fn told_already<'p, D: Disk>(seated: &mut SeatedPass<'p, D>, upto: Lsn) -> Optio
         × ((view_of seated.new).writing.flushed < upto.0) × KnowsNoFault (view_of seated.new))
         (λ hard. IsToldHard upto.0 hard.upto.0 hard.moment (view_of seated.old)
         (view_of seated.new) × (hard.upto.0 ≡ (view_of seated.new).writing.flushed)) }
+    // The flushed address is loaded, and the moment only where that has reached the address; and
+    // nothing else.
+    ensures loads { MatchOption result (MeetsUnflushed upto.0 (view_of seated.old))
+        (λ hard. LoadsHard hard (view_of seated.old) (view_of seated.new)) }
     ensures stays { StaysAtWork seated.old seated.new }
 {
     let flushed = Lsn(seated.load_flushed());
@@ -348,15 +366,18 @@ fn told_already<'p, D: Disk>(seated: &mut SeatedPass<'p, D>, upto: Lsn) -> Optio
     })
 }
 
-// Syncs what is written and stored, tells since which moment it is durable, and gives writer and
-// turn back. If the disk fails, sets it down and promises nothing: after a failed sync nobody knows
-// which writes the system still holds.
-fn harden<'p, D: Disk>(seated: &mut SeatedPass<'p, D>) -> Result<Hard, DiskFault>
-    // The writer is in hand and has not failed, and all that it has written is stored.
-    requires stored { HasAllStored D.tape D.moment D.faults seated.old }
-    // Just that much is promised. Or the down value is set, and nothing is promised.
+// Writes what is known to be copied, and syncs it; tells since which moment all of it is durable,
+// and gives writer and turn back. If the disk fails, sets it down and promises nothing: after a
+// failed sync nobody knows which writes the system still holds.
+fn harden<'p, D: Disk>(seated: &mut SeatedPass<'p, D>, known: u64) -> Result<Hard, DiskFault>
+    // The writer is in hand and has not failed, and `known` is what the watch told before it was
+    // taken.
+    requires ready { IsReady D.tape D.moment D.faults seated.old }
+    requires known { known ≡ known_copied (view_of seated.old) }
+    requires up { KnowsNoFault (view_of seated.old) }
+    // As much is promised at least. Or the down value is set, and nothing is promised.
     ensures told { MatchResult result
-        (λ hard. (hard.upto.0 ≡ (writer_in (view_of seated.old)).written)
+        (λ hard. (known ≤ hard.upto.0)
         × IsToldHard hard.upto.0 hard.upto.0 hard.moment (view_of seated.old)
         (view_of seated.new))
         (λ e. SetsDownItself e.faults (view_of seated.new)
@@ -366,13 +387,45 @@ fn harden<'p, D: Disk>(seated: &mut SeatedPass<'p, D>) -> Result<Hard, DiskFault
     ensures works { WorksOn seated.old seated.new }
     ensures rests { HasNoTurn seated.new }
 {
-    if let Err(fault) = sync_written(seated) {
-        go_down(seated, fault);
-        return Err(fault);
+    match flush_in_hand(seated, known) {
+        Ok(hard) => {
+            give_back(seated);
+            Ok(hard)
+        }
+        Err(fault) => {
+            go_down(seated, fault);
+            Err(fault)
+        }
     }
-    let hard = store_hard(seated);
-    give_back(seated);
-    Ok(hard)
+}
+
+// Calls the device: writes what is known to be copied, and syncs it. Then stores since which moment
+// all of it is durable. The writer stays in hand, so what it was called for is told in whole.
+fn flush_in_hand<'p, D: Disk>(seated: &mut SeatedPass<'p, D>, known: u64) -> Result<Hard, DiskFault>
+    requires ready { IsReady D.tape D.moment D.faults seated.old }
+    requires known { known ≡ known_copied (view_of seated.old) }
+    requires up { KnowsNoFault (view_of seated.old) }
+    // Just what is written then is promised, which reaches what was known. Or the writer keeps the
+    // fault that is told, and nothing is promised.
+    ensures told { MatchResult result
+        (λ hard. (known ≤ hard.upto.0)
+        × IsToldHard hard.upto.0 hard.upto.0 hard.moment (view_of seated.old)
+        (view_of seated.new)
+        × HasAllStored D.tape D.moment D.faults seated.new)
+        (λ e. HasFailed D.tape D.moment D.faults e.faults seated.new
+        × (log_of_pass (view_of seated.new) ≡ log_of_pass (view_of seated.old))) }
+    // The device is called just as a flush of what is known takes it, or up to the call that
+    // failed.
+    ensures calls { FlushesAll (setup_of seated.old).segment_size known result
+        (writer_in (view_of seated.old)) (writer_in (view_of seated.new)) }
+    ensures flushed { (view_of seated.new).writing.flushed
+        ≡ (view_of seated.old).writing.flushed }
+    ensures works { WorksOn seated.old seated.new }
+{
+    let mut bytes = [0; PAGE_SIZE as usize];
+    write_pages(seated, known, &mut bytes)?;
+    sync_written(seated)?;
+    Ok(store_hard(seated))
 }
 
 // Stores the moment, and then the address below which all is durable since. All that is written is
@@ -386,6 +439,7 @@ fn store_hard<'p, D: Disk>(seated: &mut SeatedPass<'p, D>) -> Hard
         (view_of seated.new) }
     ensures stored { HasAllStored D.tape D.moment D.faults seated.new
         × (result.upto.0 ≤ (writer_in (view_of seated.new)).written) }
+    ensures writer { writer_in (view_of seated.new) ≡ writer_in (view_of seated.old) }
     ensures flushed { (view_of seated.new).writing.flushed
         ≡ (view_of seated.old).writing.flushed }
     ensures works { WorksOn seated.old seated.new }

@@ -93,6 +93,7 @@ impl<'a> Inflight<'a> {
         let Inflight { mut pass, begun } = self;
         let mut seated = pass.seat(&wal.table);
         release(&mut seated, Held::One(begun.lock));
+        pass.company.note(begun.start, begun.end);
         pass.put_back(seated);
         let receipt = Receipt {
             start: begun.start,

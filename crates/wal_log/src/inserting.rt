@@ -2,14 +2,15 @@
 // insertion lock (beginning.rt), its words are copied, and the lock is given back (landing.rt).
 // From the reservation on it has its place, whatever fails: the record behind it names its start.
 // Nothing is said here of what is durable.
-ghost use Rattle.std.specs.Prelude.{◌≡◌, false, Err, IsErrOf, MatchResult, None};
+ghost use Rattle.std.specs.Prelude.{◌≡◌, false, Err, IfOk, IsErrOf, MatchResult, None};
 ghost use Rattle.record_spelling.specs.Spelling.{is_assembled_switch};
 ghost use Rattle.wal_core.specs.Steps.{IsResting};
+ghost use Rattle.wal_rule.specs.Company.{IsAlone};
 ghost use Rattle.wal_rule.specs.Downs.{KnowsDown};
 ghost use Rattle.wal_rule.specs.Passes.{view_of_pass};
 ghost use Rattle.wal_rule.specs.SeatedPasses.{StandsAtRest, setup_of, view_of};
 ghost use Rattle.wal_log.specs.Beginning.{IsPlaceBegun};
-ghost use Rattle.wal_log.specs.Inserting.{AnswersInsert, RefusesInsert, insert_err_of_fault};
+ghost use Rattle.wal_log.specs.Inserting.{AnswersInsert, InsertsOnly, NotesPlace, RefusesInsert, insert_err_of_fault};
 ghost use Rattle.wal_log.specs.Logs.{IsPassOfLog, setup_of_log};
 ghost use Rattle.wal_log.specs.Standing.{ComesToRest, GoesOnSeated, KeepsPass, SeesMore};
 ghost use Rattle.wal_log.specs.declared.inserting.InsertErr.TheVariants.{Down};
@@ -36,8 +37,8 @@ const LOOKS: u32 = 20;
 pub enum InsertErr {
     /// The log has fewer bytes left than the record takes up: how many.
     Full { free: u64 },
-    /// A device call failed in this call, for the room that the record needed or for room ahead of
-    /// it: the disk's count of faults then.
+    /// A device call failed in this call, for the room that the record needed, or, in company, for
+    /// room ahead of it, behind its copy: the disk's count of faults then.
     Disk { faults: u64, start: Lsn },
     /// The disk has failed before: its count of faults then.
     Down { faults: u64, start: Option<Lsn> },
@@ -61,8 +62,9 @@ impl InsertErr {
 impl<D: Disk> Wal<D> {
     /// Puts a record behind all that is reserved, and copies it. It is not durable before a flush.
     /// It waits for a free insertion lock and, where a page's buffer is wanted, for the page that
-    /// it holds to be written, which it does itself. Behind a record that came to a further page it
-    /// makes room half a ring ahead, and tells a fault of the disk that it meets there.
+    /// it holds to be written, which it does itself. A pass that has met another's record between
+    /// two of its own makes room half a ring ahead, behind a record that came to a further page,
+    /// and tells a fault of the disk that it meets there. One that is alone does nothing of that.
     pub fn insert<R: Wait>(
         &self,
         rt: &R,
@@ -76,6 +78,12 @@ impl<D: Disk> Wal<D> {
         // why not, and the start of the entry if that stands in the order all the same.
         ensures inserts { AnswersInsert (setup_of_log self.now) body.now
             (view_of_pass pass.old) result (view_of_pass pass.new) }
+        // A pass that is alone does nothing behind the copy, but that it gives its lock back.
+        ensures alone { IsAlone pass.old.company → IfOk result (λ receipt.
+            InsertsOnly (setup_of_log self.now) body.now (view_of_pass pass.old)
+            (view_of_pass pass.new) receipt) }
+        // It has met others from then on that a record stands between two of its own.
+        ensures company { NotesPlace result pass.old.company pass.new.company }
         // A pass that knows of a failed disk is told of it, and reserves nothing.
         ensures down_again { (faults : _) → KnowsDown faults (view_of_pass pass.old)
             → result ≡ Err (Down faults None) }
@@ -84,7 +92,7 @@ impl<D: Disk> Wal<D> {
         ensures pass { IsPassOfLog self.now pass.new }
     {
         let mut seated = pass.seat(&self.table);
-        let answer = insert_on(rt, &mut seated, body);
+        let answer = insert_on(rt, &mut seated, &pass.company, body);
         note_place(&mut pass.company, &answer);
         pass.put_back(seated);
         answer
@@ -93,7 +101,9 @@ impl<D: Disk> Wal<D> {
 
 // Takes in where a record was inserted.
 #[inline(always)]
-pub(crate) fn note_place(company: &mut Company, answer: &Result<Receipt, InsertErr>) {
+pub(crate) fn note_place(company: &mut Company, answer: &Result<Receipt, InsertErr>)
+    ensures { NotesPlace answer.now company.old company.new }
+{
     if let Ok(receipt) = answer {
         company.note(receipt.start, receipt.end);
     }
@@ -104,19 +114,23 @@ pub(crate) fn note_place(company: &mut Company, answer: &Result<Receipt, InsertE
 pub(crate) fn insert_on<'p, D: Disk, R: Wait>(
     rt: &R,
     seated: &mut SeatedPass<'p, D>,
+    company: &Company,
     body: &Body,
 ) -> Result<Receipt, InsertErr>
     requires rests { StandsAtRest seated.old }
     requires inserted { is_assembled_switch body.now ≡ false }
     ensures inserts { AnswersInsert (setup_of seated.old) body.now (view_of seated.old) result
         (view_of seated.new) }
+    ensures alone { IsAlone company.now → IfOk result (λ receipt.
+        InsertsOnly (setup_of seated.old) body.now (view_of seated.old) (view_of seated.new)
+        receipt) }
     ensures down_again { (faults : _) → KnowsDown faults (view_of seated.old)
         → result ≡ Err (Down faults None) }
     ensures rests { ComesToRest seated.old seated.new }
 {
     let mut begun = begin(rt, seated, body)?;
     let held = Held::One(begun.lock);
-    match land_and_make_room(rt, seated, held, begun.end, &mut begun.placed) {
+    match land_and_make_room(rt, seated, company, held, begun.end, &mut begun.placed) {
         Ok(()) => Ok(Receipt {
             start: begun.start,
             end: begun.end,

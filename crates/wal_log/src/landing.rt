@@ -2,15 +2,16 @@
 // back, which tells each watcher that no word of it is left (PostgreSQL's xlog.c,
 // WALInsertLockRelease). If the disk has failed the copy is given up: record and locks stay with a
 // view with which nobody steps any more, so that no watch ever takes the record for copied.
-ghost use Rattle.std.specs.Prelude.{◌≡◌, MatchResult};
+ghost use Rattle.std.specs.Prelude.{◌≡◌, IfOk, MatchResult};
 ghost use mathlib.Core.Option.{some};
 ghost use Rattle.insert_locks.specs.Holding.{locks_of};
 ghost use Rattle.wal_page.specs.Placed.{placed_end};
+ghost use Rattle.wal_rule.specs.Company.{IsAlone};
 ghost use Rattle.wal_rule.specs.SeatedPasses.{view_of};
 ghost use Rattle.wal_log.specs.Downs.{KnowsNoFault, MeetsFault};
 ghost use Rattle.wal_log.specs.PassLogs.{log_of_pass};
 ghost use Rattle.wal_log.specs.Standing.{ComesToRest, CopiesAlone, entry_in_flight};
-ghost use Rattle.wal_log.specs.Whole.{CopiesWhole};
+ghost use Rattle.wal_log.specs.Whole.{CopiesLast, CopiesWhole};
 
 use crate::copying::copy_whole;
 use crate::fault::Fault;
@@ -21,7 +22,7 @@ use segment_disk::Disk;
 use std::sync::Wait;
 use std::thread;
 use wal_page::Placed;
-use wal_rule::SeatedPass;
+use wal_rule::{Company, SeatedPass};
 use wal_types::Lsn;
 
 // At each so many-th page a backend lets others run: more often costs two backends what it gains
@@ -49,6 +50,9 @@ pub(crate) fn land<'p, 'a, D: Disk, R: Wait>(
         → MatchResult result (λ _. CopiesWhole (view_of seated.old) (view_of seated.new) e
         × KnowsNoFault (view_of seated.new))
         (λ fault. MeetsFault (view_of seated.old) (view_of seated.new) fault) }
+    // Behind the copy it gives the locks back, and does nothing else.
+    ensures last { (e : _) → entry_in_flight (view_of seated.old) ≡ some e
+        → IfOk result (λ _. CopiesLast (view_of seated.old) (view_of seated.new) e) }
     // The pass is about nothing, and its log is as it was.
     ensures log { log_of_pass (view_of seated.new) ≡ log_of_pass (view_of seated.old) }
     ensures rests { ComesToRest seated.old seated.new }
@@ -65,12 +69,15 @@ pub(crate) fn land<'p, 'a, D: Disk, R: Wait>(
     }
 }
 
-// The same of a record under its one lock; and behind it makes room ahead, if the record came to a
-// further page, and at times lets others run.
+// The same of a record under its one lock. Behind it a pass that has met others makes room ahead,
+// if the record came to a further page, and at times lets others run. A fault that it meets there
+// it tells itself, though the record is whole: a fault is told by who made the device call, and to
+// all later calls as one that was met before.
 #[inline(always)]
 pub(crate) fn land_and_make_room<'p, 'a, D: Disk, R: Wait>(
     rt: &R,
     seated: &mut SeatedPass<'p, D>,
+    company: &Company,
     held: Held,
     end: Lsn,
     placed: &mut Placed<'a>,
@@ -84,12 +91,15 @@ pub(crate) fn land_and_make_room<'p, 'a, D: Disk, R: Wait>(
         → MatchResult result (λ _. CopiesWhole (view_of seated.old) (view_of seated.new) e
         × KnowsNoFault (view_of seated.new))
         (λ fault. MeetsFault (view_of seated.old) (view_of seated.new) fault) }
+    // A pass that is alone gives the lock back, and does nothing else.
+    ensures alone { IsAlone company.now → (e : _) → entry_in_flight (view_of seated.old) ≡ some e
+        → IfOk result (λ _. CopiesLast (view_of seated.old) (view_of seated.new) e) }
     ensures log { log_of_pass (view_of seated.new) ≡ log_of_pass (view_of seated.old) }
     ensures rests { ComesToRest seated.old seated.new }
 {
     let page = placed.next_lsn().0 / PAGE_SIZE;
     land(rt, seated, held, end, placed)?;
-    if page < end.0 / PAGE_SIZE {
+    if company.has_met_others() && page < end.0 / PAGE_SIZE {
         make_room(seated, page)?;
         let_others_run(page);
     }

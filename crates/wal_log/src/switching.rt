@@ -5,7 +5,7 @@
 // they told nothing, an insert that waits for a page to be written would wait for them, and the
 // switch for that insert's lock. With all eight held nobody else reserves. The words up to the
 // segment's end are copied as any record's (landing.rt).
-ghost use Rattle.std.specs.Prelude.{◌≡◌, ◌+◌, ◌<◌, [], Err, None, IsErrOf, MatchResult};
+ghost use Rattle.std.specs.Prelude.{◌≡◌, ◌+◌, ◌<◌, [], Err, None, Ok, IsErrOf, MatchBool, MatchOption, MatchResult};
 ghost use Rattle.record_spelling.specs.Record.{switch_record};
 ghost use Rattle.record_spelling.specs.Spelling.{assembled};
 ghost use Rattle.insert_locks.specs.Holding.{lock_run};
@@ -17,6 +17,7 @@ ghost use Rattle.wal_log.specs.Downs.{KnowsNoFault};
 ghost use Rattle.wal_log.specs.Logs.{IsPassOfLog, setup_of_log};
 ghost use Rattle.wal_log.specs.Standing.{ComesToRest, GoesOnSeated, HasLocks, HoldsLocks, KeepsPass};
 ghost use Rattle.wal_log.specs.Switching.{AnswersPlace, AnswersSwitch, HoldsOn, TellsDown, switch_err_of_fault};
+ghost use Rattle.wal_log.specs.Waiting.{FindsUp, IsSeenTold};
 ghost use Rattle.wal_log.specs.declared.switching.SwitchErr.TheVariants.{Down};
 
 use crate::fault::Fault;
@@ -29,7 +30,7 @@ use record_spelling::Body;
 use reserve_lock::{ReserveErr, Reserved, SwitchTry, try_reserve_switch};
 use segment_disk::Disk;
 use std::sync::Wait;
-use wal_rule::{Pass, SeatedPass};
+use wal_rule::{Company, Pass, SeatedPass};
 use wal_types::Lsn;
 
 /// What a segment switch comes to.
@@ -91,8 +92,16 @@ impl<D: Disk> Wal<D> {
     {
         let mut seated = pass.seat(&self.table);
         let answer = switch_on(rt, &mut seated, body);
+        note_switch(&mut pass.company, &answer);
         pass.put_back(seated);
         answer
+    }
+}
+
+// Takes in where a switch was inserted.
+fn note_switch(company: &mut Company, answer: &Result<Switch, SwitchErr>) {
+    if let Ok(Switch::Done { start, end }) = answer {
+        company.note(*start, *end);
     }
 }
 
@@ -118,13 +127,16 @@ fn switch_on<'p, D: Disk, R: Wait>(
 
 // Loads down. If the disk has failed it tells so.
 fn look_down<'p, D: Disk>(seated: &mut SeatedPass<'p, D>) -> Result<(), SwitchErr>
-    ensures looks { MatchResult result (λ _. KnowsNoFault (view_of seated.new))
+    ensures looks { MatchResult result
+        (λ _. KnowsNoFault (view_of seated.new) × FindsUp (view_of seated.old) (view_of seated.new))
         (λ e. TellsDown (view_of seated.old) (view_of seated.new) e) }
     ensures known { (faults : _) → KnowsDown faults (view_of seated.old)
         → IsErrOf result (Down faults None) }
-    // The locks that it holds it holds still.
+    // The locks that it holds it holds still, with what was told under them.
     ensures holds { (locks : _) → HasLocks locks (view_of seated.old)
         → HoldsOn locks seated.old seated.new }
+    ensures told { (locks : _) → IsSeenTold locks (view_of seated.old)
+        → IsSeenTold locks (view_of seated.new) }
 {
     let faults = seated.load_down();
     if faults != 0 {
@@ -172,14 +184,41 @@ fn take_next<'p, D: Disk, R: Wait>(
 {
     let backoff = Backoff::new();
     for _ in rt.forever() {
-        if try_take_lock(seated, lock) == 0 {
+        if take_or_wait(seated, lock, &backoff)? {
             return Ok(());
         }
-        tell_seen(seated, lock);
-        look_down(seated)?;
-        backoff.snooze();
     }
     unreachable!()
+}
+
+// Tries a lock once, where those below it are held. Where somebody has it, tells how far records
+// are seen reserved, and pauses, unless the disk has failed. It tells whether it has the lock.
+fn take_or_wait<'p, D: Disk>(
+    seated: &mut SeatedPass<'p, D>,
+    lock: u32,
+    backoff: &Backoff,
+) -> Result<bool, SwitchErr>
+    requires low { lock < 8 }
+    requires has { HasLocks (lock_run 0 lock) (view_of seated.old) }
+    requires up { KnowsNoFault (view_of seated.old) }
+    // Where it has none more it has told under those that it has, and has looked whether the disk
+    // has failed.
+    ensures takes { MatchResult result
+        (λ taken. KnowsNoFault (view_of seated.new)
+        × MatchBool taken (HoldsOn (lock_run 0 (lock + 1)) seated.old seated.new)
+        (HoldsOn (lock_run 0 lock) seated.old seated.new
+        × (0 < lock → IsSeenTold (lock_run 0 lock) (view_of seated.new))
+        × FindsUp (view_of seated.old) (view_of seated.new)))
+        (λ e. HoldsOn (lock_run 0 lock) seated.old seated.new
+        × TellsDown (view_of seated.old) (view_of seated.new) e) }
+{
+    if try_take_lock(seated, lock) == 0 {
+        return Ok(true);
+    }
+    tell_seen(seated, lock);
+    look_down(seated)?;
+    backoff.snooze();
+    Ok(false)
 }
 
 // Tells under the locks below a number, which are held, how far records are reserved.
@@ -187,6 +226,7 @@ fn tell_seen<'p, D: Disk>(seated: &mut SeatedPass<'p, D>, count: u32)
     requires low { count < 8 }
     requires has { HasLocks (lock_run 0 count) (view_of seated.old) }
     ensures holds { HoldsOn (lock_run 0 count) seated.old seated.new }
+    ensures told { 0 < count → IsSeenTold (lock_run 0 count) (view_of seated.new) }
     ensures up { KnowsNoFault (view_of seated.old) → KnowsNoFault (view_of seated.new) }
 {
     if count > 0 {
@@ -247,12 +287,39 @@ fn reserve<'p, 'a, D: Disk, R: Wait>(
 {
     let backoff = Backoff::new();
     for _ in rt.forever() {
-        match try_reserve_switch(seated, body) {
-            Ok(tried) => return Ok(tried),
-            Err(ReserveErr::Full { free }) => return Err(SwitchErr::Full { free }),
-            Err(ReserveErr::Busy { .. }) => look_down(seated)?,
+        if let Some(tried) = reserve_or_wait(seated, body, &backoff)? {
+            return Ok(tried);
         }
-        backoff.snooze();
     }
     unreachable!()
+}
+
+// Tries once to reserve the switch's place. Where somebody has the position locked it pauses,
+// unless the disk has failed.
+fn reserve_or_wait<'p, 'a, D: Disk>(
+    seated: &mut SeatedPass<'p, D>,
+    body: &'a Body<'a>,
+    backoff: &Backoff,
+) -> Result<Option<SwitchTry<'a>>, SwitchErr>
+    requires switch { body.now ≡ assembled switch_record }
+    requires has { HasLocks every_lock (view_of seated.old) }
+    requires up { KnowsNoFault (view_of seated.old) }
+    // Where it pauses it has looked whether the disk has failed.
+    ensures reserves { MatchResult result
+        (λ tried. MatchOption tried
+        (HoldsOn every_lock seated.old seated.new × KnowsNoFault (view_of seated.new)
+        × FindsUp (view_of seated.old) (view_of seated.new))
+        (λ t. AnswersPlace (setup_of seated.old) body.now (view_of seated.old) (Ok t)
+        (view_of seated.new)))
+        (λ e. AnswersPlace (setup_of seated.old) body.now (view_of seated.old) (Err e)
+        (view_of seated.new)) }
+    ensures goes_on { GoesOnSeated seated.old seated.new }
+{
+    match try_reserve_switch(seated, body) {
+        Ok(tried) => return Ok(Some(tried)),
+        Err(ReserveErr::Full { free }) => return Err(SwitchErr::Full { free }),
+        Err(ReserveErr::Busy { .. }) => look_down(seated)?,
+    }
+    backoff.snooze();
+    Ok(None)
 }

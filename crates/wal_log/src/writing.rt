@@ -5,15 +5,15 @@
 // and its record in flight. In this order: it tells its progress under its locks, which would hold
 // its own watch back else; it watches; it takes the turn to write and the writer; it writes page by
 // page, stores behind each what is written, and gives writer and turn back.
-ghost use Rattle.std.specs.Prelude.{◌≡◌, ◌≤◌, MatchResult};
+ghost use Rattle.std.specs.Prelude.{◌≡◌, ◌≤◌, MatchResult, OnOk};
 ghost use Rattle.insert_locks.specs.Holding.{HasTold, locks_of};
 ghost use Rattle.page_writing.specs.InHand.{IsReady, known_copied, writer_in};
-ghost use Rattle.wal_rule.specs.SeatedPasses.{HasView, view_of};
+ghost use Rattle.wal_rule.specs.SeatedPasses.{HasView, setup_of, view_of};
 ghost use Rattle.wal_log.specs.Downs.{KnowsNoFault, SetsDownItself};
 ghost use Rattle.wal_log.specs.Hands.{HasAllStored, HasFailed};
 ghost use Rattle.wal_log.specs.Copying.{CopyGoesOn};
 ghost use Rattle.wal_log.specs.Standing.{AddsNothing, CopiesAlone, HasNoTurn};
-ghost use Rattle.wal_log.specs.Writing.{TellsWriteErr, WritesCopied, stored_view, write_err_of_turn};
+ghost use Rattle.wal_log.specs.Writing.{BreaksWriting, TellsWriteErr, WritesAll, WritesCopied, stored_view, write_err_of_turn};
 ghost use Rattle.wal_log.specs.declared.fault.Fault.TheVariants.{Disk};
 ghost use Rattle.wal_log.specs.declared.writing.WriteErr.TheVariants.{Fault};
 
@@ -74,6 +74,9 @@ pub(crate) fn write_known<'p, D: Disk>(
         (λ _. HasAllStored D.tape D.moment D.faults seated.new
         × (known ≤ (writer_in (view_of seated.new)).written))
         (λ e. SetsDownItself e.faults (view_of seated.new) × HasNoTurn seated.new) }
+    // The device is called just as that takes it. Where a call fails `write_pages` tells of it.
+    ensures calls { OnOk result (WritesAll (setup_of seated.old).segment_size known
+        (writer_in (view_of seated.old)) (writer_in (view_of seated.new))) }
     // Locks, copy and log are as they were, and nothing is promised.
     ensures adds_nothing { AddsNothing seated.old seated.new }
 {
@@ -87,7 +90,7 @@ pub(crate) fn write_known<'p, D: Disk>(
 
 // Writes page by page what is known to be copied, and stores behind each page how far the log is
 // written: so others may map pages while this pass goes on to write.
-fn write_pages<'p, D: Disk>(
+pub(crate) fn write_pages<'p, D: Disk>(
     seated: &mut SeatedPass<'p, D>,
     known: u64,
     bytes: &mut [u8; PAGE_SIZE as usize],
@@ -101,6 +104,11 @@ fn write_pages<'p, D: Disk>(
         (λ _. HasAllStored D.tape D.moment D.faults seated.new
         × (known ≤ (writer_in (view_of seated.new)).written))
         (λ e. HasFailed D.tape D.moment D.faults e.faults seated.new) }
+    ensures calls { MatchResult result
+        (λ _. WritesAll (setup_of seated.old).segment_size known (writer_in (view_of seated.old))
+        (writer_in (view_of seated.new)))
+        (λ _. BreaksWriting (setup_of seated.old).segment_size known
+        (writer_in (view_of seated.old)) (writer_in (view_of seated.new))) }
     ensures adds_nothing { AddsNothing seated.old seated.new }
 {
     let written = store_written(seated);

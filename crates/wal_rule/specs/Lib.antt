@@ -2,6 +2,7 @@ pub mod Slotted
 pub mod Founded
 pub mod Stepping
 pub mod Downs
+pub mod Company
 pub mod Passes
 pub mod Tables
 pub mod SeatedPasses

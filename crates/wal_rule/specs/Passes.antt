@@ -47,8 +47,9 @@ pub record IsPassOf (table : TableId) (opening : Opening) (pass : Pass) : Type 0
   pub live : ((view_of_pass pass).reserving).live ≡ true
   pub stands : ∥ Stands (view_of_pass pass) ∥₁
 
--- two passes have the same numbers
+-- two passes have the same numbers, and know the same of their company
 pub record SamePass (old new : Pass) : Type 0 where
   pub own : new.number ≡ old.number
   pub low : new.spare ≡ old.spare
   pub high : new.spare_end ≡ old.spare_end
+  pub company : new.company ≡ old.company

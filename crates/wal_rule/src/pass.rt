@@ -6,6 +6,7 @@
 ghost use Rattle.std.specs.Prelude.{◌≡◌, ◌-◌, ◌<◌, ◌≤◌, []};
 ghost use Rattle.atomic_table.specs.Seated.{TableId};
 ghost use Rattle.wal_core.specs.Words.{Opening};
+ghost use Rattle.wal_rule.specs.Company.{IsAlone};
 ghost use Rattle.wal_rule.specs.Passes.{HasNumbers, IsPassOf, SamePass, view_of_pass};
 ghost use Rattle.wal_core.specs.Steps.{IsResting};
 ghost use Rattle.wal_core.specs.Moves.{after_join, after_split, split_off};
@@ -40,6 +41,7 @@ impl Pass {
         ensures pass { (table : TableId) (opening : Opening) → IsSeatOf table opening seat
             → IsPassOf table opening result }
         ensures view { view_of_pass result ≡ seat.me.0 }
+        ensures alone { IsAlone result.company }
     {
         Pass {
             badge: seat.into_badge(),
@@ -68,7 +70,8 @@ impl Pass {
     /// back.
     pub fn seat<'a, D: Disk>(&mut self, table: &'a LogTable<D>) -> SeatedPass<'a, D>
         requires pass { IsPassOn table.now self.old }
-        // It has the pass's view and nothing in hand; the pass keeps its numbers.
+        // It has the pass's view and nothing in hand; the pass keeps its numbers, and what it knows
+        // of its company.
         ensures table { result.table.now ≡ table.now }
         ensures view { result.seat.me ≡ (view_of_pass self.old, []) }
         ensures numbers { SamePass self.old self.new }
@@ -129,6 +132,9 @@ impl Pass {
             × (view_of_pass self.new ≡ after_split (view_of_pass self.old)) }
         ensures right { IsPassOn table.now result
             × (view_of_pass result ≡ split_off (view_of_pass self.old)) }
+        // A new pass is alone; the other one knows what it knew of its company.
+        ensures alone { IsAlone result.company }
+        ensures company { self.new.company ≡ self.old.company }
     {
         let number = self.spare;
         let mut seat = self.take_seat();
@@ -149,6 +155,7 @@ impl Pass {
         ensures pass { IsPassOn table.now self.new }
         ensures view { view_of_pass self.new
             ≡ after_join (view_of_pass self.old) (view_of_pass other) }
+        ensures company { self.new.company ≡ self.old.company }
     {
         let mut seat = self.take_seat();
         table.join(&mut seat, other.take_seat());

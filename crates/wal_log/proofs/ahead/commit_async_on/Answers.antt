@@ -46,6 +46,13 @@ returns-clause-inserts g c =
     (view_of c.raise.new.seated).async_met (view_of c.raise.new.seated)
     (view_is c.raise.ensures.raises.view)
 
+pub returns-clause-alone : goal.returns-clause-alone
+returns-clause-alone g c = λ alone. record {
+  inserted = view_of c.insert_on.new.seated;
+  inserts = c.in_ok-receipt.ensures.alone alone;
+  raised = view_is c.raise.ensures.raises.view;
+}
+
 pub returns-clause-rests : goal.returns-clause-rests
 returns-clause-rests g c = raised_rests c.args.seated.now c.insert_on.new.seated
     c.raise.new.seated c.insert_on.ensures.rests c.raise.ensures.raises

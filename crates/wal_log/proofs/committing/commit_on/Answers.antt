@@ -42,6 +42,14 @@ returns-in-Ok-clause-commits g c =
     c.flush_on.ensures.rests.keeps same _
     c.in-Ok.hard.upto.0 refl refl c.in-Ok.ensures.flushes.0
 
+pub returns-in-Ok-clause-alone : goal.returns-in-Ok-clause-alone
+returns-in-Ok-clause-alone g c = λ alone. record {
+  inserted = view_of c.insert_on.new.seated;
+  inserts = c.in_ok-start.ensures.alone alone;
+  upto = c.in-Ok.hard.upto.0;
+  flushes = c.in-Ok.ensures.flushes.0;
+}
+
 pub returns-in-Ok-clause-down_again : goal.returns-in-Ok-clause-down_again
 returns-in-Ok-clause-down_again g c = λ faults knows. absurd (never_both c.insert_on.result _ _
     c.in_ok-start.was (c.insert_on.ensures.down_again faults knows))

@@ -8,7 +8,7 @@ use Rattle.word_ring.specs.Mapped.{looked_view}
 use Rattle.wal_log.specs.Copying.{MeetsOldPage, MeetsOther}
 use Rattle.wal_log.proofs.CopyLaws.{written_low}
 use Rattle.wal_log.proofs.PageLaws.{maps_none, old_met, other_met}
-use Rattle.wal_log.proofs.Seated.{same_setup, view_is}
+use Rattle.wal_log.proofs.Seated.{own_setup, same_setup, view_is}
 use Rattle.wal_log.proofs.copying.reach_page.Goals as goal
 
 pub loop-end-init : goal.loop-end-init
@@ -61,7 +61,8 @@ returns-in-Unwritten-clause-ends g c =
         subst (λ (s : Setup). MeetsOldPage s c.args.page told (view_of c.try_map.new.seated))
             (same_setup c.args.seated.now c.confirm.new.seated (met.2.same_table ∙ still))
             (old_met m (view_of c.try_map.new.seated) (max m.mapping.confirmed old.0) told old.3
-            (setup_of c.confirm.new.seated) c.args.page old.0 told old.4 old.1 old.2),
+            (setup_of c.confirm.new.seated) c.args.page old.0 told
+            (own_setup c.confirm.new.seated) old.4 old.1 old.2),
       );
       low = written_low (setup_of c.confirm.new.seated) c.args.page old.0 told c.requires.low
           old.1 old.2;

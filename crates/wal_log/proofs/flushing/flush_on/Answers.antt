@@ -1,11 +1,13 @@
-use Rattle.std.specs.Prelude.{Err}
-use Rattle.std.proofs.Common.{sym, ap, ◌∙◌, subst}
+use Rattle.std.specs.Prelude.{Ok, Err}
+use Rattle.std.proofs.Common.{inl, inr, sym, ap, ◌∙◌, subst}
 use Rattle.wal_rule.specs.SeatedPasses.{view_of}
 use Rattle.wal_log.specs.declared.flushing.FlushErr.{FlushErr}
-use Rattle.wal_log.specs.Flushing.{TellsFlushErr}
+use Rattle.wal_log.specs.declared.flushing.TryFlushErr.TheVariants.{Fault, Unreserved}
+use Rattle.wal_log.specs.Flushing.{FlushesOnlyUnflushed, TellsFlushErr}
 use Rattle.wal_log.specs.Standing.{ComesToRest}
 use Rattle.wal_log.proofs.AwaitLaws.{rests_at_work, tried_and_looked}
 use Rattle.wal_log.proofs.FlushLaws.{answer_again, answer_of, fault_behind, told_behind, unreserved_behind}
+use Rattle.wal_log.proofs.LookLaws.{fault_only, last_tried, only_found}
 use Rattle.wal_log.proofs.Trying.{first_try, rests_again, tried_again}
 use Rattle.wal_log.proofs.flushing.flush_on.Given.{Over}
 use Rattle.wal_log.proofs.flushing.flush_on.Goals as goal
@@ -16,6 +18,7 @@ loop-init g c = record {
   goes_on = (tt, tt);
   tried = tried_and_looked c.args.seated.now c.args.seated.now c.gather.new.seated
       (first_try c.args.seated.now c.requires.rests) c.gather.ensures.sees;
+  looked = inl c.gather.ensures.sees;
 }
 
 rests : (g : Over) (c : After-try_flush g) → ComesToRest c.args.seated.now c.try_flush.new.seated
@@ -86,10 +89,15 @@ returns-in-Err-Unreserved-clause-rests g c =
 
 pub loop-preserved-in-Err-Behind : goal.loop-preserved-in-Err-Behind
 loop-preserved-in-Err-Behind g c =
-    let why = rw c.in-Err-Behind.field-0-is at c.in-Err-Behind.ensures.tries in record {
+    let why = rw c.in-Err-Behind.field-0-is at c.in-Err-Behind.ensures.tries in
+    let last = last_tried c.args.upto.0 c.args.seated.now c.loop.seated
+    (view_of c.try_flush.new.seated) c.loop.invariant.looked (Err c.in-Err-Behind.field-0)
+    c.in-Err-Behind.ensures.only_unflushed in record {
       goes_on = (tt, tt);
       tried = tried_again c.args.seated.now c.loop.seated c.try_flush.new.seated
           c.loop.invariant.tried c.try_flush.ensures.rests why.1 why.0.1.up;
+      looked = inr (only_found c.args.upto.0 (view_of c.args.seated.now)
+          (rw c.in-Err-Behind.field-0-is at last));
     }
 
 pub await_flush-requires : goal.await_flush-requires
@@ -104,8 +112,36 @@ loop-preserved g c =
     let awaited = tried_again c.args.seated.now c.try_flush.new.seated c.await_flush.new.seated
     tried (rests_at_work c.try_flush.new.seated c.await_flush.new.seated
     (tried.comes).rests c.await_flush.ensures.stays) c.await_flush.ensures.log
-    c.await_flush.ensures.up in record {
+    c.await_flush.ensures.up in
+    let last = last_tried c.args.upto.0 c.args.seated.now c.loop.seated
+    (view_of c.try_flush.new.seated) c.loop.invariant.looked (Err c.in-Err-Turn.field-0)
+    c.in-Err-Turn.ensures.only_unflushed in record {
       goes_on = (tt, tt);
       tried = tried_and_looked c.args.seated.now c.await_flush.new.seated
           c.gather-in-Err-Turn.new.seated awaited c.gather-in-Err-Turn.ensures.sees;
+      looked = inr (only_found c.args.upto.0 (view_of c.args.seated.now)
+          (rw c.in-Err-Turn.field-0-is at last));
     }
+
+-- ---- the flushed address is looked at first
+
+pub returns-in-Ok-clause-only_unflushed : goal.returns-in-Ok-clause-only_unflushed
+returns-in-Ok-clause-only_unflushed g c =
+    last_tried c.args.upto.0 c.args.seated.now c.loop.seated (view_of c.try_flush.new.seated)
+    c.loop.invariant.looked (Ok c.in-Ok.hard) c.in-Ok.ensures.only_unflushed
+
+pub returns-in-Err-Fault-clause-only_unflushed : goal.returns-in-Err-Fault-clause-only_unflushed
+returns-in-Err-Fault-clause-only_unflushed g c =
+    let old = view_of c.args.seated.now in
+    let new = view_of c.try_flush.new.seated in
+    subst (λ (e : FlushErr). FlushesOnlyUnflushed c.args.upto.0 old (Err e) new)
+    (sym c.from.ensures) (fault_only c.args.upto.0 old new c.in-Err-Fault.fault
+    (last_tried c.args.upto.0 c.args.seated.now c.loop.seated new c.loop.invariant.looked
+    (Err (Fault c.in-Err-Fault.fault))
+    (rw c.in-Err-Fault.field-0-is at c.in-Err-Fault.ensures.only_unflushed)))
+
+pub returns-in-Err-Unreserved-clause-only_unflushed : goal.returns-in-Err-Unreserved-clause-only_unflushed
+returns-in-Err-Unreserved-clause-only_unflushed g c =
+    last_tried c.args.upto.0 c.args.seated.now c.loop.seated (view_of c.try_flush.new.seated)
+    c.loop.invariant.looked (Err (Unreserved c.in-Err-Unreserved.end))
+    (rw c.in-Err-Unreserved.field-0-is at c.in-Err-Unreserved.ensures.only_unflushed)

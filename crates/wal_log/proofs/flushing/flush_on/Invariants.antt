@@ -1,4 +1,9 @@
--- The tries so far told nothing.
+-- The tries so far told nothing: there was none, and only more was seen reserved, or the flushed
+-- address that was met first is below the one asked for.
+use Rattle.std.proofs.Common.{◌⊎◌}
+use Rattle.wal_rule.specs.SeatedPasses.{view_of}
+use Rattle.wal_log.specs.Flushing.{FindsUnflushed}
+use Rattle.wal_log.specs.Standing.{SeesMore}
 use Rattle.wal_log.proofs.Trying.{HasTriedOn}
 use Rattle.wal_log.proofs.flushing.flush_on.Given as goal
 
@@ -7,4 +12,5 @@ invariant-loop g l = record {
   goes_on : (goal.iterator-loop g).can_next l.iterator'
       × (goal.iterator-loop g).is_finite l.iterator';
   tried : HasTriedOn l.fn.seated l.seated;
+  looked : SeesMore l.fn.seated l.seated ⊎ FindsUnflushed l.upto.0 (view_of l.fn.seated);
 }

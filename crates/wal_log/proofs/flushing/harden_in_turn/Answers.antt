@@ -15,7 +15,7 @@ use Rattle.wal_log.proofs.Keeping.{still_up}
 use Rattle.wal_log.proofs.Seated.{own_setup, valid_size, view_is}
 use Rattle.wal_log.proofs.flushing.harden_in_turn.Given.{Over}
 use Rattle.wal_log.proofs.flushing.harden_in_turn.Goals as goal
-use Rattle.wal_log.proofs.flushing.harden_in_turn.Goals.{After-give_back, After-harden, After-told_already, After-write_known}
+use Rattle.wal_log.proofs.flushing.harden_in_turn.Goals.{After-give_back, After-harden, After-told_already}
 
 -- ---- the flushed address is loaded again
 
@@ -79,72 +79,63 @@ returns-in-Some-clause-tries g c =
 
 -- ---- none had
 
-pub write_known-requires-clause-ready : goal.write_known-requires-clause-ready
-write_known-requires-clause-ready g c =
-    ready g (goal.at.write_known-requires-clause-ready g c).After-told_already
-
-module _ (g : Over) (c : After-write_known g)
-    (before : WorksOn c.args.seated.now c.told_already.new.seated) where
-  written : WorksOn c.args.seated.now c.write_known.new.seated
-  written = works_on c.args.seated.now c.told_already.new.seated c.write_known.new.seated before
-      c.write_known.ensures.adds_nothing.works
-
-pub returns-in_err-write_known-clause-tries : goal.returns-in_err-write_known-clause-tries
-returns-in_err-write_known-clause-tries g c =
-    let path = goal.at.returns-in_err-write_known-clause-tries g c in
-    let exit = err_from_is_err_and c.from_residual.result c.from_residual.ensures.1 in
-    let before = path.After-told_already in
-    let works = written g path.After-write_known (looked g before) in
-    let told = c.in_default.ensures.told in
-    let above = told.1 in
-    let same = c.write_known.ensures.adds_nothing.flushed in
-    rw (exit.1, exit.2) (
-      fails_flush c.args.upto.0 _ (view_of c.args.seated.now) (view_of c.write_known.new.seated)
-          (size g before) (reserved g before) works.work.pass.rises
-          (omega (arith, above, same)) c.in_err-write_known.ensures.ends.0,
-      c.write_known.ensures.adds_nothing.log ∙ told.0,
-    )
+pub harden-requires-clause-ready : goal.harden-requires-clause-ready
+harden-requires-clause-ready g c =
+    ready g (goal.at.harden-requires-clause-ready g c).After-told_already
 
 module _ (g : Over) (c : After-harden g)
-    (before : WorksOn c.args.seated.now c.write_known.new.seated) where
+    (before : WorksOn c.args.seated.now c.told_already.new.seated) where
   hardened : WorksOn c.args.seated.now c.harden.new.seated
-  hardened = works_on c.args.seated.now c.write_known.new.seated c.harden.new.seated before
+  hardened = works_on c.args.seated.now c.told_already.new.seated c.harden.new.seated before
       c.harden.ensures.works
 
 pub returns-in_err-harden-clause-tries : goal.returns-in_err-harden-clause-tries
 returns-in_err-harden-clause-tries g c =
     let path = goal.at.returns-in_err-harden-clause-tries g c in
-    let exit = err_from_is_err_and c.from_residual-in_err-harden.result
-    c.from_residual-in_err-harden.ensures.1 in
+    let exit = err_from_is_err_and c.from_residual.result c.from_residual.ensures.1 in
     let before = path.After-told_already in
-    let works = hardened g path.After-harden
-    (written g path.After-write_known (looked g before)) in
+    let works = hardened g path.After-harden (looked g before) in
     let told = c.in_default.ensures.told in
     let above = told.1 in
-    let same = c.write_known.ensures.adds_nothing.flushed in
     let still = c.harden.ensures.flushed in
     rw (exit.1, exit.2) (
       fails_flush c.args.upto.0 _ (view_of c.args.seated.now) (view_of c.harden.new.seated)
           (size g before) (reserved g before) works.work.pass.rises
-          (omega (arith, above, same, still)) c.in_err-harden.ensures.told.0,
-      c.in_err-harden.ensures.told.1 ∙ c.write_known.ensures.adds_nothing.log ∙ told.0,
+          (omega (arith, above, still)) c.in_err-harden.ensures.told.0,
+      c.in_err-harden.ensures.told.1 ∙ told.0,
     )
 
 pub returns-clause-tries : goal.returns-clause-tries
 returns-clause-tries g c =
     let path = goal.at.returns-clause-tries g c in
-    let works = written g path.After-write_known (looked g path.After-told_already) in
+    let works = looked g path.After-told_already in
     let hard = c.in_ok-harden.field-0 in
-    let far = c.requires.reaches in
-    let stored = c.in_ok-write_known.ensures.ends.1 in
-    let is = c.in_ok-harden.ensures.told.0 in
+    let reaches = c.requires.reaches in
+    let far = c.in_ok-harden.ensures.told.0 in
     let told = c.in_default.ensures.told in
     let above = told.1 in
-    let same = c.write_known.ensures.adds_nothing.flushed in
     let still = c.harden.ensures.flushed in (
       told_behind hard.upto.0 hard.upto.0 hard.moment (view_of c.args.seated.now)
-          (view_of c.write_known.new.seated) (view_of c.harden.new.seated)
-          (c.write_known.ensures.adds_nothing.log ∙ told.0) works.work.pass c.args.upto.0
-          (omega (arith, far, stored, is)) c.in_ok-harden.ensures.told.1,
-      inr (omega (arith, above, same, still)),
+          (view_of c.told_already.new.seated) (view_of c.harden.new.seated) told.0
+          works.work.pass c.args.upto.0 (omega (arith, far, reaches))
+          c.in_ok-harden.ensures.told.1,
+      inr (omega (arith, above, still)),
     )
+
+-- ---- its work goes on
+
+pub returns-in-Some-clause-works : goal.returns-in-Some-clause-works
+returns-in-Some-clause-works g c =
+    let path = goal.at.returns-in-Some-clause-works g c in
+    works_on c.args.seated.now c.told_already.new.seated c.give_back.new.seated
+    (looked g path.After-told_already) (given g path.After-give_back).works
+
+pub returns-in_err-harden-clause-works : goal.returns-in_err-harden-clause-works
+returns-in_err-harden-clause-works g c =
+    let path = goal.at.returns-in_err-harden-clause-works g c in
+    hardened g path.After-harden (looked g path.After-told_already)
+
+pub returns-clause-works : goal.returns-clause-works
+returns-clause-works g c =
+    let path = goal.at.returns-clause-works g c in
+    hardened g path.After-harden (looked g path.After-told_already)

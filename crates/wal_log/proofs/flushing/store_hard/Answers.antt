@@ -133,6 +133,13 @@ returns-clause-stored g c =
       omega (arith, same, read_it),
     )
 
+pub returns-clause-writer : goal.returns-clause-writer
+returns-clause-writer g c =
+    let path = goal.at.returns-clause-writer g c in
+    ap (λ (v : View). writer_in v)
+    (told g path.After-store_flushed (has g path.After-writer_now-now)
+    (first g path.After-store_moment (read g path.After-writer_now-now)))
+
 pub returns-clause-flushed : goal.returns-clause-flushed
 returns-clause-flushed g c =
     let path = goal.at.returns-clause-flushed g c in

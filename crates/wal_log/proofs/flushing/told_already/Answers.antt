@@ -1,7 +1,10 @@
 use Rattle.std.proofs.Common.{◌≡◌, ℕ, ◌<◌, sym, ap, ◌∙◌, subst}
 use Rattle.std.proofs.lemmas.Map.Keys.{ge_from_not_lt}
+use mathlib.Core.Option.{none}
+use Rattle.wal_core.specs.Steps.{load_moment, view_behind}
 use Rattle.wal_core.specs.Views.{View}
 use Rattle.wal_rule.specs.SeatedPasses.{view_of}
+use Rattle.wal_rule.specs.Stepping.{Meets}
 use Rattle.wal_log.specs.Downs.{KnowsNoFault}
 use Rattle.wal_log.specs.PassLogs.{log_of_pass}
 use Rattle.wal_log.proofs.FlushLaws.{flushed_work, lt_from_is_lt, met_latest, met_since, met_told, met_word, told_is, told_view, told_work}
@@ -74,3 +77,23 @@ returns-then-lt-clause-stays g c =
       work = flushed_work c.load_flushed.result old (view_of c.load_flushed.new.self) is;
       hold = ap (λ (v : View). v.writing.hold) is;
     }
+
+-- ---- what was loaded
+
+pub returns-clause-loads : goal.returns-clause-loads
+returns-clause-loads g c =
+    let moment = c.load_moment-moment.result in
+    let first = view_is c.load_flushed.ensures.steps in record {
+      flushed_met = c.load_flushed.ensures.met;
+      moment_met = subst (λ (v : View). Meets v load_moment moment) first
+          c.load_moment-moment.ensures.met;
+      new_is = view_is c.load_moment-moment.ensures.steps
+          ∙ ap (λ (v : View). view_behind v load_moment moment none) first;
+    }
+
+pub returns-then-lt-clause-loads : goal.returns-then-lt-clause-loads
+returns-then-lt-clause-loads g c = record {
+  flushed = c.load_flushed.result;
+  met = c.load_flushed.ensures.met;
+  below = lt_from_is_lt c.load_flushed.result c.args.upto.0 (sym c.lt.ensures ∙ c.if-lt.true);
+}

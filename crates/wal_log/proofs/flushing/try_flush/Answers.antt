@@ -1,15 +1,17 @@
 use Rattle.std.specs.Prelude.{Err}
-use Rattle.std.proofs.Common.{ℕ, ap, sym, ◌∙◌}
+use Rattle.std.proofs.Common.{ℕ, ap, inl, sym, ◌∙◌}
 use Rattle.wal_core.specs.Steps.{IsResting}
 use Rattle.wal_core.specs.Views.{View}
 use Rattle.wal_rule.specs.SeatedPasses.{view_of}
 use Rattle.wal_log.specs.declared.fault.Fault.TheVariants.{Down}
 use Rattle.wal_log.specs.declared.flushing.TryFlushErr.TheVariants.{Fault}
+use Rattle.wal_log.specs.Flushing.{view_looked}
 use Rattle.wal_log.specs.PassLogs.{log_of_pass}
 use Rattle.wal_log.specs.Standing.{KeepsWork}
 use Rattle.wal_log.proofs.BeginLaws.{loaded_rests}
 use Rattle.wal_log.proofs.FlushLaws.{tried_behind}
 use Rattle.wal_log.proofs.Keeping.{down_met_keeps, further_pass, none_loaded, rested_on}
+use Rattle.wal_log.proofs.LookLaws.{tried_since}
 use Rattle.wal_log.proofs.Seated.{hand_is, view_is}
 use Rattle.wal_log.proofs.flushing.try_flush.Given.{Over}
 use Rattle.wal_log.proofs.flushing.try_flush.Goals as goal
@@ -80,3 +82,14 @@ returns-clause-rests g c =
         empty = c.try_up.ensures.rests.empty;
       };
     }
+
+pub returns-then-faults-ne0-clause-only_unflushed : goal.returns-then-faults-ne0-clause-only_unflushed
+returns-then-faults-ne0-clause-only_unflushed g c =
+    inl ((view_of c.args.seated.now).reserving.seen, view_is c.load_down-faults.ensures.steps)
+
+pub returns-clause-only_unflushed : goal.returns-clause-only_unflushed
+returns-clause-only_unflushed g c =
+    let load = view_is c.load_down-faults.ensures.steps in
+    tried_since c.args.upto.0 (view_of c.args.seated.now) (view_of c.load_down-faults.new.self)
+    (view_of c.try_up.new.seated) (λ down seen. ap (view_looked down seen) load) c.try_up.result
+    c.try_up.ensures.only_unflushed

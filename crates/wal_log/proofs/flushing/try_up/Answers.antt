@@ -1,4 +1,4 @@
-use Rattle.std.proofs.Common.{◌≡◌, ℕ, ◌<◌, ◌≤◌, ap, sym, subst, inl, ◌∙◌, arith}
+use Rattle.std.proofs.Common.{◌≡◌, ◌≤◌, ap, sym, subst, inl, inr, ◌∙◌, arith}
 use Rattle.std.proofs.lemmas.Map.Keys.{ge_from_not_lt}
 use Rattle.byte_position.proofs.EndAddresses.{end_address_of-mono}
 use Rattle.wal_core.specs.declared.setup.Setup.{Setup}
@@ -6,10 +6,12 @@ use Rattle.wal_core.specs.Words.{end_form}
 use Rattle.wal_core.specs.Views.{View}
 use Rattle.insert_locks.specs.Watching.{SeesPosition, with_sight}
 use Rattle.wal_rule.specs.SeatedPasses.{setup_of, view_of}
+use Rattle.wal_log.specs.Flushing.{view_looked}
 use Rattle.wal_log.specs.Standing.{HasNoTurn, WorksOn}
 use Rattle.wal_log.proofs.AddingNothing.{works_on}
 use Rattle.wal_log.proofs.FlushLaws.{lt_from_is_lt, told_behind, tried_behind}
 use Rattle.wal_log.proofs.Keeping.{both_up}
+use Rattle.wal_log.proofs.LookLaws.{found_unflushed, looked_is, told_at_once}
 use Rattle.wal_log.proofs.Seated.{own_setup, same_setup, seat_stays, valid_size, view_is}
 use Rattle.wal_log.proofs.Watched.{Watches, seen_leaves, still_no_turn, watches}
 use Rattle.wal_log.proofs.flushing.try_up.Given.{Over}
@@ -145,3 +147,30 @@ returns-clause-works g c =
     c.harden_copied.new.seated (before g path.After-told_already
     (seen g path.After-see_end))
     c.harden_copied.ensures.works
+
+-- ---- the flushed address is looked at first
+
+looked : (g : Over) (c : After-see_end g) → view_of c.see_end.new.seated
+    ≡ view_looked 0 (view_of c.see_end.new.seated).reserving.seen (view_of c.args.seated.now)
+looked g c = looked_is (view_of c.args.seated.now) (view_of c.see_end.new.seated)
+    (view_of c.see_end.new.seated).reserving.seen c.requires.up (view_is c.see_end.ensures.view)
+
+pub returns-then-lt-clause-only_unflushed : goal.returns-then-lt-clause-only_unflushed
+returns-then-lt-clause-only_unflushed g c = inl (
+  (view_of c.see_end.new.seated).reserving.seen,
+  looked g (goal.at.returns-then-lt-clause-only_unflushed g c).After-see_end,
+)
+
+pub returns-in-Some-clause-only_unflushed : goal.returns-in-Some-clause-only_unflushed
+returns-in-Some-clause-only_unflushed g c =
+    told_at_once c.args.upto.0 (view_of c.args.seated.now) (view_of c.see_end.new.seated)
+    (view_of c.see_end.new.seated).reserving.seen
+    (looked g (goal.at.returns-in-Some-clause-only_unflushed g c).After-see_end)
+    (view_of c.told_already.new.seated) c.in-Some.hard c.in-Some.ensures.loads
+
+pub returns-clause-only_unflushed : goal.returns-clause-only_unflushed
+returns-clause-only_unflushed g c = inr (found_unflushed c.args.upto.0
+    (view_of c.args.seated.now) (view_of c.see_end.new.seated)
+    (view_of c.see_end.new.seated).reserving.seen
+    (looked g (goal.at.returns-clause-only_unflushed g c).After-see_end)
+    c.in_default.ensures.loads)

@@ -8,7 +8,7 @@ use Rattle.wal_log.specs.declared.inserting.InsertErr.{InsertErr}
 use Rattle.wal_log.specs.declared.inserting.InsertErr.TheVariants.{Down}
 use Rattle.wal_log.specs.Inserting.{RefusesInsert}
 use Rattle.wal_log.specs.Standing.{ComesToRest, CopiesUnder}
-use Rattle.wal_log.proofs.InsertLaws.{receives, refuses}
+use Rattle.wal_log.proofs.InsertLaws.{receives, receives_only, refuses}
 use Rattle.wal_log.proofs.Keeping.{further_pass}
 use Rattle.wal_log.proofs.Seated.{same_setup}
 use Rattle.wal_log.proofs.inserting.insert_on.Given.{Over}
@@ -66,6 +66,17 @@ returns-in-Ok-clause-inserts g c =
     receives (setup_of c.args.seated.now) c.args.body.now (view_of c.args.seated.now)
     (view_of c.begin.new.seated) (view_of c.land_and_make_room.new.seated) c.in_ok-begun.begun begun
     c.begin.ensures.goes_on.keeps c.land_and_make_room.ensures.rests.keeps c.land_and_make_room.ensures.log lands.0 lands.1
+    (record { start = c.in_ok-begun.begun.start; end = c.in_ok-begun.begun.end }) refl refl
+
+pub returns-in-Ok-clause-alone : goal.returns-in-Ok-clause-alone
+returns-in-Ok-clause-alone g c = λ alone.
+    let begun = c.in_ok-begun.ensures.begins in
+    let lands = c.in-Ok.ensures.lands begun.place.entry begun.place.in_flight in
+    receives_only (setup_of c.args.seated.now) c.args.body.now (view_of c.args.seated.now)
+    (view_of c.begin.new.seated) (view_of c.land_and_make_room.new.seated) c.in_ok-begun.begun begun
+    c.begin.ensures.goes_on.keeps c.land_and_make_room.ensures.rests.keeps
+    c.land_and_make_room.ensures.log
+    (c.in-Ok.ensures.alone alone begun.place.entry begun.place.in_flight) lands.1
     (record { start = c.in_ok-begun.begun.start; end = c.in_ok-begun.begun.end }) refl refl
 
 pub returns-in-Err-clause-inserts : goal.returns-in-Err-clause-inserts

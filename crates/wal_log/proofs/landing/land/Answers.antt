@@ -12,7 +12,7 @@ use Rattle.wal_log.proofs.Keeping.{same_pass}
 use Rattle.wal_log.proofs.LandLaws.{copy_failed, landed_fault, landed_is_rest, landed_keeps, landed_log, landed_up}
 use Rattle.wal_log.proofs.Seated.{hand_is, view_is}
 use Rattle.wal_log.proofs.Unlocking.{locks_under, none_left, rested, rested_keeps, strands}
-use Rattle.wal_log.proofs.WholeLaws.{copies_whole}
+use Rattle.wal_log.proofs.WholeLaws.{copies_last, copies_whole}
 use Rattle.wal_log.proofs.landing.land.Given.{Over}
 use Rattle.wal_log.proofs.landing.land.Goals as goal
 use Rattle.wal_log.proofs.landing.land.Goals.{After-copy_whole}
@@ -71,6 +71,20 @@ returns-in-Ok-clause-lands g c =
           c.copy_whole.new.placed (view_of c.args.seated.now) v (view_of c.release.new.seated)
           copied.copies.under landed c.in-Ok.ensures.ends.1,
     )
+
+pub returns-in-Ok-clause-last : goal.returns-in-Ok-clause-last
+returns-in-Ok-clause-last g c =
+    let copied = c.copy_whole.ensures in
+    let v : View = view_of c.copy_whole.new.seated in
+    let landed : view_of c.release.new.seated ≡ rested v = view_is c.release.ensures.view in
+    λ (e : Entry) (flies : entry_in_flight (view_of c.args.seated.now) ≡ some e).
+    copies_last (setup_of c.copy_whole.new.seated) (locks_of c.args.held)
+    c.copy_whole.new.placed (view_of c.args.seated.now) v (view_of c.release.new.seated)
+    copied.copies.under c.copy_whole.new.seated.seated.stands
+    (all_copied g (goal.at.returns-in-Ok-clause-last g c).After-copy_whole
+    c.in-Ok.ensures.ends.0) e (copied.copies_on.entry ∙ flies)
+    copied.copies_on.goes_on.keeps
+    (subst (KeepsPass v) (sym landed) (rested_keeps v v (same_pass v))) landed
 
 pub returns-in-Ok-clause-log : goal.returns-in-Ok-clause-log
 returns-in-Ok-clause-log g c =

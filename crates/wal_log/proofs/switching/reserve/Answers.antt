@@ -1,77 +1,52 @@
-use Rattle.std.specs.Prelude.{Ok}
+use Rattle.std.specs.Prelude.{Ok, Err}
 use Rattle.std.proofs.Common.{subst}
 use Rattle.std.proofs.lemmas.Result.{err_from_is_err_and}
+use Rattle.std.specs.Prelude.{Result}
 use Rattle.wal_core.specs.declared.setup.Setup.{Setup}
 use Rattle.wal_rule.specs.SeatedPasses.{setup_of, view_of}
-use Rattle.reserve_lock.specs.Reserved.{TellsWhy, every_lock}
-use Rattle.reserve_lock.specs.declared.reserving.ReserveErr.{ReserveErr}
-use Rattle.wal_log.specs.Downs.{KnowsNoFault}
-use Rattle.wal_log.specs.Switching.{AnswersPlace, HoldsOn}
-use Rattle.wal_log.proofs.BeginLaws.{up_in_vain}
+use Rattle.reserve_lock.specs.Reserved.{every_lock}
+use Rattle.reserve_lock.specs.declared.switching.SwitchTry.{SwitchTry}
+use Rattle.wal_log.specs.declared.switching.SwitchErr.{SwitchErr}
+use Rattle.wal_log.specs.Switching.{AnswersPlace}
 use Rattle.wal_log.proofs.Seated.{same_setup}
-use Rattle.wal_log.proofs.SwitchLaws.{busy_holds, down_no_place, down_since, further_holds, place_since, place_told}
+use Rattle.wal_log.proofs.SwitchLaws.{further_holds, place_since}
 use Rattle.wal_log.proofs.switching.reserve.Given.{Over}
 use Rattle.wal_log.proofs.switching.reserve.Goals as goal
-use Rattle.wal_log.proofs.switching.reserve.Goals.{After-look_down}
+use Rattle.wal_log.proofs.switching.reserve.Goals.{After-reserve_or_wait}
 
-pub returns-in-Ok-clause-reserves : goal.returns-in-Ok-clause-reserves
-returns-in-Ok-clause-reserves g c =
-    let old = view_of c.args.seated.now in
-    let between = view_of c.loop.seated in
-    let new = view_of c.try_reserve_switch.new.seated in
-    let holds = c.loop.invariant.holds in
-    let body = c.args.body.now in
-    place_since (setup_of c.args.seated.now) body old between new holds.goes_on.keeps holds.log_is
-    c.loop.invariant.up (Ok c.in-Ok.tried)
-    (subst (λ (s : Setup). AnswersPlace s body between (Ok c.in-Ok.tried) new)
-    (same_setup c.args.seated.now c.loop.seated holds.goes_on.stays.same_table)
-    (place_told (setup_of c.loop.seated) body between new c.in-Ok.tried c.in-Ok.ensures.answers
-    holds.has c.loop.invariant.up))
+-- what the last try told, of the pass before the first
+module _ (g : Over) (c : After-reserve_or_wait g) where
+  since : (r : Result SwitchTry SwitchErr)
+      → AnswersPlace (setup_of c.loop.seated) c.args.body.now (view_of c.loop.seated) r
+      (view_of c.reserve_or_wait.new.seated)
+      → AnswersPlace (setup_of c.args.seated.now) c.args.body.now (view_of c.args.seated.now) r
+      (view_of c.reserve_or_wait.new.seated)
+  since r told =
+      let holds = c.loop.invariant.holds in
+      let between = view_of c.loop.seated in
+      let new = view_of c.reserve_or_wait.new.seated in
+      place_since (setup_of c.args.seated.now) c.args.body.now (view_of c.args.seated.now) between
+      new holds.goes_on.keeps holds.log_is c.loop.invariant.up r
+      (subst (λ (s : Setup). AnswersPlace s c.args.body.now between r new)
+      (same_setup c.args.seated.now c.loop.seated holds.goes_on.stays.same_table) told)
 
--- the position was busy
-module _ (g : Over) (c : After-look_down g) where
-  why : TellsWhy (setup_of c.loop.seated) c.args.body.now (view_of c.loop.seated)
-      (view_of c.try_reserve_switch.new.seated) c.in-Err-Busy.field-0
-  why = c.in-Err-Busy.ensures.why
+pub returns-in-Some-2-clause-reserves : goal.returns-in-Some-2-clause-reserves
+returns-in-Some-2-clause-reserves g c =
+    since g (goal.at.returns-in-Some-2-clause-reserves g c).After-reserve_or_wait
+    (Ok c.in-Some-2.tried) (rw c.in-Some-2.is at c.in_ok-tried.ensures.reserves)
 
-  tried_up : KnowsNoFault (view_of c.try_reserve_switch.new.seated)
-  tried_up = up_in_vain (setup_of c.loop.seated) c.args.body.now (view_of c.loop.seated)
-      (view_of c.try_reserve_switch.new.seated) c.loop.invariant.up c.in-Err-Busy.field-0 why
-
-  tried : HoldsOn every_lock c.args.seated.now c.try_reserve_switch.new.seated
-  tried = further_holds c.args.seated.now c.loop.seated c.try_reserve_switch.new.seated every_lock
-      every_lock c.loop.invariant.holds
-      (busy_holds c.loop.seated c.try_reserve_switch.new.seated (setup_of c.loop.seated)
-      c.args.body.now _ c.try_reserve_switch.ensures.stays
-      (subst (λ (e : ReserveErr). TellsWhy (setup_of c.loop.seated) c.args.body.now
-      (view_of c.loop.seated) (view_of c.try_reserve_switch.new.seated) e)
-      c.in-Err-Busy.field-0-is why) c.loop.invariant.holds.has)
-
-  looked : HoldsOn every_lock c.args.seated.now c.look_down.new.seated
-  looked = further_holds c.args.seated.now c.try_reserve_switch.new.seated c.look_down.new.seated
-      every_lock every_lock tried (c.look_down.ensures.holds every_lock tried.has)
-
-pub returns-in_err-look_down-in-Err-Busy-clause-reserves : goal.returns-in_err-look_down-in-Err-Busy-clause-reserves
-returns-in_err-look_down-in-Err-Busy-clause-reserves g c =
-    let at = (goal.at.returns-in_err-look_down-in-Err-Busy-clause-reserves g c).After-look_down in
+pub returns-in_err-tried-clause-reserves : goal.returns-in_err-tried-clause-reserves
+returns-in_err-tried-clause-reserves g c =
     let p = err_from_is_err_and c.from_residual.result c.from_residual.ensures.1 in
-    let e = c.in_err-look_down-in-Err-Busy.field-0.0 in
-    rw (p.1, p.2) (
-      down_no_place (setup_of c.args.seated.now) c.args.body.now (view_of c.args.seated.now)
-          (view_of c.look_down.new.seated) (looked g at).log_is e
-          (down_since (view_of c.args.seated.now) (view_of c.try_reserve_switch.new.seated)
-          (view_of c.look_down.new.seated) (tried g at).goes_on.keeps (tried_up g at) e
-          c.in_err-look_down-in-Err-Busy.ensures.looks),
-      (looked g at).has,
-    )
-
-pub returns-in_err-look_down-in-Err-Busy-clause-goes_on : goal.returns-in_err-look_down-in-Err-Busy-clause-goes_on
-returns-in_err-look_down-in-Err-Busy-clause-goes_on g c = (looked g
-    (goal.at.returns-in_err-look_down-in-Err-Busy-clause-goes_on g c).After-look_down).goes_on
+    rw (p.1, p.2) (since g
+    (goal.at.returns-in_err-tried-clause-reserves g c).After-reserve_or_wait
+    (Err c.in_err-tried.field-0.0) c.in_err-tried.ensures.reserves)
 
 pub loop-preserved : goal.loop-preserved
-loop-preserved g c = record {
-  goes_on = (tt, tt);
-  holds = looked g (goal.at.loop-preserved g c).After-look_down;
-  up = c.in_ok-look_down-in-Err-Busy.ensures.looks;
-}
+loop-preserved g c =
+    let waits = rw c.in_default.is at c.in_ok-tried.ensures.reserves in record {
+      goes_on = (tt, tt);
+      holds = further_holds c.args.seated.now c.loop.seated c.reserve_or_wait.new.seated
+          every_lock every_lock c.loop.invariant.holds waits.0;
+      up = waits.1;
+    }

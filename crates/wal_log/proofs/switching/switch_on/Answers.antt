@@ -61,7 +61,7 @@ returns-in_err-take_all-clause-switches g c =
     let told = c.in_err-take_all.ensures.takes in
     rw (p.1, p.2) (no_place_refuses setup c.args.body.now old new e
     (down_no_place setup c.args.body.now old new (told.0.log_is ∙ first.log_is) e
-    (down_since old mid new first.goes_on.keeps c.in_ok-look_down.ensures.looks e told.1)))
+    (down_since old mid new first.goes_on.keeps c.in_ok-look_down.ensures.looks.0 e told.1)))
 
 pub returns-in_err-take_all-clause-down_again : goal.returns-in_err-take_all-clause-down_again
 returns-in_err-take_all-clause-down_again g c = λ faults knows. absurd

@@ -4,7 +4,7 @@ use Rattle.wal_core.specs.declared.setup.Setup.{Setup}
 use Rattle.wal_rule.specs.Downs.{KnowsDown}
 use Rattle.wal_rule.specs.Passes.{view_of_pass}
 use Rattle.wal_rule.specs.SeatedPasses.{setup_of, view_of}
-use Rattle.wal_log.specs.Flushing.{AnswersFlushTry, try_flush_err_known_down}
+use Rattle.wal_log.specs.Flushing.{AnswersFlushTry, TriesOnlyUnflushed, try_flush_err_known_down}
 use Rattle.wal_log.specs.Logs.{setup_of_log}
 use Rattle.wal_log.specs.Standing.{KeepsPass}
 use Rattle.wal_log.proofs.Passing.{answered, numbers_back, seated_rests, still_pass}
@@ -56,3 +56,9 @@ returns-clause-pass g c = still_pass c.args.self.now c.args.pass.now c.seat-seat
     c.seat-seated.ensures.view c.try_flush-answer.new.seated c.try_flush-answer.ensures.rests
     c.seat-seated.ensures.table c.put_back.new.self c.put_back.ensures.view
     c.put_back.ensures.pass
+
+pub returns-clause-only_unflushed : goal.returns-clause-only_unflushed
+returns-clause-only_unflushed g c =
+    answered_so g (goal.at.returns-clause-only_unflushed g c).After-put_back
+    (λ setup old new. TriesOnlyUnflushed c.args.upto.0 old c.try_flush-answer.result new)
+    c.try_flush-answer.ensures.only_unflushed
