@@ -40,6 +40,7 @@ use Rattle.run_laws.specs.Assured.{HoldsSuited, RunAssures, TapeGoesOn, order_to
 use Rattle.reopened_log.specs.Reopened.{IsReopenedOn}
 use Rattle.reopened_log.specs.WasLeft.{WasLeft}
 use Rattle.reopened_log.proofs.FirstEntries.{left_logs_are_read}
+use Rattle.reopened_log.proofs.StoppedCrashes.{settled_logs_keep_what_was_found}
 use Rattle.reopened_log.proofs.SuitedDisks.{reopened_logs_are_suited}
 use Rattle.reopened_log.proofs.Surviving.{reopened_logs_survive_crashes}
 use Rattle.backend_lanes.specs.Backends.{lists_of}
@@ -157,6 +158,17 @@ module _ {D : Type 0} (tape : D → Option Tape) (moment faults : D → ℕ) (di
               (began_of_table tape (table_of wal)) (moment disk) (opening_of_log wal).moment) told
               settled);
         }
+
+  -- up to the opening the reader finds just what was found, from the end of the first syncs on
+  keeps_all : IsSegmentSize size → (m : ℕ) (records : List FoundRecord)
+      → FoundSinceHanded size (moment disk) [] (tape disk) began m records
+      → moment disk + opened.made ≤ m → records ≡ found_of size opened.es
+  keeps_all valid m records c after =
+      let decodes = (finding_is_decoding options.geometry c.image options.geometry valid
+      records).0 c.finds in
+      let there = on_disk c.old c.tape c.told_before c.disk_tells c.found_before c.was_left in
+      settled_logs_keep_what_was_found opening (moment disk) c.old c.tape c.found_before there m
+      c.image after c.left c.no_torn_pass_before records decodes.0 decodes.1 ∙ sym there.found_is
 
   suited_from : (old now : Option Tape) → tape disk ≡ old → began ≡ now → TapeGoesOn old now
       → WasLeftSo size old → HoldsSuited opening now
@@ -276,10 +288,13 @@ module _ {D : Type 0} (tape : D → Option Tape) (moment faults : D → ℕ) (di
         ++ printed_text options.list played_out.backends concluded.summary in
         record {
           headline = headline;
+          judged = opened.read;
+          within = openable.made_within;
           began = began;
           moment = at;
           settled = settled;
           goes_on = all.goes_on;
+          keeps_all = keeps_all valid;
           behind = holds_behind tape moment faults wal began opening opened.opening refl
               (omega arith) reopened_counted script played_out.backends played_out.closed
               played_out.played sunk sink_faults out out_now before after disk refl goes_on

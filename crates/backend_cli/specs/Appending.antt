@@ -15,7 +15,7 @@ use Rattle.wal_reader.specs.Finds.{FindsRecords}
 use Rattle.wal_reader.specs.Pages.{pages_in}
 use Rattle.written_log.specs.Torn.{NoTornPass}
 use Rattle.written_log.specs.Written.{found_of}
-use Rattle.found_log.specs.Found.{HasBegunToSettle, RefusesLog}
+use Rattle.found_log.specs.Found.{HasBegunToSettle, IsFound, RefusesLog}
 use Rattle.found_log.specs.declared.fault.FindFault.TheVariants as finding
 use Rattle.wal_rule.specs.Founded.{found_log_opening}
 use Rattle.wal_script.specs.Asked.{AskedLine}
@@ -99,6 +99,23 @@ pub record PrintsNothing (outside : Outside) : Type 0 where
   pub nothing_printed : outside.taken_after ≡ outside.taken_before
   pub sink_faults_same : outside.sink_after ≡ outside.sink_before
 
+-- the disk failed while the log was settled that was found there: a front of the calls was made.
+-- Whatever a crash leaves since the disk was handed in, the reader finds a front of what was found,
+-- and all of it from the end of the first syncs on, if each segment that was there was synced
+pub record StopsSettling (size cap : ℕ) (outside : Outside) : Type 0 where
+  pub begun : HasBegunToSettle size system_id cap outside.tape_before outside.tape_after
+      outside.moment_before outside.moment_after
+  pub crash : (moment : ℕ) (records : List FoundRecord)
+      → (c : FoundSinceHanded size outside.moment_before [] outside.tape_before
+      outside.tape_after moment records)
+      → (behind : List FoundRecord) × (c.found_before ≡ records ++ behind)
+  pub keeps_found : (moment : ℕ) (records : List FoundRecord)
+      → (c : FoundSinceHanded size outside.moment_before [] outside.tape_before
+      outside.tape_after moment records)
+      → (segments : ℕ) → AreAllThere size (state_now c.old) segments
+      → segments ≤ length (begun.stopped.calls).front → outside.moment_before + segments ≤ moment
+      → records ≡ c.found_before
+
 -- how a run ends that did not open the log with which it was to go on, and why; it ends in no other
 -- way. No counted call of the disk is made, but where the disk fails while the log is settled
 abbrev pub EndsUnappended : ScriptRunOptions → Outside → Outcome → Type 0
@@ -125,8 +142,7 @@ EndsUnappended options outside DiskFault =
     MeansSome options.writer outside × Rose outside.disk_before outside.disk_after
     × (IsUntouched outside
     ⊎ (PrintsNothing outside
-    × HasBegunToSettle options.run.geometry system_id options.run.cap_segments
-    outside.tape_before outside.tape_after outside.moment_before outside.moment_after))
+    × StopsSettling options.run.geometry options.run.cap_segments outside))
 EndsUnappended options outside others = ⊥
 
 -- this program left the disk so, crashed or not, where it tells what it holds
@@ -139,6 +155,13 @@ pub record HoldsAppended (outside : Outside) (options : RunOptions) (outcome : O
     (script : List (List AskedLine)) (lists : List (List Told)) : Type 0 where
   pub headline : AppendHeadline options.geometry outside.moment_before script lists
       outside.tape_before outside.tape_after
+  -- the log was opened, so there was no reason to refuse it: the segment behind the last one
+  -- allowed was not there, what stands behind the records that were found this program may have
+  -- left, and the first page has its system id, where there is a record
+  pub judged : IfSome outside.tape_before (IsFound options.geometry system_id options.cap_segments
+      headline.found headline.segments)
+  -- and no more segments were there than are allowed
+  pub within : headline.segments ≤ options.cap_segments
   -- the log was settled: then the disk told this, and had this moment, and the log was opened
   pub began : Option Tape
   pub moment : ℕ
@@ -146,6 +169,13 @@ pub record HoldsAppended (outside : Outside) (options : RunOptions) (outcome : O
       (end_address_of options.geometry (end_position options.geometry headline.found))
       headline.segments outside.tape_before began outside.moment_before moment
   pub goes_on : TapeGoesOn began outside.tape_after
+  -- up to then, from the end of the first syncs on, the reader finds just what was found, whatever
+  -- a crash leaves
+  pub keeps_all : (at : ℕ) (records : List FoundRecord)
+      → FoundSinceHanded options.geometry outside.moment_before [] outside.tape_before began at
+      records
+      → outside.moment_before + headline.segments ≤ at
+      → records ≡ found_of options.geometry headline.found
   pub behind : HoldsBehind (found_log_opening (run_setup options (length script)) headline.found
       headline.segments moment outside.disk_before) (WasLeftSo options.geometry outside.tape_before)
       outside outcome script lists

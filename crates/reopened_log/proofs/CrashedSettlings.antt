@@ -42,16 +42,31 @@ module _ (size sysid : ℕ) (t : Tape) (found : List FoundRecord) (left : WasLef
       TapeAssures-now size (IsAmong left.count) (IsOldOrZero size (state_now t) end) (length t.calls) t refl
       (old_assures size end left.count left.has_found.may.valid (state_now t) left.whole (there size sysid t found left))
 
-  -- the calls of a settling were, or some of them
-  settling_stays : (cap handed count : ℕ) (log : FoundLog) (now : Tape) → FindsLog size sysid cap (Some t) log → AreAllThere size (state_now t) count → KeepsOld size (state_now t) count log.spelled.end.0 handed now → StaysOld handed now
-  settling_stays cap handed count log now finds counts keeps =
-      let before = state_now t in
-      let some : 0 < pages_of size = omega (arith, (segment_size_in_pages size left.has_found.may.valid).1) in
-      let same = same_count size count left.count (IsZeroOrLogWord size sysid left.order) before (2 ^ 60 / size) some left.has_found.may.lawful left.only left.low counts.there counts.others in
-      subst (λ (n : ℕ). KeepsOld size before n (end_behind size found) handed now) (sym same)
-      (subst (λ (n : ℕ). KeepsOld size before count n handed now) (end_of_log size sysid t found left cap log finds) keeps)
+  -- as many segments are there as were counted
+  pub same_segments : (count : ℕ) → AreAllThere size (state_now t) count → left.count ≡ count
+  same_segments count counts =
+      let some : 0 < pages_of size =
+      omega (arith, (segment_size_in_pages size left.has_found.may.valid).1) in
+      same_count size count left.count (IsZeroOrLogWord size sysid left.order) (state_now t)
+      (2 ^ 60 / size) some left.has_found.may.lawful left.only left.low counts.there counts.others
 
-  stopped_stays : (cap handed last : ℕ) (now : Tape) → handed ≡ length t.calls → HasBegunToSettle size sysid cap (Some t) (Some now) handed last → StaysOld handed now
+  -- what settling keeps of these segments up to where the log was found to end, it keeps of those
+  -- that are there up to the end of these records
+  pub settling_keeps : (Keeps : (count end : ℕ) → Type 0) (cap count : ℕ) (log : FoundLog)
+      → FindsLog size sysid cap (Some t) log → AreAllThere size (state_now t) count
+      → Keeps count log.spelled.end.0 → Keeps left.count (end_behind size found)
+  settling_keeps Keeps cap count log finds counts keeps =
+      subst (λ (n : ℕ). Keeps n (end_behind size found)) (sym (same_segments count counts))
+      (subst (Keeps count) (end_of_log size sysid t found left cap log finds) keeps)
+
+  -- the calls of a settling were, or some of them
+  settling_stays : (cap handed count : ℕ) (log : FoundLog) (now : Tape)
+      → FindsLog size sysid cap (Some t) log → AreAllThere size (state_now t) count
+      → KeepsOld size (state_now t) count log.spelled.end.0 handed now → StaysOld handed now
+  settling_stays cap handed count log now =
+      settling_keeps (λ n end. KeepsOld size (state_now t) n end handed now) cap count log
+
+  pub stopped_stays : (cap handed last : ℕ) (now : Tape) → handed ≡ length t.calls → HasBegunToSettle size sysid cap (Some t) (Some now) handed last → StaysOld handed now
   stopped_stays cap handed last now counted begun =
       let stops = begun.stopped in
       elim stops.there [

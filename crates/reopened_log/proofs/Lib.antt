@@ -8,6 +8,7 @@ pub mod CutWrites
 pub mod SettlingCalls
 pub mod StoppedSettlings
 pub mod CrashedSettlings
+pub mod StoppedCrashes
 pub mod LeftRuns
 pub mod StoppedRuns
 pub mod EmptyDisks

@@ -72,7 +72,7 @@ module _ (opening : Opening) (handed : ℕ) (t began : Tape) (found : List Found
   old = subst (λ (n : ℕ). KeepsOld size (before opening handed t began found r) n (end_behind size found) handed began) (sym (count_is opening handed t began found r))
       (subst (λ (n : ℕ). KeepsOld size (before opening handed t began found r) opening.made n handed began) (sym (end_is opening handed t began found r)) (keeps_old opening handed t began found r))
 
-  read : KeepsRead (opening.setup).segment_size (before opening handed t began found r) r.left.count (end_behind (opening.setup).segment_size found) (handed + opening.made) began
+  pub read : KeepsRead (opening.setup).segment_size (before opening handed t began found r) r.left.count (end_behind (opening.setup).segment_size found) (handed + opening.made) began
   read = subst (λ (n : ℕ). KeepsRead size (before opening handed t began found r) n (end_behind size found) (handed + opening.made) began) (sym (count_is opening handed t began found r))
       (subst (λ (n : ℕ). KeepsRead size (before opening handed t began found r) opening.made n (handed + opening.made) began) (sym (end_is opening handed t began found r)) (keeps_read opening handed t began found r))
 

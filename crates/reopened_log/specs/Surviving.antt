@@ -1,19 +1,22 @@
 -- What crashes leave of a log that was reopened, and that a run went on with.
-use Rattle.std.specs.Prelude.{◌≡◌, ℕ, ◌+◌, ◌≤◌, List, length, take, Some, None}
+use Rattle.std.specs.Prelude.{◌≡◌, ℕ, ◌+◌, ◌≤◌, List, ◌++◌, length, take, Some, None}
 use Rattle.segment_disk.specs.DiskImage.{DiskImage, LeftAt}
-use Rattle.segment_disk.specs.Tape.{Tape}
+use Rattle.segment_disk.specs.Tape.{Tape, state_now}
+use Rattle.flush_core.specs.Settled.{AreAllThere}
 use Rattle.wal_reader.specs.declared.found.Answer.{Answer}
 use Rattle.wal_reader.specs.declared.found.FoundRecord.{FoundRecord}
 use Rattle.wal_reader.specs.Pages.{pages_in}
 use Rattle.wal_reader.specs.Decodes.{Decodes}
 use Rattle.written_log.specs.Torn.{NoTornPass}
 use Rattle.written_log.specs.Written.{found_of}
+use Rattle.found_log.specs.Found.{HasBegunToSettle}
 use Rattle.wal_script.specs.Asked.{AskedLine}
 use Rattle.told_lines.specs.declared.told.Told.{Told}
 use Rattle.told_lines.specs.Crash.{IsFrontWithTold}
 use Rattle.wal_core.specs.Words.{Opening}
 use Rattle.run_laws.specs.Assured.{RunAssures, order_told}
 use Rattle.reopened_log.specs.Reopened.{IsReopenedOn}
+use Rattle.reopened_log.specs.WasLeft.{WasLeft}
 
 -- whatever a crash leaves since the disk was handed in, if no torn record passes its CRC there, of
 -- the log that the disk was left with and of the one that a run went on with: it decodes to a front
@@ -37,3 +40,34 @@ ReopenedLogsSurviveCrashes =
     told
     × (handed + opening.made ≤ moment
     → take (length opening.found) told ≡ found_of (opening.setup).segment_size opening.found)
+
+-- whatever a crash leaves of a disk that this program left, at any moment since it was handed in,
+-- where a call of it failed while its log was settled: if no torn record passes its CRC there, it
+-- decodes to a front of what was found, and to all of it from the end of the first syncs on, if
+-- each segment that was there was synced. `now` is the tape behind the failed call
+abbrev pub StoppedSettlingsSurviveCrashes : Type 0
+StoppedSettlingsSurviveCrashes =
+    (size sysid cap handed last : ℕ) (t now : Tape) (found : List FoundRecord)
+    → (left : WasLeft size sysid t found) → handed ≡ length t.calls
+    → (begun : HasBegunToSettle size sysid cap (Some t) (Some now) handed last)
+    → (moment : ℕ) (image : DiskImage) → handed ≤ moment → LeftAt now moment image
+    → NoTornPass size (pages_in size image) left.order
+    → (told : List FoundRecord) (answer : Answer)
+    → Decodes size (pages_in size image) size None told answer
+    → ((behind : List FoundRecord) × (found ≡ told ++ behind))
+    × ((segments : ℕ) → AreAllThere size (state_now t) segments
+    → segments ≤ length (begun.stopped.calls).front → handed + segments ≤ moment → told ≡ found)
+
+-- .. and where it was settled: up to the opening's moment it decodes to just what was found
+abbrev pub SettledLogsKeepWhatWasFound : Type 0
+SettledLogsKeepWhatWasFound =
+    (opening : Opening) (handed : ℕ) (t began : Tape) (found : List FoundRecord)
+    → (reopened : IsReopenedOn opening handed t began found)
+    → (moment : ℕ) (image : DiskImage) → handed + opening.made ≤ moment
+    → LeftAt began moment image
+    → NoTornPass (opening.setup).segment_size (pages_in (opening.setup).segment_size image)
+    (reopened.left).order
+    → (told : List FoundRecord) (answer : Answer)
+    → Decodes (opening.setup).segment_size (pages_in (opening.setup).segment_size image)
+    (opening.setup).segment_size None told answer
+    → told ≡ found

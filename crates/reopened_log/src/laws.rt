@@ -20,7 +20,11 @@ ghost use Rattle.reopened_log.specs.Stopped.{
   CompletedSettlingsWereLeft,
 };
 ghost use Rattle.reopened_log.specs.StopsAt.{TapesStopAtTheirEnds};
-ghost use Rattle.reopened_log.specs.Surviving.{ReopenedLogsSurviveCrashes};
+ghost use Rattle.reopened_log.specs.Surviving.{
+  ReopenedLogsSurviveCrashes,
+  SettledLogsKeepWhatWasFound,
+  StoppedSettlingsSurviveCrashes,
+};
 
 /// A law: nobody's entries whose records were found of a log are the log's first entries but for
 /// their passes, and give it the same words. Of a disk that was left so there is one list of
@@ -40,6 +44,13 @@ pub fn reopened_logs_are_suited()
 /// in.
 pub fn reopened_logs_survive_crashes()
     ensures { ReopenedLogsSurviveCrashes }
+{}
+
+/// A law: what crashes leave while the log is settled. It decodes to a front of what was found, and
+/// to all of it from the end of the first syncs on, also where the disk failed in between.
+pub fn settled_logs_survive_crashes()
+    ensures stopped { StoppedSettlingsSurviveCrashes }
+    ensures settled { SettledLogsKeepWhatWasFound }
 {}
 
 /// A law: what a crash leaves of a disk that this program left is again such a disk, with the same

@@ -65,7 +65,8 @@ returns-in-Err g c = λ before after script means ready.
     let tells = subst (λ (s : Setup). TellsReopenFault tape moment faults s c.args.disk
     c.in-Err.fault.disk c.in-Err.fault.kind) of_script c.in-Err.ensures.refused in
     let holds = unappended_holds tape moment faults options (length script) can_be c.args.disk
-    c.in-Err.fault.disk sunk sink_faults out before after script means c.in-Err.fault.kind tells in
+    c.in-Err.fault.disk c.calls_are_counted.ensures sunk sink_faults out before after script means
+    c.in-Err.fault.kind tells in
     subst (λ (d : _). AppendHolds (outside_of before after tape moment faults c.args.disk d sunk
     sink_faults out out) options c.unopened.result.outcome c.unopened.result.told)
     (sym c.unopened.ensures.disk)
