@@ -1,6 +1,7 @@
 #!/usr/bin/env bash
 # Tries the built program where `rt ci` cannot: standard streams that are closed, two runs side by
-# side in one folder, names that are in the way, what a run leaves in its folder, and little memory.
+# side in one folder, names that are in the way, segments that were lost or cut or cannot be opened,
+# what a run leaves in its folder, and little memory.
 #
 #     tests/program.sh            tries what the launcher ./pgwal starts
 #     tests/program.sh PROGRAM    tries another build
@@ -30,6 +31,28 @@ commits() {
 
 # transactions: those whose commits the log lists, in a line
 transactions() { dump | sed -n 's/.* tx: *\([0-9]*\),.*COMMIT.*/\1/p' | xargs; }
+
+# ends_with NAME STATUS WORD..: a command by these words, with the file `in` as its input, ends so,
+# tells nothing durable, and leaves the files of the folder as they were
+ends_with() {
+  local name=$1 status=$2
+  shift 2
+  find pg_wal -type f -exec sha256sum {} + | sort >before
+  "$@" --seg $size <in >out 2>err
+  equal "$name: the status" $? "$status"
+  equal "$name: nothing is told hard" "$(grep -c hard out)" 0
+  find pg_wal -type f -exec sha256sum {} + | sort | cmp -s before -
+  equal "$name: the files are as they were" $? 0
+}
+
+# plainly WORD..: a command of whose user files ask permission, also where that is root
+plainly() {
+  if [ "$(id -u)" = 0 ]; then
+    setpriv --bounding-set -dac_override,-dac_read_search "$@"
+  else
+    "$@"
+  fi
+}
 
 said_in_the_log() { grep -aqE 'records|hard|pgwal' pg_wal/* && echo said || echo silent; }
 
@@ -97,6 +120,101 @@ a_pipe_in_a_segments_place_is_a_fault() {
   timeout 20 "$program" dump --seg $size >out 2>err
   equal 'a pipe for a segment: a listing ends with a fault of the disk' $? 4
   equal 'a pipe for a segment: it prints nothing' "$(cat out)" ''
+}
+
+# three_segments: a log of a commit in each of three segments, its frames beside it, and one commit
+# more as the file `in`
+three_segments() {
+  fresh
+  printf 'C 1 0\nW\nC 2 0\nW\nC 3 0\n' | run >out
+  send >frames
+  commits 9 1 >in
+}
+
+a_lost_segment_is_not_made_again() {
+  three_segments
+  rm pg_wal/000000010000000000000002
+  ends_with 'segment 2 lost: a run that goes on' 4 "$program" run --append --list
+  equal 'segment 2 lost: its first commit' "$(transactions)" 1
+  cp frames in
+  ends_with 'segment 2 lost: a copy' 4 "$program" receive
+  three_segments
+  rm $segment
+  ends_with 'segment 1 lost: a run' 4 "$program" run --list
+  ends_with 'segment 1 lost: a run of made lines' 4 "$program" gen 10
+  ends_with 'segment 1 lost: a run that goes on' 4 "$program" run --append --list
+  cp frames in
+  ends_with 'segment 1 lost: a copy' 4 "$program" receive
+  ends_with 'segment 1 lost: a listing' 0 "$program" dump
+  equal 'segment 1 lost: a listing prints nothing' "$(cat out)" ''
+  ends_with 'segment 1 lost: a listing from segment 2 on' 0 "$program" dump --start 0/00200000
+  equal 'segment 1 lost: a listing from segment 2 on prints' "$(grep -c COMMIT out)" 2
+}
+
+a_cut_segment_is_not_gone_on_with() {
+  local number
+  for number in 1 3; do
+    three_segments
+    truncate -s 500000 pg_wal/00000001000000000000000$number
+    ends_with "segment $number cut: a run that goes on" 4 "$program" run --append --list
+    ends_with "segment $number cut: a log is sent" 4 "$program" send
+    ends_with "segment $number cut: a run" 9 "$program" run --list
+    cp frames in
+    ends_with "segment $number cut: a copy" 4 "$program" receive
+  done
+  ends_with 'segment 3 cut: a listing' 0 "$program" dump
+  equal 'segment 3 cut: a listing prints' "$(grep -c COMMIT out)" 3
+}
+
+# What cannot be opened is not taken for a segment that is not there.
+a_segment_that_cannot_be_opened_is_a_fault() {
+  local words all=('run --list' 'run --append --list' 'gen 10' receive dump redo send)
+  three_segments
+  chmod 000 $segment
+  for words in "${all[@]}"; do
+    ends_with "no permission for a segment: $words" 4 plainly "$program" $words
+  done
+  chmod 600 $segment
+  chmod 000 pg_wal
+  for words in "${all[@]}"; do
+    plainly "$program" $words --seg $size <in >out 2>err
+    equal "no permission for the folder: $words" $? 4
+  done
+  chmod 700 pg_wal
+  # Its streams, the folder, and no file more.
+  for words in 'run --list' 'run --append --list' 'gen 10' receive send; do
+    ends_with "too many open files: $words" 4 prlimit --nofile=4 "$program" $words
+  done
+  rm $segment
+  ln -s 000000010000000000000001 $segment
+  for words in "${all[@]}"; do
+    ends_with "a loop of links: $words" 4 "$program" $words
+  done
+  rm $segment
+  mkdir $segment
+  for words in "${all[@]}"; do
+    ends_with "a folder for a segment: $words" 4 "$program" $words
+  done
+  fresh
+  echo mine >pg_wal
+  : >in
+  for words in "${all[@]}"; do
+    ends_with "a file for the folder: $words" 4 "$program" $words
+  done
+}
+
+a_folder_that_cannot_be_written_is_a_fault() {
+  fresh
+  mkdir pg_wal
+  chmod 500 pg_wal
+  commits 9 1 >in
+  ends_with 'a folder that cannot be written: a run' 4 plainly "$program" run --list
+  chmod 700 pg_wal
+  printf 'C 1 0\nW\n' | run >out
+  chmod 500 pg_wal
+  ends_with 'a folder that cannot be written: a run that goes on' 4 \
+    plainly "$program" run --append --list
+  chmod 700 pg_wal
 }
 
 two_runs_in_one_folder() {
@@ -253,6 +371,10 @@ a_replay_lists_what_its_crash_leaves
 closed_streams_fail
 full_output_fails
 a_pipe_in_a_segments_place_is_a_fault
+a_lost_segment_is_not_made_again
+a_cut_segment_is_not_gone_on_with
+a_segment_that_cannot_be_opened_is_a_fault
+a_folder_that_cannot_be_written_is_a_fault
 two_runs_in_one_folder
 a_locked_folder_keeps_writers_out
 names_in_the_way

@@ -41,7 +41,7 @@ pub struct Folder<R: Files> {
     name: String,
     // The folder, as a writer has it open and locked.
     locked: Option<R::File>,
-    // Room for two paths, so that no call but the first takes memory.
+    // Room for two paths, so that no call takes memory but the first and those that make a segment.
     path: String,
     temporary: String,
     zeros: Vec<u8>,
@@ -64,6 +64,16 @@ fn is_temporary(name: &str) -> bool {
 
 fn is_number(digits: &str) -> bool {
     !digits.is_empty() && digits.bytes().all(|digit| digit.is_ascii_digit())
+}
+
+// Whether a name is that of a segment behind this one, of the same timeline.
+fn is_later(name: &[u8], segment: &[u8; 24]) -> bool {
+    name.len() == segment.len()
+        && name[..8] == segment[..8]
+        && name > &segment[..]
+        && name
+            .iter()
+            .all(|digit| matches!(*digit, b'0'..=b'9' | b'A'..=b'F'))
 }
 
 fn join(path: &mut String, folder: &str, name: &str) -> Result<(), AllocError> {
@@ -177,7 +187,7 @@ where
     }
 }
 
-impl<R: Files> Folder<R> {
+impl<R: Files + Alloc + Clone + Drop> Folder<R> {
     /// Hands on the answer of a call after whose failure nothing may answer Ok.
     pub fn noted(&mut self, answer: io::Result<()>) -> io::Result<()>
         ensures same { result ≡ answer }
@@ -190,7 +200,7 @@ impl<R: Files> Folder<R> {
         answer
     }
 
-    /// Opens a segment's file that is there.
+    /// Opens a segment's file that is there. One that was cut is not written or synced.
     pub fn open_segment(
         &mut self,
         geometry: Geometry,
@@ -201,12 +211,13 @@ impl<R: Files> Folder<R> {
         ensures stays { IsTrue self.old.has_failed → IsTrue self.new.has_failed }
     {
         self.set_path(geometry, segment)?;
+        let metadata = fs::metadata(&self.rt, self.path.as_str())?;
         // To open a pipe waits for its other end, for ever if nobody comes.
-        if fs::metadata(&self.rt, self.path.as_str())?
-            .file_type()
-            .is_fifo()
-        {
+        if metadata.file_type().is_fifo() {
             return Err(ErrorKind::InvalidInput.into());
+        }
+        if is_written && metadata.is_file() && metadata.len() != geometry.segment_size() {
+            return Err(ErrorKind::InvalidData.into());
         }
         OpenOptions::new()
             .read(true)
@@ -215,12 +226,14 @@ impl<R: Files> Folder<R> {
     }
 
     /// Makes a file of zeros, which is on the disk under its name at Ok. A file that is there is
-    /// left as it is, and the call fails.
+    /// left as it is, and the call fails. So it does where a later segment's file is there, whose
+    /// records would follow those of the new one.
     pub fn make_segment(&mut self, geometry: Geometry, segment: u64) -> io::Result<R::File>
         requires { segment < 2 ^ 64 / geometry }
         ensures stays { IsTrue self.old.has_failed → IsTrue self.new.has_failed }
     {
         self.settle()?;
+        self.check_last(geometry, segment)?;
         let mut file = self.open_temporary()?;
         // Until the folder is synced behind it, the new name may be lost.
         self.is_settled = false;
@@ -246,6 +259,26 @@ impl<R: Files> Folder<R> {
         self.sync_folder(".")?;
         self.sync_folder("..")?;
         self.is_settled = true;
+        Ok(())
+    }
+
+    // Fails where the folder has a file of a later segment. Names that are no text are no segment's.
+    fn check_last(&self, geometry: Geometry, segment: u64) -> io::Result<()>
+        requires { segment < 2 ^ 64 / geometry }
+    {
+        let name = geometry.file_name(segment);
+        for entry in fs::read_dir(&self.rt, self.name.as_str())? {
+            match entry {
+                Ok(entry) if is_later(entry.file_name().as_bytes(), &name) => {
+                    // A folder of that name has no records.
+                    if !entry.file_type()?.is_dir() {
+                        return Err(ErrorKind::AlreadyExists.into());
+                    }
+                }
+                Err(e) if e.kind() != ErrorKind::InvalidFilename => return Err(e),
+                _ => {}
+            }
+        }
         Ok(())
     }
 
