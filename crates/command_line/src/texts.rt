@@ -21,7 +21,9 @@ pgwal run [--seg N] [--ring N] [--cap N] [--list] [--writer N] [--append]
                1000, and so makes commits durable that lines A were answered for
     --append   goes on with the log that is there, also one that a crash left: what it holds is
                made durable, what lies behind its end is cleared, and the script's records follow
-               it. Prints first how many records were found, and where they end
+               it. Prints first how many records were found, and where they end. A damage ends the
+               log as a crash does: call dump --quiet first, and keep a copy where it does not end
+               with 0. After status 4 start the machine anew first
     Example: an insert and a commit
         printf 'I 700 10 00 aabb\\nC 700 0\\n' | pgwal run --list
     Example: a commit that is answered before it is durable, and a log writer that makes it so
@@ -55,7 +57,8 @@ pgwal replay [--seg N] [--ring N] [--cap N] [--crash old|new|odd]
         printf 'C 1 0\\nB\\nC 2 0\\nS\\n1*100000 0*100000\\n' | pgwal replay --crash old
 
 pgwal dump [--seg N] [FILTER]..
-    Lists the log in the folder pg_wal: a line for each record that all filters keep.
+    Lists the log in the folder pg_wal: a line for each record that all filters keep. From where
+    no segment is it prints nothing, with status 0: of a log without segment 1 give the start.
     --seg N                the segments' size, as the log was written
     -r, --rmgr NAME        records of a resource manager, as heap or custom128
     -x, --xid N            of a transaction
@@ -63,7 +66,8 @@ pgwal dump [--seg N] [FILTER]..
     -B, --block N          of a block of that relation
     -F, --fork NAME        of a fork: main, fsm, vm or init
     -w, --fullpage         with a page's image
-    -s, --start LSN        from an address on, as 0/01000028
+    -s, --start LSN        from an address on, as 0/01000028; a segment starts at its number times
+                           its size
     -e, --end LSN          that end below an address
     -n, --limit N          at most so many
     -q, --quiet            prints nothing: the status tells whether the log is sound
@@ -73,6 +77,8 @@ pgwal dump [--seg N] [FILTER]..
         --times            with the date and time of each commit, in UTC
     Example: the first ten changes of a block
         pgwal dump --rmgr heap --relation 1663/5/16384 --block 8 --limit 10
+    Example: the log in another folder, from segment 3 on
+        ln -s DIR pg_wal && pgwal dump --start 0/03000000
 
 pgwal redo [--seg N]
     Puts the page images that the log in the folder pg_wal carries for redo into a store in
@@ -109,7 +115,7 @@ Status:
     1  memory ran out
     2  the command line is faulty, or asks for help or the version
     3  a line of the script is refused
-    4  the disk failed
+    4  the disk failed, or another command writes in the folder, or a file in it is in the way
     5  the log is full
     6  the log that is listed, redone, sent or gone on with is damaged, or holds what is not read;
        or frames came of another log than that of the copy
