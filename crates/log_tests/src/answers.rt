@@ -105,3 +105,20 @@ fn held_locks_and_a_locked_position_are_told(rt: HostRuntime) -> Result<(), Fail
     assert_eq!(rt; watch(&mut seated, 1 << 20), behind);
     Ok(())
 }
+
+// What a watch for an address is told where nobody holds a lock.
+fn told_of_free_locks(alloc: Global, upto: u64) -> Result<Watched, Fail> {
+    let (table, mut first) = open(alloc)?;
+    let mut second = first.split(&table);
+    Ok(watch(&mut second.seat(&table), upto))
+}
+
+// Nothing is reserved: so a watch ends where the log starts, whatever is asked.
+#[test]
+fn a_watch_ends_where_nobody_holds_a_lock(rt: HostRuntime) -> Result<(), Fail> {
+    for upto in [0, 1 << 20, 2 << 20] {
+        let finished = Watched::Finished { upto: 1 << 20 };
+        assert_eq!(rt; told_of_free_locks(rt.alloc(), upto)?, finished);
+    }
+    Ok(())
+}

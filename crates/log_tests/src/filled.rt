@@ -48,13 +48,13 @@ pub fn filled<R: Threads + Wait + Sync>(
     Ok(Ended { work, closed })
 }
 
-/// A log on a disk that holds nothing and has room for the calls of 400 commits, with its first
-/// pass.
+/// A log on a disk that holds nothing and has room for the calls of 400 commits, or of six segments
+/// that are settled twice, with its first pass.
 pub fn open(alloc: Global, setup: Setup, fail: Vec<u64>) -> Result<(Wal<MemDisk>, Pass), Fail>
     ensures pass { IfOk result (λ r. IsPassOfLog r.0 r.1) }
     ensures view { IfOk result (λ r. view_of_pass r.1 ≡ first_view (opening_of_log r.0)) }
 {
-    let disk = MemDisk::new(alloc, 4, 1300, fail, Vec::new(alloc))?;
+    let disk = MemDisk::new(alloc, 8, 3000, fail, Vec::new(alloc))?;
     match Wal::open(alloc, disk, setup) {
         Ok(opened) => Ok(opened),
         Err(_) => Err(Fail::from("a log on an empty disk")),

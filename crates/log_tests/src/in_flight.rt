@@ -39,7 +39,8 @@ enum Order {
 }
 
 // Two records with so much main data, and what is left of their log: the disk's moment, and what
-// is read of whatever a crash leaves, from a moment on.
+// is read of whatever a crash leaves, from the moment of a sync on. The call before that wrote it:
+// then it is read of the new words alone, and before that nothing is.
 struct Row {
     order: Order,
     lens: [usize; 2],
@@ -124,7 +125,7 @@ const LONG: Receipt = Receipt {
 };
 
 // What calls are told.
-fn copied(k: u32, stop: CopyStop) -> Copied {
+pub(crate) fn copied(k: u32, stop: CopyStop) -> Copied {
     Copied { k, stop }
 }
 
@@ -155,7 +156,7 @@ fn shared(alloc: Global, setup: Setup) -> Result<(Log, Pass, Pass), Fail>
 }
 
 // A record's place is reserved.
-fn begun<'a, R: Abort>(rt: &R, log: &Log, pass: Pass, body: &'a Body<'a>) -> Inflight<'a>
+pub(crate) fn begun<'a, R: Abort>(rt: &R, log: &Log, pass: Pass, body: &'a Body<'a>) -> Inflight<'a>
     requires pass { IsPassOfLog log.now pass }
     requires inserted { is_assembled_switch body.now ≡ false }
     ensures flight { IsInFlightOf log.now result }
@@ -168,7 +169,13 @@ fn begun<'a, R: Abort>(rt: &R, log: &Log, pass: Pass, body: &'a Body<'a>) -> Inf
 }
 
 // So many of its words are copied.
-fn copies<'a, R: Abort>(rt: &R, log: &Log, flight: &mut Inflight<'a>, n: u32, told: Copied)
+pub(crate) fn copies<'a, R: Abort>(
+    rt: &R,
+    log: &Log,
+    flight: &mut Inflight<'a>,
+    n: u32,
+    told: Copied,
+)
     requires flight { IsInFlightOf log.now flight.old }
     ensures flight { IsInFlightOf log.now flight.new }
     ensures keeps { KeepsPass (view_of_flight flight.old) (view_of_flight flight.new) }
@@ -362,7 +369,8 @@ fn ended<R: Abort>(rt: &R, alloc: Global, row: &Row) -> Result<Closed<MemDisk>, 
     Ok(closed(log, first, second))
 }
 
-// Whatever words a crash leaves, at each moment from this one on, just these records are read.
+// What a crash leaves at each moment, with old words, new ones and both, has these records, if they
+// are synced by then, or are written and all words are new; and else none.
 fn leaves<R: Abort>(
     rt: &R,
     alloc: Global,
@@ -370,10 +378,15 @@ fn leaves<R: Abort>(
     since: u64,
     found: &[ReadBack],
 ) -> Result<(), Fail> {
-    for moment in since..=disk.moment() {
-        for pick in [Pick::Old, Pick::New, Pick::Odd] {
+    for moment in 0..=disk.moment() {
+        for (pick, from) in [
+            (Pick::Old, since),
+            (Pick::New, since.saturating_sub(1)),
+            (Pick::Odd, since),
+        ] {
             let mut left = disk.crash(alloc, moment, pick)?;
-            assert!(rt; records_on(alloc, &mut left)?.as_slice() == found);
+            let wanted = if moment < from { &[] } else { found };
+            assert!(rt; records_on(alloc, &mut left)?.as_slice() == wanted);
         }
     }
     Ok(())

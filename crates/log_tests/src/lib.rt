@@ -29,6 +29,8 @@ mod silent;
 #[cfg(test)]
 mod steps;
 #[cfg(test)]
+mod stuck;
+#[cfg(test)]
 mod tables;
 #[cfg(test)]
 mod told;

@@ -369,7 +369,7 @@ fn jobs(alloc: Global, row: &Row) -> Result<Vec<Vec<Job>>, Fail> {
     Ok(work)
 }
 
-fn are_told<R: Abort>(rt: &R, what: &str, jobs: &[Job], steps: &[Step]) {
+pub(crate) fn are_told<R: Abort>(rt: &R, what: &str, jobs: &[Job], steps: &[Step]) {
     assert_eq!(rt; jobs.len(), steps.len());
     for (job, step) in jobs.iter().zip(steps) {
         assert_eq!(rt; job.told, Some(step.told()), "{what}");

@@ -3,8 +3,8 @@ use crate::placing::smallest;
 use crate::reading::{Scene, TWO_COMMITS, disk_of};
 use crate::rows::{BLOCK, BlockRow, Filled, ImageRow, RECORD, RecordRow};
 use std::test::Fail;
-use wal_redo::{MemBlocks, RedoErr, redo};
-use wal_types::Lsn;
+use wal_redo::{BlockId, Blocks, MemBlocks, RedoErr, redo};
+use wal_types::{Lsn, Rel};
 
 const IMAGE: ImageRow = ImageRow {
     apply: true,
@@ -88,5 +88,26 @@ fn a_put_that_failed_is_made_again(rt: HostRuntime) -> Result<(), Fail> {
             assert_eq!(rt; filled(&store, 2), None);
         }
     }
+    Ok(())
+}
+
+// Each of 2,000 blocks has its page.
+#[test]
+fn many_blocks_are_kept(rt: HostRuntime) -> Result<(), Fail> {
+    let alloc = rt.alloc();
+    let mut store = MemBlocks::new(alloc, Vec::new(alloc))?;
+    let rel = Rel {
+        spc: 1,
+        db: 2,
+        rel: 3,
+    };
+    for blk in 0..2000 {
+        let block = BlockId { rel, fork: 0, blk };
+        assert!(rt; store.put(alloc, block, &[0x5a; 8192]).is_ok());
+    }
+    assert_eq!(rt;
+        (store.len(), filled(&store, 1999)),
+        (2000, Some((1999, 0x5a, 8192)))
+    );
     Ok(())
 }
