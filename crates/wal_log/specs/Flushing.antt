@@ -140,8 +140,8 @@ AnswersFlush asked old (Err e) new =
 
 -- ---- where nothing is to be done
 
--- a pass with this view met these as flushed, and behind it as the moment, and did nothing else: it
--- visited no lock, took no turn and called no device
+-- a pass with this view met these as flushed, and behind it as the moment; and its view is else as
+-- it was, so it watched no lock. (A turn that is taken and given back leaves no trace in a view.)
 pub record LoadsHard (hard : Hard) (old new : View) : Type 0 where
   pub flushed_met : Meets old load_flushed hard.upto.0
   pub moment_met : Meets (view_behind old load_flushed hard.upto.0 none) load_moment hard.moment

@@ -27,9 +27,9 @@ pub record CopiesWhole (old new : View) (e : Entry) : Type 0 where
   pub none_left : copy.copied ≡ words_owned ((view.opening).setup).segment_size e
   pub whole : ∥ StandsWhole view e ∥₁
 
--- and that was the last that the pass did in the call: the view with which each word was copied is
--- the one behind it, but that the locks were given back. So behind the copy it looked at no page,
--- watched nobody, and took no turn to write
+-- and that was the last of the call that the pass's view tells: the view with which each word was
+-- copied is the one behind it, but that the locks were given back. So behind the copy it met no
+-- higher page and watched nobody. (A turn that is taken and given back leaves no trace in a view.)
 pub record CopiesLast (old new : View) (e : Entry) : Type 0 where
   pub copied : CopiesWhole old new e
   pub last : new ≡ without_work copied.view

@@ -118,7 +118,7 @@ impl<D: Disk> Wal<D> {
         ensures flushes { AnswersFlush upto.0 (view_of_pass pass.old) result
             (view_of_pass pass.new) }
         // Where the flushed address that it loads first has reached the address, that is told, with
-        // the moment loaded behind it: no lock is visited, no turn taken, no device called.
+        // the moment loaded behind it, and the view is else as it was: no lock was watched.
         ensures only_unflushed { FlushesOnlyUnflushed upto.0 (view_of_pass pass.old) result
             (view_of_pass pass.new) }
         // A pass that knows of a failed disk is told of it, also if the address is durable.
