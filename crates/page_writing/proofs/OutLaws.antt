@@ -5,7 +5,7 @@ use mathlib.Core.Option.{none, some}
 use Rattle.byte_position.specs.Geometry.{pages_of}
 use Rattle.flush_core.specs.Calls.{page_upto, waiting_behind}
 use Rattle.wal_core.specs.Views.{Plain}
-use Rattle.page_writing.specs.Written.{IsAlone, IsPageWritten, IsPagePut, IsSegmentMade, IsSegmentSynced, IsSegmentThere, LeavesAlone}
+use Rattle.page_writing.specs.Written.{WaitsForNoOther, IsPageWritten, IsPagePut, IsSegmentMade, IsSegmentSynced, IsSegmentThere, LeavesAlone}
 use Rattle.page_writing.proofs.PageNumbers.{segment_at}
 
 -- a page is put, and the segment synced where it ends
@@ -50,7 +50,7 @@ module _ (size known page count upto : ℕ) (old mid new : Plain)
 
 -- ---- a segment is there
 
-pub is_there : (segment : ℕ) (w : Plain) → w.fault ≡ none → segment ≤ w.made → IsAlone segment w
+pub is_there : (segment : ℕ) (w : Plain) → w.fault ≡ none → segment ≤ w.made → WaitsForNoOther segment w
     → IsSegmentThere segment w w
 is_there segment w up made alone = record {
   up = up;
@@ -63,7 +63,7 @@ is_there segment w up made alone = record {
 }
 
 -- it was made
-pub made_there : (segment : ℕ) (old new : Plain) → old.made < segment → IsAlone segment old
+pub made_there : (segment : ℕ) (old new : Plain) → old.made < segment → WaitsForNoOther segment old
     → IsSegmentMade segment old new → IsSegmentThere segment old new
 made_there segment old new next alone made = record {
   up = made.up;

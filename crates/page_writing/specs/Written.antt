@@ -14,8 +14,8 @@ pub record IsPageWritten (size known : ℕ) (old new : Plain) : Type 0 where
   pub waiting : new.waiting ≡ waiting_behind size new.written
 
 -- no write waits for a sync, or only those to this segment, which is there
-abbrev pub IsAlone : ℕ → Plain → Type 0
-IsAlone segment w =
+abbrev pub WaitsForNoOther : ℕ → Plain → Type 0
+WaitsForNoOther segment w =
     (w.waiting ≡ none) ⊎ ((w.waiting ≡ some segment) × (segment ≤ w.made))
 
 -- the same behind a call or none
@@ -23,7 +23,7 @@ pub record LeavesAlone (segment : ℕ) (old new : Plain) : Type 0 where
   pub up : new.fault ≡ none
   pub written : new.written ≡ old.written
   pub made : new.made ≡ old.made
-  pub alone : IsAlone segment new
+  pub alone : WaitsForNoOther segment new
 
 -- a segment is there, as one that was made before or as the last, and no write to another one waits
 pub record IsSegmentThere (segment : ℕ) (old new : Plain) : Type 0 where

@@ -8,7 +8,7 @@ ghost use Rattle.std.specs.Prelude.{◌≡◌, ◌+◌, ◌*◌, ◌/◌, ◌<�
 ghost use Rattle.flush_core.specs.Calls.{make_calls, calls_before, waiting_calls};
 ghost use Rattle.page_writing.specs.InHand.{CallsEnd, IsReady, known_copied, writer_in};
 ghost use Rattle.page_writing.specs.MadeCalls.{calls_to_put_page};
-ghost use Rattle.page_writing.specs.Written.{IsAlone, IsPageWritten, IsSegmentThere, LeavesAlone, IsSegmentSynced};
+ghost use Rattle.page_writing.specs.Written.{WaitsForNoOther, IsPageWritten, IsSegmentThere, LeavesAlone, IsSegmentSynced};
 ghost use Rattle.wal_rule.specs.SeatedPasses.{setup_of, view_of};
 
 use crate::calling::{create_segment, put_page, sync_segment};
@@ -78,7 +78,7 @@ fn make_segment<'p, D: Disk>(seated: &mut SeatedPass<'p, D>, segment: u64) -> Re
         ≤ (writer_in (view_of seated.old)).written }
     requires next { segment ≤ (writer_in (view_of seated.old)).made + 1 }
     requires left { (writer_in (view_of seated.old)).written < known_copied (view_of seated.old) }
-    requires alone { IsAlone segment (writer_in (view_of seated.old)) }
+    requires alone { WaitsForNoOther segment (writer_in (view_of seated.old)) }
     ensures ends { CallsEnd D.tape D.moment D.faults (IsSegmentThere segment)
         (make_calls (setup_of seated.old).segment_size segment
         (nat_lt (writer_in (view_of seated.old)).made segment)) result seated.old seated.new }
