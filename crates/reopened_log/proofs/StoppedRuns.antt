@@ -174,7 +174,7 @@ module _ (opening : Opening) (began now : Tape) (goes_on : TapeGoesOn (Some bega
   until_opened : tape_until moment now ≡ tape_until moment began
   until_opened = ap (tape_until moment) now_is ∙ ap (λ (l : List Call). record began { calls = l }) (take-append-le moment began.calls goes_on.0 (omega (arith, early, counted)))
 
-  stops_before : (stopped : Tape) → StopsAt now moment stopped → StopsAt began moment stopped
+  pub stops_before : (stopped : Tape) → StopsAt now moment stopped → StopsAt began moment stopped
   stops_before stopped (inl same) = inl (same ∙ until_opened)
   stops_before stopped (inr c) =
       let last = write_to c.geometry c.segment c.page c.mix c.done in

@@ -159,7 +159,7 @@ module _ (size sysid : ℕ) (t : Tape) (found : List FoundRecord) (left : WasLef
   abbrev pub StopsSettling : Tape → Type 0
   StopsSettling ended = (made : List Call) × (ended ≡ record t { calls = t.calls ++ made }) × AllByRecursion (Settles size left.count (end_behind size found) (left.has_found.may.valid) (state_now t) left.whole there) made
 
-  left_so : (ended : Tape) → StopsSettling ended → NoTornPass size (pages_in size (image_as_read (state_now ended))) left.order → WasLeftOf size sysid left.order ended found
+  pub left_so : (ended : Tape) → StopsSettling ended → NoTornPass size (pages_in size (image_as_read (state_now ended))) left.order → WasLeftOf size sysid left.order ended found
   left_so ended part none_torn = left_as ended part.0 part.1 part.2 none_torn
 
   -- below the end nothing is left but what might have been left before
