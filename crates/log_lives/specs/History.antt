@@ -135,7 +135,7 @@ pub record FailsToOpen (size : ℕ) (t next : Tape) (order : List Entry) : Type 
   pub ends : LifeEndsAt size order now moment next
 
 -- Such lives one behind another; in between the disk may rest, as during a listing or any other
--- call that writes nothing, and its machine may crash then too
+-- call that makes no counted call of the disk, and its machine may crash then too
 pub data History (size : ℕ) : Tape → List Entry → List FoundRecord → Type 0 where
   holds_nothing : {t : Tape} → IsTrue (is_segment_size size) → HoldsNothing (Some t)
       → History size t [] []
