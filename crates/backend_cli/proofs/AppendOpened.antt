@@ -293,6 +293,7 @@ module _ {D : Type 0} (tape : D → Option Tape) (moment faults : D → ℕ) (di
           began = began;
           moment = at;
           settled = settled;
+          openable = openable;
           goes_on = all.goes_on;
           keeps_all = keeps_all valid;
           behind = holds_behind tape moment faults wal began opening opened.opening refl

@@ -192,6 +192,7 @@ module _ {D : Type 0} (tape : D → Option Tape) (moment faults : D → ℕ) (wa
           one_fault = assured.one_fault;
           goes_on = goes_on;
           words = λ (h : held). assured.words (suited h);
+          firm = λ (h : held). assured.firm (suited h);
           caught_up = assured.caught_up;
           moments = assured.moments;
           no_late_receipt = λ (h : held). assured.no_late_receipt (suited h);

@@ -17,6 +17,7 @@ use Rattle.written_log.specs.Torn.{NoTornPass}
 use Rattle.written_log.specs.Written.{found_of}
 use Rattle.found_log.specs.Found.{HasBegunToSettle, IsFound, RefusesLog}
 use Rattle.found_log.specs.declared.fault.FindFault.TheVariants as finding
+use Rattle.wal_core.specs.Opened.{IsOpenable}
 use Rattle.wal_rule.specs.Founded.{found_log_opening}
 use Rattle.wal_script.specs.Asked.{AskedLine}
 use Rattle.told_lines.specs.declared.told.Told.{Told}
@@ -168,6 +169,8 @@ pub record HoldsAppended (outside : Outside) (options : RunOptions) (outcome : O
   pub settled : HasSettled options.geometry
       (end_address_of options.geometry (end_position options.geometry headline.found))
       headline.segments outside.tape_before began outside.moment_before moment
+  pub openable : IsOpenable (found_log_opening (run_setup options (length script)) headline.found
+      headline.segments moment outside.disk_before)
   pub goes_on : TapeGoesOn began outside.tape_after
   -- up to then, from the end of the first syncs on, the reader finds just what was found, whatever
   -- a crash leaves

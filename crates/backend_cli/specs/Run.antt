@@ -20,7 +20,7 @@ use Rattle.told_lines.specs.Whole.{IsWhole}
 use Rattle.wal_page.specs.Order.{rooms_of}
 use Rattle.wal_core.specs.Words.{Opening}
 use Rattle.wal_rule.specs.Founded.{empty_log_opening}
-use Rattle.run_laws.specs.Assured.{IsMachineRun, LeavesLogWords, TapeGoesOn, order_told}
+use Rattle.run_laws.specs.Assured.{IsMachineRun, KeepsToldWords, LeavesLogWords, TapeGoesOn, order_told}
 use Rattle.run_laws.specs.Ended.{logged_at_end}
 use Rattle.backend_cli.specs.Headline.{Headline}
 use Rattle.backend_cli.specs.Setups.{run_setup}
@@ -89,6 +89,8 @@ pub record HoldsBehind (opening : Opening) (held : Type 0) (outside : Outside) (
   pub goes_on : TapeGoesOn outside.tape_before outside.tape_after
   pub words : held → IfSome outside.tape_after (LeavesLogWords (opening.setup).segment_size
       (opening.setup).sysid (order_told opening script lists) opening.moment)
+  pub firm : held → IfSome outside.tape_after
+      (KeepsToldWords opening (order_told opening script lists) lists)
   pub caught_up : EachCatchesUp script lists
   pub moments : EachRises opening.moment script lists outside.moment_after
   pub no_late_receipt : held → IfSome outside.tape_after

@@ -25,7 +25,7 @@ use Rattle.reopened_log.proofs.Surviving.{old, some_tape}
 
 module _ (size sysid : ℕ) (t : Tape) (found : List FoundRecord) (left : WasLeft size sysid t found) where
   -- a tape leaves below the end nothing but what might have been left when the disk was handed in
-  abbrev StaysOld : ℕ → Tape → Type 0
+  abbrev pub StaysOld : ℕ → Tape → Type 0
   StaysOld handed now = KeepsOld size (state_now t) left.count (end_behind size found) handed now
 
   left_again : (handed moment : ℕ) (now crashed : Tape) → StaysOld handed now → handed ≤ moment → IsLeftByCrash now moment crashed → NoTornPass size (pages_in size (image_as_read (state_now crashed))) left.order → (told : List FoundRecord) × WasLeftOf size sysid left.order crashed told
@@ -36,7 +36,7 @@ module _ (size sysid : ℕ) (t : Tape) (found : List FoundRecord) (left : WasLef
       (settled.0, was_left size sysid left.count left.order now crashed moment settled.0 again.0 again.1 left.low crash)
 
   -- no call was made
-  uncalled_stays : StaysOld (length t.calls) t
+  pub uncalled_stays : StaysOld (length t.calls) t
   uncalled_stays =
       let end = end_behind size found in
       TapeAssures-now size (IsAmong left.count) (IsOldOrZero size (state_now t) end) (length t.calls) t refl

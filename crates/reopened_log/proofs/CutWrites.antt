@@ -6,7 +6,7 @@ use Rattle.byte_position.specs.Geometry.{pages_of}
 use Rattle.segment_disk.specs.declared.disk.Call.{Call}
 use Rattle.segment_disk.specs.declared.disk.CallKind.TheVariants.{Write}
 use Rattle.segment_disk.specs.declared.disk.PageBytes.{PageBytes}
-use Rattle.segment_disk.specs.DiskImage.{IsWritten, LeftAt, MayLeave, MayLeavePage, MayLeaveSegment, image_as_read, when_done, word_of}
+use Rattle.segment_disk.specs.DiskImage.{DiskImage, ImageSegment, IsWritten, LeftAt, MayLeave, MayLeavePage, MayLeaveSegment, image_as_read, when_done, word_of}
 use Rattle.segment_disk.specs.Tape.{DiskState, Segment, Tape, after_call, after_calls, page_as_read, segment_after, state_at, state_now}
 use Rattle.segment_disk.proofs.Reading.{after_calls-push}
 use Rattle.flush_core.specs.Settled.{HaveWholePages}
@@ -43,6 +43,12 @@ written_last : (writes : List (ℕ × List ℕ)) (w : ℕ × List ℕ) (page k :
 written_last [] w page k word here is = inl (here, is)
 written_last (v ∷ writes) w page k word here is = inr (written_last writes w page k word here is)
 
+written_parts : (writes : List (ℕ × List ℕ)) (w : ℕ × List ℕ) (page k : ℕ) (word : List ℕ) → IsWritten (writes ++ w ∷ []) page k word → IsWritten writes page k word ⊎ ((w.0 ≡ page) × (word ≡ word_of w.1 k))
+written_parts [] w page k word (inl last) = inr last
+written_parts [] w page k word (inr none) = absurd none
+written_parts (v ∷ writes) w page k word (inl first) = inl (inl first)
+written_parts (v ∷ writes) w page k word (inr behind) = elim (written_parts writes w page k word behind) [ inl older ↦ inl (inr older) | inr last ↦ inr last ]
+
 -- ---- a page of which a part was written
 
 module _ (s : Segment) (page : ℕ) (bytes mix : PageBytes) (mixes : IsMixOf (page_as_read s page) bytes.bytes mix.bytes) where
@@ -73,6 +79,24 @@ module _ (s : Segment) (page : ℕ) (bytes mix : PageBytes) (mixes : IsMixOf (pa
     | inr apart ↦ subst (λ (p : List ℕ). MayLeavePage written n p) (sym (read_elsewhere s n page 0 true mix apart))
         (record { length = whole; words = λ k low. may_stay n k (word_of (page_as_read s n) k) refl })
   ]
+
+  -- a word that may be left behind a part of the write may be left behind all of it
+  may_be_whole : (n k : ℕ) (word : List ℕ) → k < 1024 → (word ≡ word_of (s.durable n) k) ⊎ IsWritten (s.writes ++ (page, mix.bytes) ∷ []) n k word → (word ≡ word_of (s.durable n) k) ⊎ IsWritten (s.writes ++ (page, bytes.bytes) ∷ []) n k word
+  may_be_whole n k word low (inl durable) = inl durable
+  may_be_whole n k word low (inr written) = elim (written_parts s.writes (page, mix.bytes) n k word written) [
+    | inl older ↦ inr (written_more s.writes (page, bytes.bytes) n k word older)
+    | inr last ↦ elim (mixes.words k low) [
+      | inl old ↦ may_stay n k word (last.1 ∙ old ∙ ap (λ (m : ℕ). word_of (page_as_read s m) k) last.0)
+      | inr new ↦ inr (written_last s.writes (page, bytes.bytes) n k word last.0 (last.1 ∙ new))
+    ]
+  ]
+
+  image_whole : (i : Option ImageSegment) → MayLeaveSegment (Some cut) i → MayLeaveSegment (Some written) i
+  image_whole None may = may
+  image_whole (Some i) may = (
+    may.0,
+    λ n within. record { length = (may.1 n within).length; words = λ k low. may_be_whole n k (word_of (i.page n) k) low ((may.1 n within).words k low) },
+  )
 
   segment_left : (n : ℕ) → ((p : ℕ) → p < s.pages → length (page_as_read s p) ≡ 8192) → MayLeaveSegment (Some written) (image_as_read (λ (m : ℕ). Some cut) n)
   segment_left n whole = (refl, λ p within. page_left p (whole p within))
@@ -149,6 +173,25 @@ module _ (t : Tape) (moment : ℕ) (stopped : Tape) (c : IsCutShort t moment sto
         let short : IsSomeAnd (slice_get t.calls moment) (λ call. IsSomeAnd (when_done call) (λ done. MayLeave (after_call before done) image)) =
         subst (λ (o : Option Call). IsSomeAnd o (λ call. IsSomeAnd (when_done call) (λ done. MayLeave (after_call before done) image))) (sym c.next) left in
         subst (λ (d : DiskState). LeftAt t moment (image_as_read d)) (sym state_is) (inr short)
+
+  -- whatever a crash may leave behind it, one that cut it short might have left
+  module _ (image : DiskImage) where
+    whole_here : (n : ℕ) (o : Option Segment) → o ≡ Some c.there → MayLeaveSegment (segment_after (Write c.page c.mix) c.geometry c.done o) (image n) → MayLeaveSegment (segment_after (Write c.page c.bytes) c.geometry true o) (image n)
+    whole_here n o is = subst (λ (o : Option Segment). MayLeaveSegment (segment_after (Write c.page c.mix) c.geometry c.done o) (image n) → MayLeaveSegment (segment_after (Write c.page c.bytes) c.geometry true o) (image n)) (sym is)
+        (image_whole c.there c.page c.bytes c.mix c.mixes (image n))
+
+    whole_left : MayLeave (after_call before last_call) image → MayLeave (after_call before whole_call) image
+    whole_left may n = elim (cases_eq n c.segment) [
+      | inl here ↦ subst (λ (o : Option Segment). MayLeaveSegment o (image n)) (sym (at_call before whole_call n here))
+          (whole_here n (before n) (ap before here ∙ c.is_there) (subst (λ (o : Option Segment). MayLeaveSegment o (image n)) (at_call before last_call n here) (may n)))
+      | inr apart ↦ subst (λ (o : Option Segment). MayLeaveSegment o (image n)) (sym (beside_call before whole_call n apart))
+          (subst (λ (o : Option Segment). MayLeaveSegment o (image n)) (beside_call before last_call n apart) (may n))
+    ]
+
+    pub cut_images : MayLeave (state_now stopped) image → LeftAt t moment image
+    cut_images may =
+        let whole = whole_left (subst (λ (d : DiskState). MayLeave d image) state_is may) in
+        inr (subst (λ (o : Option Call). IsSomeAnd o (λ call. IsSomeAnd (when_done call) (λ done. MayLeave (after_call before done) image))) (sym c.next) whole)
 
   -- of calls that only add to what is read
   module _ (size since : ℕ) (low : since ≤ moment) (adds : OnlyAddsSince size since t) where

@@ -24,7 +24,7 @@ use Rattle.reopened_log.proofs.MadeSegments.{are_only, are_there, made_segments}
 
 -- ---- nothing waits
 
-durable_read : (s : Segment) (page word : ℕ) (bytes : List ℕ) → s.writes ≡ [] → (bytes ≡ word_of (s.durable page) word) ⊎ IsWritten s.writes page word bytes → bytes ≡ word_of (page_as_read s page) word
+pub durable_read : (s : Segment) (page word : ℕ) (bytes : List ℕ) → s.writes ≡ [] → (bytes ≡ word_of (s.durable page) word) ⊎ IsWritten s.writes page word bytes → bytes ≡ word_of (page_as_read s page) word
 durable_read s page word bytes none (inl kept) = kept ∙ ap (λ (writes : List (ℕ × List ℕ)). word_of (after_writes writes page (s.durable page)) word) (sym none)
 durable_read s page word bytes none (inr written) = absurd (subst (λ (writes : List (ℕ × List ℕ)). IsWritten writes page word bytes) none written)
 

@@ -4,7 +4,6 @@ use Rattle.std.specs.Prelude.{IsSome}
 use Rattle.std.proofs.lemmas.Bool.{cases_lt}
 use Rattle.std.proofs.Math.Nat.{le-div_iff_mul-le, mul-le-mul_right}
 use Rattle.std.proofs.Math.Seq.{take-append_seam}
-use mathlib.Core.Option.{none, some, some-injective}
 use Rattle.byte_position.specs.Geometry.{pages_of}
 use Rattle.byte_position.specs.Position.{end_address_of, first_position}
 use Rattle.byte_position.proofs.EndAddresses.{end_address_of-le_address_of}
@@ -15,21 +14,20 @@ use Rattle.segment_disk.specs.declared.disk.Call.{Call}
 use Rattle.segment_disk.specs.Assured.{IsNowhere, SegmentAssures, TapeAssures}
 use Rattle.segment_disk.specs.DiskImage.{image_as_read}
 use Rattle.segment_disk.specs.Tape.{DiskState, Segment, Tape, after_calls, page_of_segment, state_at, state_now}
-use Rattle.wal_page.specs.Order.{Entry, end_position}
+use Rattle.wal_page.specs.Order.{Entry, IsChained, end_position}
 use Rattle.flush_core.specs.Settled.{AreThere}
 use Rattle.flush_core.specs.SettledLog.{AreOnly, IsZeroOrLogWord}
 use Rattle.wal_core.specs.declared.setup.Setup.{Setup}
 use Rattle.wal_core.specs.Durable.{IsLawfulAt, IsMadeInTurn}
-use Rattle.wal_core.specs.Locked.{HasWriteTurn, IsWriteTurn, StandsTo}
 use Rattle.wal_core.specs.Sound.{IsSetup}
 use Rattle.wal_core.specs.Suited.{BeganSuited, IsLogAt, IsSuited, tape_from}
-use Rattle.wal_core.specs.Views.{Hold, Idle, Out, Plain, Turned}
 use Rattle.wal_core.specs.Words.{Opening, log_limit}
 use Rattle.wal_core.proofs.Tapes.{at_suited}
 use Rattle.wal_script.specs.Asked.{AskedLine}
 use Rattle.told_lines.specs.declared.told.Told.{Told}
 use Rattle.told_lines.specs.Told.{order_from}
-use Rattle.run_laws.specs.Assured.{RunAssures, TapeGoesOn, order_told}
+use Rattle.run_laws.specs.Assured.{IsRunOn, TapeGoesOn, order_told}
+use Rattle.run_laws.proofs.MachineRuns.{run_chained, writer_tape}
 use Rattle.reopened_log.specs.Again.{CrashedReopenedRunsWereLeft, CrashedRunsWereLeft, HasMadeInTurn, IsOrderAt}
 use Rattle.reopened_log.proofs.CrashedSettlings.{crashed_reopened_settlings_were_left}
 use Rattle.reopened_log.proofs.LeftAgain.{crashed_logs_were_left}
@@ -73,23 +71,6 @@ made_low setup is position made last written within few low reached =
 pub some_id : (n : ℕ) → n ≢ 0 → 0 < n
 some_id n other = elim (cases_lt 0 n) [ inl lt ↦ lt | inr nothing ↦ absurd (other (omega (arith, nothing))) ]
 
--- ---- the writer
-
-none_at_home : (w : Plain) → some w ≡ none → ⊥
-none_at_home w same = cc
-
-home_of : (turn holder : ℕ) (home writer : Plain) (id number : ℕ) (hold : Hold) → HasWriteTurn hold → StandsTo turn holder (some home) writer id number hold → some home ≡ some writer
-home_of turn holder home writer id number Idle has stands = absurd has
-home_of turn holder home writer id number Turned has stands = stands.2
-home_of turn holder home writer id number (Out l) has stands = absurd (none_at_home home stands.2)
-
--- a writer that is at home is the one of which the state speaks
-same_writer : (turn : ℕ) (home writer : Plain) (writers : List (ℕ × Hold)) → IsWriteTurn turn (some home) writer writers → home ≡ writer
-same_writer turn home writer writers is = some-injective home writer (elim (cases_lt 0 turn) [
-  | inr free ↦ is.free (omega (arith, free))
-  | inl taken ↦ (let holder = is.held (λ nothing. omega (arith, taken, nothing)) in home_of turn is.holder home writer is.holder holder.0.0 holder.0.1 holder.2 (is.each is.holder holder.0 holder.1))
-])
-
 told_calls : (P : List Call → Type 0) (first : DiskState) (o : Option (List Call)) (t : Tape)
     → tape_from first o ≡ Some t → IfSome o P → P t.calls
 told_calls P first None t is holds = absurd (cc is)
@@ -127,7 +108,7 @@ module _ (opening : Opening) (began now : Tape) (goes_on : TapeGoesOn (Some bega
 
 -- ---- a run
 
-module _ (opening : Opening) (last faults : ℕ) (began now : Tape) (script : List (List AskedLine)) (lists : List (List Told)) (run : RunAssures opening (Some began) (Some now) last faults script lists) where
+module _ (opening : Opening) (last : ℕ) (began now : Tape) (script : List (List AskedLine)) (lists : List (List Told)) (run : IsRunOn opening (Some began) (Some now) last script lists) where
   abbrev size : ℕ
   size = (opening.setup).segment_size
 
@@ -140,19 +121,19 @@ module _ (opening : Opening) (last faults : ℕ) (began now : Tape) (script : Li
   pub bounded : end_address_of (opening.setup).segment_size (end_position (opening.setup).segment_size (order_told opening script lists)) ≤ 2 ^ 60
   bounded = subst (λ (es : List Entry). end_address_of size (end_position size es) ≤ 2 ^ 60) run.machine.order_is (omega (arith, ends_low opening.setup setup_is (end_position size run.machine.sound.order) run.machine.sound.reserved.within))
 
-  home_is : run.machine.writer ≡ run.machine.sound.writer
-  home_is = same_writer _ run.machine.writer run.machine.sound.writer _ run.machine.sound.locks.writing
+  pub writer_is : tape_from run.machine.first (run.machine.sound.writer).calls ≡ Some now
+  writer_is = writer_tape opening now last script lists run.machine
 
-  pub writer_tape : tape_from run.machine.first (run.machine.sound.writer).calls ≡ Some now
-  writer_tape = ap (λ (w : Plain). tape_from run.machine.first w.calls) (sym home_is) ∙ run.machine.tape_is
+  pub gapless : IsChained (opening.setup).segment_size (order_told opening script lists)
+  gapless = run_chained opening now last script lists run.machine
 
   pub assures : BeganSuited opening now → TapeAssures (opening.setup).segment_size IsNowhere (IsZeroOrLogWord (opening.setup).segment_size (opening.setup).sysid (order_told opening script lists)) opening.moment now
   assures suited = subst (λ (es : List Entry). TapeAssures size IsNowhere (IsZeroOrLogWord size sysid es) opening.moment now) run.machine.order_is
-      (at_suited run.machine.first opening run.machine.sound.writer (TapeAssures size IsNowhere (IsLawfulAt opening.setup run.machine.sound.order) opening.moment) now writer_tape suited run.machine.sound.durable.lawful)
+      (at_suited run.machine.first opening run.machine.sound.writer (TapeAssures size IsNowhere (IsLawfulAt opening.setup run.machine.sound.order) opening.moment) now writer_is suited run.machine.sound.durable.lawful)
 
   made : IsMadeInTurn opening run.machine.sound.writer now.calls
   made = told_calls (IsMadeInTurn opening run.machine.sound.writer) run.machine.first
-      (run.machine.sound.writer).calls now writer_tape run.machine.sound.durable.made
+      (run.machine.sound.writer).calls now writer_is run.machine.sound.durable.made
 
   module _ (suited : IsSuited opening (state_now began))
       (only : AreOnly opening.made (state_now began))
@@ -175,10 +156,10 @@ module _ (opening : Opening) (last faults : ℕ) (began now : Tape) (script : Li
         }
 
 pub crashed_runs_were_left : CrashedRunsWereLeft
-crashed_runs_were_left opening moment last faults began now crashed script lists run suited only few counted narrow since crash none_torn =
-    let is = setup_is opening last faults began now script lists run in
-    crashed_logs_were_left (opening.setup).segment_size (opening.setup).sysid opening.moment moment (order_told opening script lists) now crashed is.size (some_id (opening.setup).sysid is.named) narrow run.gapless (bounded opening last faults began now script lists run)
-    (assures opening last faults began now script lists run (began_suited opening began now run.goes_on counted suited)) (made_in_turn opening last faults began now script lists run suited only few counted) since crash none_torn
+crashed_runs_were_left opening moment last began now crashed script lists run suited only few counted narrow since crash none_torn =
+    let is = setup_is opening last began now script lists run in
+    crashed_logs_were_left (opening.setup).segment_size (opening.setup).sysid opening.moment moment (order_told opening script lists) now crashed is.size (some_id (opening.setup).sysid is.named) narrow (gapless opening last began now script lists run) (bounded opening last began now script lists run)
+    (assures opening last began now script lists run (began_suited opening began now run.goes_on counted suited)) (made_in_turn opening last began now script lists run suited only few counted) since crash none_torn
 
 -- ---- of which order
 
@@ -198,7 +179,7 @@ module _ (opening : Opening) (moment : ℕ) (handed_in of_run order : List Entry
   }
 
 pub crashed_reopened_runs_were_left : CrashedReopenedRunsWereLeft
-crashed_reopened_runs_were_left opening handed moment last faults t began now crashed found script lists r run since crash old_torn none_torn =
+crashed_reopened_runs_were_left opening handed moment last t began now crashed found script lists r run since crash old_torn none_torn =
     let es = order_told opening script lists in
     elim (cases_lt moment opening.moment) [
       | inl early ↦
@@ -212,7 +193,7 @@ crashed_reopened_runs_were_left opening handed moment last faults t began now cr
             order_before opening moment r.left.order es was.1.0.order early was.1.1,
           ))
       | inr later ↦
-          (let was = crashed_runs_were_left opening moment last faults began now crashed script
+          (let was = crashed_runs_were_left opening moment last began now crashed script
           lists run (reopened_logs_are_suited opening handed t began found r)
           (only_began opening handed t began found r) r.openable.made_within
           (calls_counted opening handed t began found r) r.left.has_found.may.narrow later crash

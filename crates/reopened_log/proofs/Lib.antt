@@ -11,6 +11,8 @@ pub mod CrashedSettlings
 pub mod StoppedCrashes
 pub mod LeftRuns
 pub mod StoppedRuns
+pub mod WordImages
+pub mod SureDisks
 pub mod EmptyDisks
 pub mod OwnRows
 pub mod OwnPages

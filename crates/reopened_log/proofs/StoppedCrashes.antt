@@ -1,5 +1,5 @@
 -- What crashes leave of a log whose settling the disk failed, and of one that was settled, up to its opening.
-use Rattle.std.proofs.Common.{◌≡◌, ℕ, ◌+◌, ◌≤◌, List, ◌++◌, length, Some, None, inl, inr, ap, subst, sym, arith}
+use Rattle.std.proofs.Common.{◌≡◌, ℕ, ◌+◌, ◌≤◌, List, ◌++◌, length, Some, inl, inr, ap, subst, arith}
 use Rattle.std.proofs.lemmas.List.{length-append}
 use Rattle.segment_disk.specs.Tape.{Tape, state_now}
 use Rattle.flush_core.specs.Settled.{AreAllThere, HasNotSettled, KeepsRead, settle_calls}

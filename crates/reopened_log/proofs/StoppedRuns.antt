@@ -9,7 +9,7 @@ use Rattle.byte_position.specs.Geometry.{IsSegmentSize, pages_of}
 use Rattle.byte_position.proofs.SegmentSizes.{segment_size_in_pages}
 use Rattle.segment_disk.specs.declared.disk.Call.{Call}
 use Rattle.segment_disk.specs.Assured.{DiskImageFits, IsNowhere, SegmentAssures, SegmentFits, StateAssures}
-use Rattle.segment_disk.specs.DiskImage.{LeftAt, image_as_read, word_of}
+use Rattle.segment_disk.specs.DiskImage.{DiskImage, LeftAt, MayLeave, image_as_read, word_of}
 use Rattle.segment_disk.specs.Tape.{DiskState, Segment, Tape, page_as_read, page_of_segment, state_at, state_now}
 use Rattle.wal_page.specs.Order.{Entry}
 use Rattle.flush_core.specs.Settled.{AreThere, HaveWholePages, IsAmong}
@@ -27,11 +27,11 @@ use Rattle.machine_laws.specs.Growth.{LosesOnlySince, StaysWholeSince}
 use Rattle.machine_laws.proofs.GrowthLaws.{logs_lose_only, logs_stay_whole}
 use Rattle.wal_script.specs.Asked.{AskedLine}
 use Rattle.told_lines.specs.declared.told.Told.{Told}
-use Rattle.run_laws.specs.Assured.{RunAssures, TapeGoesOn, order_told}
+use Rattle.run_laws.specs.Assured.{IsRunOn, TapeGoesOn, order_told}
 use Rattle.reopened_log.specs.Stopped.{StoppedLogsWereLeft, StoppedReopenedRunsWereLeft, StoppedRunsWereLeft}
 use Rattle.reopened_log.specs.StopsAt.{StopsAt, tape_until, write_to}
-use Rattle.reopened_log.proofs.CutWrites.{cut_leaves, cut_loses, cut_whole, left_as_read}
-use Rattle.reopened_log.proofs.LeftRuns.{assures, began_suited, bounded, made_in_turn, order_before, order_since, setup_is, some_id, state_then, writer_tape}
+use Rattle.reopened_log.proofs.CutWrites.{cut_images, cut_leaves, cut_loses, cut_whole, left_as_read}
+use Rattle.reopened_log.proofs.LeftRuns.{assures, began_suited, bounded, gapless, made_in_turn, order_before, order_since, setup_is, some_id, state_then, writer_is}
 use Rattle.reopened_log.proofs.MadeSegments.{are_only, are_there, made_segments}
 use Rattle.reopened_log.proofs.StoppedSettlings.{began_whole, reopened_settlings_were_left}
 use Rattle.reopened_log.proofs.SuitedDisks.{only_began, reopened_logs_are_suited}
@@ -104,21 +104,21 @@ stopped_logs_were_left size sysid since moment order t stopped valid known narro
 
 -- ---- a run
 
-module _ (opening : Opening) (last faults : ℕ) (began now : Tape) (script : List (List AskedLine)) (lists : List (List Told)) (run : RunAssures opening (Some began) (Some now) last faults script lists) (suited : IsSuited opening (state_now began)) (counted : opening.moment ≡ length began.calls) where
+module _ (opening : Opening) (last : ℕ) (began now : Tape) (script : List (List AskedLine)) (lists : List (List Told)) (run : IsRunOn opening (Some began) (Some now) last script lists) (suited : IsSuited opening (state_now began)) (counted : opening.moment ≡ length began.calls) where
   -- what a crash may leave at each moment of each word is as it is read, or zeros
   run_loses : LosesOnlySince (opening.setup).segment_size opening.moment now
   run_loses =
-      at_suited run.machine.first opening run.machine.sound.writer (LosesOnlySince (opening.setup).segment_size opening.moment) now (writer_tape opening last faults began now script lists run) (began_suited opening began now run.goes_on counted suited)
+      at_suited run.machine.first opening run.machine.sound.writer (LosesOnlySince (opening.setup).segment_size opening.moment) now (writer_is opening last began now script lists run) (began_suited opening began now run.goes_on counted suited)
       (logs_lose_only opening run.machine.words (some run.machine.writer) run.machine.views run.machine.sound)
 
   stays_whole : StaysWholeSince (opening.setup).segment_size opening.moment now
   stays_whole =
-      at_suited run.machine.first opening run.machine.sound.writer (StaysWholeSince (opening.setup).segment_size opening.moment) now (writer_tape opening last faults began now script lists run) (began_suited opening began now run.goes_on counted suited)
+      at_suited run.machine.first opening run.machine.sound.writer (StaysWholeSince (opening.setup).segment_size opening.moment) now (writer_is opening last began now script lists run) (began_suited opening began now run.goes_on counted suited)
       (logs_stay_whole opening run.machine.words (some run.machine.writer) run.machine.views run.machine.sound)
 
   run_adds : OnlyAddsSince (opening.setup).segment_size opening.moment now
   run_adds =
-      at_suited run.machine.first opening run.machine.sound.writer (OnlyAddsSince (opening.setup).segment_size opening.moment) now (writer_tape opening last faults began now script lists run) (began_suited opening began now run.goes_on counted suited) run.machine.sound.reading.adds
+      at_suited run.machine.first opening run.machine.sound.writer (OnlyAddsSince (opening.setup).segment_size opening.moment) now (writer_is opening last began now script lists run) (began_suited opening began now run.goes_on counted suited) run.machine.sound.reading.adds
 
   run_whole : HaveWholePages (opening.setup).segment_size (state_now began) → (moment : ℕ) → opening.moment ≤ moment → HaveWholePages (opening.setup).segment_size (state_at now moment)
   run_whole whole = stays_whole (subst (HaveWholePages (opening.setup).segment_size) (sym (state_then opening began now run.goes_on counted)) whole)
@@ -131,26 +131,33 @@ module _ (opening : Opening) (last faults : ℕ) (began now : Tape) (script : Li
       | inr c ↦ cut_leaves now moment stopped c (opening.setup).segment_size (run_whole whole moment since)
     ]
 
-    stop_loses : LosesOnly (opening.setup).segment_size (state_now stopped)
+    pub stop_loses : LosesOnly (opening.setup).segment_size (state_now stopped)
     stop_loses = elim stops [
       | inl same ↦ subst (λ (d : Tape). LosesOnly (opening.setup).segment_size (state_now d)) (sym same) (run_loses moment since)
       | inr c ↦ cut_loses now moment stopped c (opening.setup).segment_size opening.moment since run_adds (run_loses moment since)
     ]
 
-    stop_whole : HaveWholePages (opening.setup).segment_size (state_now stopped)
+    pub stop_whole : HaveWholePages (opening.setup).segment_size (state_now stopped)
     stop_whole = elim stops [
       | inl same ↦ subst (λ (d : Tape). HaveWholePages (opening.setup).segment_size (state_now d)) (sym same) (run_whole whole moment since)
       | inr c ↦ cut_whole now moment stopped c (opening.setup).segment_size opening.moment since run_adds (run_whole whole moment since)
     ]
 
+    -- whatever a crash may leave of it then, it might have left at this moment
+    pub stop_images : (image : DiskImage) → MayLeave (state_now stopped) image → LeftAt now moment image
+    stop_images image may = elim stops [
+      | inl same ↦ inl (subst (λ (d : Tape). MayLeave (state_now d) image) same may)
+      | inr c ↦ cut_images now moment stopped c image may
+    ]
+
 pub stopped_runs_were_left : StoppedRunsWereLeft
-stopped_runs_were_left opening moment last faults began now stopped script lists run suited only whole few counted narrow since stops none_torn =
-    let is = setup_is opening last faults began now script lists run in
-    stopped_logs_were_left (opening.setup).segment_size (opening.setup).sysid opening.moment moment (order_told opening script lists) now stopped is.size (some_id (opening.setup).sysid is.named) narrow run.gapless (bounded opening last faults began now script lists run)
-    (assures opening last faults began now script lists run (began_suited opening began now run.goes_on counted suited)) (made_in_turn opening last faults began now script lists run suited only few counted) since
-    (stop_leaves opening last faults began now script lists run suited counted whole moment since stopped stops)
-    (stop_loses opening last faults began now script lists run suited counted whole moment since stopped stops)
-    (stop_whole opening last faults began now script lists run suited counted whole moment since stopped stops) none_torn
+stopped_runs_were_left opening moment last began now stopped script lists run suited only whole few counted narrow since stops none_torn =
+    let is = setup_is opening last began now script lists run in
+    stopped_logs_were_left (opening.setup).segment_size (opening.setup).sysid opening.moment moment (order_told opening script lists) now stopped is.size (some_id (opening.setup).sysid is.named) narrow (gapless opening last began now script lists run) (bounded opening last began now script lists run)
+    (assures opening last began now script lists run (began_suited opening began now run.goes_on counted suited)) (made_in_turn opening last began now script lists run suited only few counted) since
+    (stop_leaves opening last began now script lists run suited counted whole moment since stopped stops)
+    (stop_loses opening last began now script lists run suited counted whole moment since stopped stops)
+    (stop_whole opening last began now script lists run suited counted whole moment since stopped stops) none_torn
 
 -- ---- before the log was opened
 
@@ -167,7 +174,7 @@ module _ (opening : Opening) (began now : Tape) (goes_on : TapeGoesOn (Some bega
   until_opened : tape_until moment now ≡ tape_until moment began
   until_opened = ap (tape_until moment) now_is ∙ ap (λ (l : List Call). record began { calls = l }) (take-append-le moment began.calls goes_on.0 (omega (arith, early, counted)))
 
-  stops_before : (stopped : Tape) → StopsAt now moment stopped → StopsAt began moment stopped
+  pub stops_before : (stopped : Tape) → StopsAt now moment stopped → StopsAt began moment stopped
   stops_before stopped (inl same) = inl (same ∙ until_opened)
   stops_before stopped (inr c) =
       let last = write_to c.geometry c.segment c.page c.mix c.done in
@@ -186,7 +193,7 @@ module _ (opening : Opening) (began now : Tape) (goes_on : TapeGoesOn (Some bega
       })
 
 pub stopped_reopened_runs_were_left : StoppedReopenedRunsWereLeft
-stopped_reopened_runs_were_left opening handed moment last faults t began now stopped found script lists r run since stops old_torn none_torn =
+stopped_reopened_runs_were_left opening handed moment last t began now stopped found script lists r run since stops old_torn none_torn =
     let counted = calls_counted opening handed t began found r in
     let es = order_told opening script lists in
     elim (cases_lt moment opening.moment) [
@@ -194,6 +201,6 @@ stopped_reopened_runs_were_left opening handed moment last faults t began now st
           (let was = reopened_settlings_were_left opening handed moment t began stopped found r since (stops_before opening began now run.goes_on counted moment early stopped stops) old_torn in
           (found, was.0, order_before opening moment r.left.order es was.0.order early was.1))
       | inr later ↦
-          (let was = stopped_runs_were_left opening moment last faults began now stopped script lists run (reopened_logs_are_suited opening handed t began found r) (only_began opening handed t began found r) (began_whole opening handed t began found r) r.openable.made_within counted r.left.has_found.may.narrow later stops none_torn in
+          (let was = stopped_runs_were_left opening moment last began now stopped script lists run (reopened_logs_are_suited opening handed t began found r) (only_began opening handed t began found r) (began_whole opening handed t began found r) r.openable.made_within counted r.left.has_found.may.narrow later stops none_torn in
           (was.0, was.1.0, order_since opening moment r.left.order es was.1.0.order later was.1.1))
     ]

@@ -155,6 +155,19 @@ module _ (size sysid : ℕ) (t : Tape) (found : List FoundRecord) (left : WasLef
         refl,
       )
 
+  -- what stands behind the calls until a stop settles its log, or is a part of it
+  abbrev pub StopsSettling : Tape → Type 0
+  StopsSettling ended = (made : List Call) × (ended ≡ record t { calls = t.calls ++ made }) × AllByRecursion (Settles size left.count (end_behind size found) (left.has_found.may.valid) (state_now t) left.whole there) made
+
+  pub left_so : (ended : Tape) → StopsSettling ended → NoTornPass size (pages_in size (image_as_read (state_now ended))) left.order → WasLeftOf size sysid left.order ended found
+  left_so ended part none_torn = left_as ended part.0 part.1 part.2 none_torn
+
+  -- below the end nothing is left but what might have been left before
+  pub old_so : (ended : Tape) → StopsSettling ended → StateAssures size (IsAmong left.count) (IsOldOrZero size (state_now t) (end_behind size found)) (state_now ended)
+  old_so ended part =
+      subst (λ (d : Tape). StateAssures size (IsAmong left.count) (IsOldOrZero size before end) (state_now d)) (sym part.1)
+      (old_behind size left.count end valid before left.whole there t (length t.calls) refl refl part.0 part.2)
+
   module _ (now : Tape) (calls : List Call) (now_is : now ≡ record t { calls = t.calls ++ calls }) (each : AllByRecursion (Settles size left.count (end_behind size found) (left.has_found.may.valid) (state_now t) left.whole there) calls) (moment : ℕ) (since : length t.calls ≤ moment) (ended : Tape) where
     abbrev made : List Call
     made = take (moment - length t.calls) calls
@@ -183,13 +196,14 @@ module _ (size sysid : ℕ) (t : Tape) (found : List FoundRecord) (left : WasLef
         each_both Settling made (last ∷ []) made_settle_it
         (cut_settles size left.count end valid before left.whole there t (length t.calls) refl refl made made_settle_it c.geometry c.segment c.page c.bytes c.mix c.done c.there settles is_there c.mixes, tt)
 
-    left_behind : StopsAt now moment ended → NoTornPass size (pages_in size (image_as_read (state_now ended))) left.order → WasLeftOf size sysid left.order ended found
-    left_behind (inl same) none_torn = left_as ended made (same ∙ cut_is) (each_take (Settles size left.count end valid before left.whole there) (moment - length t.calls) calls each) none_torn
-    left_behind (inr c) none_torn =
-        let last = write_to c.geometry c.segment c.page c.mix c.done in
-        left_as ended (made ++ last ∷ [])
-        (c.stopped_is ∙ ap (λ (d : Tape). record d { calls = d.calls ++ last ∷ [] }) cut_is ∙ ap (λ (l : List Call). record t { calls = l }) (append_assoc t.calls made (last ∷ [])))
-        (cut_settle c) none_torn
+    stops_behind : StopsAt now moment ended → StopsSettling ended
+    stops_behind (inl same) = (made, same ∙ cut_is, each_take (Settles size left.count end valid before left.whole there) (moment - length t.calls) calls each)
+    stops_behind (inr c) =
+        let last = write_to c.geometry c.segment c.page c.mix c.done in (
+          made ++ last ∷ [],
+          c.stopped_is ∙ ap (λ (d : Tape). record d { calls = d.calls ++ last ∷ [] }) cut_is ∙ ap (λ (l : List Call). record t { calls = l }) (append_assoc t.calls made (last ∷ [])),
+          cut_settle c,
+        )
 
   -- ---- where a call failed, and where all were made
 
@@ -201,20 +215,20 @@ module _ (size sysid : ℕ) (t : Tape) (found : List FoundRecord) (left : WasLef
       subst (λ (d : Tape). HaveWholePages size (state_now d)) (sym now_is) (still_whole size left.count end valid before left.whole there t (length t.calls) refl refl calls each)
 
   -- at each moment of a settling, of which a front of the calls was made
-  left_meanwhile : (now : Tape) (handed last moment : ℕ) → handed ≡ length t.calls → (front others : List Call) → front ++ others ≡ settle_calls size (end_behind size found) left.count (state_now t)
+  stops_meanwhile : (now : Tape) (handed last moment : ℕ) → handed ≡ length t.calls → (front others : List Call) → front ++ others ≡ settle_calls size (end_behind size found) left.count (state_now t)
       → (AreMade (Some t) (Some now) handed last front ⊎ NextFails (with_calls (Some t) front) (Some now) (handed + length front) last others)
-      → handed ≤ moment → (ended : Tape) → StopsAt now moment ended → NoTornPass size (pages_in size (image_as_read (state_now ended))) left.order → WasLeftOf size sysid left.order ended found
-  left_meanwhile now handed last moment counted front others are ends since ended stops none_torn =
+      → handed ≤ moment → (ended : Tape) → StopsAt now moment ended → StopsSettling ended
+  stops_meanwhile now handed last moment counted front others are ends since ended stops =
       let Settling = Settles size left.count end valid before left.whole there in
       let all = subst (λ (l : List Call). AllByRecursion Settling l) (sym are) (all_settle size left.count end valid before left.whole there) in
       let calls = made_settle size left.count end valid before left.whole there (Some t) (Some now) handed last front others all ends in
       let now_is = some_tape now (record t { calls = t.calls ++ calls.0 }) (calls.1 ∙ with_calls-some t calls.0) in
-      left_behind now calls.0 now_is calls.2 moment (omega (arith, counted, since)) ended stops none_torn
+      stops_behind now calls.0 now_is calls.2 moment (omega (arith, counted, since)) ended stops
 
   -- no call was made
-  left_uncalled : (now : Tape) (moment : ℕ) → now ≡ t → length t.calls ≤ moment → (ended : Tape) → StopsAt now moment ended → NoTornPass size (pages_in size (image_as_read (state_now ended))) left.order → WasLeftOf size sysid left.order ended found
-  left_uncalled now moment same since ended stops none_torn =
-      left_behind now [] (same ∙ ap (λ (l : List Call). record t { calls = l }) (sym (append-nil t.calls))) tt moment since ended stops none_torn
+  pub stops_uncalled : (now : Tape) (moment : ℕ) → now ≡ t → length t.calls ≤ moment → (ended : Tape) → StopsAt now moment ended → StopsSettling ended
+  stops_uncalled now moment same since ended stops =
+      stops_behind now [] (same ∙ ap (λ (l : List Call). record t { calls = l }) (sym (append-nil t.calls))) tt moment since ended stops
 
   -- the end is that of what was found
   pub end_of_log : (cap : ℕ) (log : FoundLog) → FindsLog size sysid cap (Some t) log → log.spelled.end.0 ≡ end_behind size found
@@ -225,31 +239,31 @@ module _ (size sysid : ℕ) (t : Tape) (found : List FoundRecord) (left : WasLef
       finds.ends.end_is ∙ ap (λ (l : List Entry). end_address_of size (end_position size l)) all
       ∙ sym (end_of_front size es (length es) found valid finds.ends.chained (sym same ∙ ap (found_of size) all))
 
-  stopped : (cap handed last moment : ℕ) (now : Tape) → handed ≡ length t.calls → HasBegunToSettle size sysid cap (Some t) (Some now) handed last → handed ≤ moment
-      → (ended : Tape) → StopsAt now moment ended → NoTornPass size (pages_in size (image_as_read (state_now ended))) left.order → WasLeftOf size sysid left.order ended found
-  stopped cap handed last moment now counted begun since ended stops none_torn =
+  pub stopped : (cap handed last moment : ℕ) (now : Tape) → handed ≡ length t.calls → HasBegunToSettle size sysid cap (Some t) (Some now) handed last → handed ≤ moment
+      → (ended : Tape) → StopsAt now moment ended → StopsSettling ended
+  stopped cap handed last moment now counted begun since ended stops =
       let settling = begun.stopped in
       elim settling.there [
-        | inr none ↦ left_uncalled now moment (some_tape now t none.1.same_tape) (omega (arith, counted, since)) ended stops none_torn
+        | inr none ↦ stops_uncalled now moment (some_tape now t none.1.same_tape) (omega (arith, counted, since)) ended stops
         | inl counts ↦
             (let count = same_count size settling.count left.count (IsZeroOrLogWord size sysid left.order) before (2 ^ 60 / size) some_pages left.has_found.may.lawful left.only left.low counts.there counts.others in
             let calls = subst (λ (n : ℕ). settling.calls.front ++ settling.calls.others ≡ settle_calls size n left.count before) (end_of_log cap begun.log begun.found)
             (subst (λ (n : ℕ). settling.calls.front ++ settling.calls.others ≡ settle_calls size begun.log.spelled.end.0 n before) (sym count) settling.calls.are) in
-            left_meanwhile now handed last moment counted settling.calls.front settling.calls.others calls settling.calls.ends since ended stops none_torn)
+            stops_meanwhile now handed last moment counted settling.calls.front settling.calls.others calls settling.calls.ends since ended stops)
       ]
 
   completed : (cap handed last moment : ℕ) (log : FoundLog) (now : Tape) → handed ≡ length t.calls → FindsLog size sysid cap (Some t) log → HasSettled size log.spelled.end.0 log.made (Some t) (Some now) handed last → handed ≤ moment
-      → (ended : Tape) → StopsAt now moment ended → NoTornPass size (pages_in size (image_as_read (state_now ended))) left.order → WasLeftOf size sysid left.order ended found
-  completed cap handed last moment log now counted finds settled since ended stops none_torn =
+      → (ended : Tape) → StopsAt now moment ended → StopsSettling ended
+  completed cap handed last moment log now counted finds settled since ended stops =
       let count = same_count size log.made left.count (IsZeroOrLogWord size sysid left.order) before (2 ^ 60 / size) some_pages left.has_found.may.lawful left.only left.low settled.there.there settled.there.others in
       let calls = settled.calls.calls in
       let are = subst (λ (n : ℕ). calls ≡ settle_calls size n left.count before) (end_of_log cap log finds)
       (subst (λ (n : ℕ). calls ≡ settle_calls size log.spelled.end.0 n before) (sym count) settled.calls.are) in
-      left_meanwhile now handed last moment counted calls [] (append-nil calls ∙ are) (inl settled.calls.made) since ended stops none_torn
+      stops_meanwhile now handed last moment counted calls [] (append-nil calls ∙ are) (inl settled.calls.made) since ended stops
 
 pub stopped_settlings_were_left : StoppedSettlingsWereLeft
 stopped_settlings_were_left size sysid cap handed last moment t now ended found left counted begun since stops none_torn =
-    stopped size sysid t found left cap handed last moment now counted begun since ended stops none_torn
+    left_so size sysid t found left ended (stopped size sysid t found left cap handed last moment now counted begun since ended stops) none_torn
 
 -- the calls of a settling that was made to its end
 calls_are : (opening : Opening) (handed : ℕ) (t began : Tape) (found : List FoundRecord) (r : IsReopenedOn opening handed t began found) → r.settled.calls.calls ≡ settle_calls (opening.setup).segment_size (end_behind (opening.setup).segment_size found) r.left.count (state_now t)
@@ -265,9 +279,14 @@ began_whole opening handed t began found r =
 
 pub completed_settlings_were_left : CompletedSettlingsWereLeft
 completed_settlings_were_left size sysid cap handed last moment log t now ended found left counted finds settled since stops none_torn =
-    completed size sysid t found left cap handed last moment log now counted finds settled since ended stops none_torn
+    left_so size sysid t found left ended (completed size sysid t found left cap handed last moment log now counted finds settled since ended stops) none_torn
+
+-- where a settling stops that was made to its end
+pub reopened_stops : (opening : Opening) (handed moment : ℕ) (t began ended : Tape) (found : List FoundRecord) (r : IsReopenedOn opening handed t began found) → handed ≤ moment → StopsAt began moment ended → StopsSettling (opening.setup).segment_size (opening.setup).sysid t found r.left ended
+reopened_stops opening handed moment t began ended found r since stops =
+    let calls = r.settled.calls.calls in
+    stops_meanwhile (opening.setup).segment_size (opening.setup).sysid t found r.left began handed opening.moment moment r.counted calls [] (append-nil calls ∙ calls_are opening handed t began found r) (inl r.settled.calls.made) since ended stops
 
 pub reopened_settlings_were_left : ReopenedSettlingsWereLeft
 reopened_settlings_were_left opening handed moment t began ended found r since stops none_torn =
-    let calls = r.settled.calls.calls in
-    left_meanwhile (opening.setup).segment_size (opening.setup).sysid t found r.left began handed opening.moment moment r.counted calls [] (append-nil calls ∙ calls_are opening handed t began found r) (inl r.settled.calls.made) since ended stops none_torn
+    left_so (opening.setup).segment_size (opening.setup).sysid t found r.left ended (reopened_stops opening handed moment t began ended found r since stops) none_torn

@@ -19,7 +19,7 @@ use Rattle.told_lines.specs.declared.told.Told.{Told}
 use Rattle.wal_core.specs.Made.{MakeInTurn}
 use Rattle.wal_core.specs.Suited.{IsSuited}
 use Rattle.wal_core.specs.Words.{Opening}
-use Rattle.run_laws.specs.Assured.{RunAssures, order_told}
+use Rattle.run_laws.specs.Assured.{IsRunOn, order_told}
 use Rattle.reopened_log.specs.Reopened.{IsReopenedOn}
 use Rattle.reopened_log.specs.WasLeft.{WasLeft, WasLeftOf}
 
@@ -112,9 +112,9 @@ pub record IsOrderAt (opening : Opening) (moment : ℕ) (handed_in of_run order 
 -- or one that was settled
 abbrev pub CrashedRunsWereLeft : Type 0
 CrashedRunsWereLeft =
-    (opening : Opening) (moment last faults : ℕ) (began now crashed : Tape)
+    (opening : Opening) (moment last : ℕ) (began now crashed : Tape)
     (script : List (List AskedLine)) (lists : List (List Told))
-    → RunAssures opening (Some began) (Some now) last faults script lists
+    → IsRunOn opening (Some began) (Some now) last script lists
     → IsSuited opening (state_now began) → AreOnly opening.made (state_now began)
     → opening.made ≤ (opening.setup).cap_segments → opening.moment ≡ length began.calls
     → (opening.setup).sysid < 2 ^ 64 → opening.moment ≤ moment
@@ -130,10 +130,10 @@ CrashedRunsWereLeft =
 -- handed in: the log that is found there may be settled and gone on with as this one was
 abbrev pub CrashedReopenedRunsWereLeft : Type 0
 CrashedReopenedRunsWereLeft =
-    (opening : Opening) (handed moment last faults : ℕ) (t began now crashed : Tape)
+    (opening : Opening) (handed moment last : ℕ) (t began now crashed : Tape)
     (found : List FoundRecord) (script : List (List AskedLine)) (lists : List (List Told))
     → (reopened : IsReopenedOn opening handed t began found)
-    → RunAssures opening (Some began) (Some now) last faults script lists
+    → IsRunOn opening (Some began) (Some now) last script lists
     → handed ≤ moment → IsLeftByCrash now moment crashed
     → NoTornPass (opening.setup).segment_size
     (pages_in (opening.setup).segment_size (image_as_read (state_now crashed)))

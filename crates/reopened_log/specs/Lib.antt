@@ -7,3 +7,4 @@ pub mod Again
 pub mod StopsAt
 pub mod Stopped
 pub mod Own
+pub mod Sure

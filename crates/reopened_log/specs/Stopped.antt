@@ -21,7 +21,7 @@ use Rattle.told_lines.specs.declared.told.Told.{Told}
 use Rattle.wal_core.specs.Growing.{LosesOnly}
 use Rattle.wal_core.specs.Suited.{IsSuited}
 use Rattle.wal_core.specs.Words.{Opening}
-use Rattle.run_laws.specs.Assured.{RunAssures, order_told}
+use Rattle.run_laws.specs.Assured.{IsRunOn, order_told}
 use Rattle.reopened_log.specs.Again.{HasMadeInTurn, IsOrderAt}
 use Rattle.reopened_log.specs.Reopened.{IsReopenedOn}
 use Rattle.reopened_log.specs.StopsAt.{StopsAt}
@@ -86,9 +86,9 @@ StoppedLogsWereLeft =
 -- settled
 abbrev pub StoppedRunsWereLeft : Type 0
 StoppedRunsWereLeft =
-    (opening : Opening) (moment last faults : ℕ) (began now stopped : Tape)
+    (opening : Opening) (moment last : ℕ) (began now stopped : Tape)
     (script : List (List AskedLine)) (lists : List (List Told))
-    → RunAssures opening (Some began) (Some now) last faults script lists
+    → IsRunOn opening (Some began) (Some now) last script lists
     → IsSuited opening (state_now began) → AreOnly opening.made (state_now began)
     → HaveWholePages (opening.setup).segment_size (state_now began)
     → opening.made ≤ (opening.setup).cap_segments → opening.moment ≡ length began.calls
@@ -104,10 +104,10 @@ StoppedRunsWereLeft =
 -- and that of a run that goes on with a log, and stops since its disk was handed in
 abbrev pub StoppedReopenedRunsWereLeft : Type 0
 StoppedReopenedRunsWereLeft =
-    (opening : Opening) (handed moment last faults : ℕ) (t began now stopped : Tape)
+    (opening : Opening) (handed moment last : ℕ) (t began now stopped : Tape)
     (found : List FoundRecord) (script : List (List AskedLine)) (lists : List (List Told))
     → (reopened : IsReopenedOn opening handed t began found)
-    → RunAssures opening (Some began) (Some now) last faults script lists
+    → IsRunOn opening (Some began) (Some now) last script lists
     → handed ≤ moment → StopsAt now moment stopped
     → NoTornPass (opening.setup).segment_size
     (pages_in (opening.setup).segment_size (image_as_read (state_now stopped)))

@@ -20,6 +20,13 @@ ghost use Rattle.reopened_log.specs.Stopped.{
   CompletedSettlingsWereLeft,
 };
 ghost use Rattle.reopened_log.specs.StopsAt.{TapesStopAtTheirEnds};
+ghost use Rattle.reopened_log.specs.Sure.{
+  ReopenedSettlingsStaySure,
+  RunsMakeSure,
+  StoppedSettlingsStaySure,
+  SureEntriesAreRead,
+  UncalledDisksStaySure,
+};
 ghost use Rattle.reopened_log.specs.Surviving.{
   ReopenedLogsSurviveCrashes,
   SettledLogsKeepWhatWasFound,
@@ -97,4 +104,23 @@ pub fn empty_disks_were_left()
 pub fn left_logs_are_own()
     ensures own { LeftLogsAreOwn }
     ensures never_refused { LeftLogsAreNotForeign }
+{}
+
+/// A law: what is sure of a log, word by word, is read of its disk, and of what a crash leaves of
+/// it.
+pub fn sure_entries_are_read()
+    ensures { SureEntriesAreRead }
+{}
+
+/// A law: it stays so where a process stops or its machine crashes, where no call was made and
+/// while the log is settled, up to where the records end that were found.
+pub fn disks_stay_sure()
+    ensures uncalled { UncalledDisksStaySure }
+    ensures stopped { StoppedSettlingsStaySure }
+    ensures reopened { ReopenedSettlingsStaySure }
+{}
+
+/// A law: a run makes sure all that was found, and all that a line was told to be durable.
+pub fn runs_make_sure()
+    ensures { RunsMakeSure }
 {}

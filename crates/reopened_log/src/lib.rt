@@ -5,8 +5,8 @@
 mod laws;
 
 pub use laws::{
-    crashed_logs_were_left, crashed_settlings_were_left, empty_disks_were_left,
+    crashed_logs_were_left, crashed_settlings_were_left, disks_stay_sure, empty_disks_were_left,
     found_entries_come_first, left_logs_are_own, reopened_logs_are_suited,
-    reopened_logs_survive_crashes, settled_logs_survive_crashes, stopped_logs_were_left,
-    stopped_settlings_were_left,
+    reopened_logs_survive_crashes, runs_make_sure, settled_logs_survive_crashes,
+    stopped_logs_were_left, stopped_settlings_were_left, sure_entries_are_read,
 };

@@ -37,10 +37,11 @@ use Rattle.run_laws.proofs.CatchingUp.{run_catches_up}
 use Rattle.run_laws.proofs.MomentsTold.{run_rises}
 use Rattle.run_laws.proofs.OneFault.{told_once}
 use Rattle.run_laws.proofs.RefusedLines.{refused_for_want_of_room}
+use Rattle.run_laws.proofs.MachineRuns.{keeps_words}
 use Rattle.run_laws.proofs.RunCrashes.{told_survive, told_timely}
 use Rattle.run_laws.proofs.RunOrder.{told_order, told_rise}
 use Rattle.run_laws.proofs.RunTells.{run_tells}
-use Rattle.run_laws.specs.Assured.{HoldsSuited, IsMachineRun, LeavesLogWords, RunAssures, TapeGoesOn, order_told}
+use Rattle.run_laws.specs.Assured.{HoldsSuited, IsMachineRun, KeepsToldWords, LeavesLogWords, RunAssures, TapeGoesOn, order_told}
 use Rattle.run_laws.specs.ClosedRuns.{HasFlushedAll, IsRunClosed}
 use Rattle.run_laws.proofs.ClosedLogs.{closed_on, fault_rose, knows_no_fault, none_is_later, rooms_are_low}
 
@@ -159,6 +160,13 @@ module _ {D : Type 0} (tape : D → Option Tape) (moment faults : D → ℕ) (be
     taken = r.taken;
   }
 
+  firm : HoldsSuited opening began → IfSome (tape (slot_disk w))
+      (KeepsToldWords opening (order_told opening script lists) lists)
+  firm suited = told_as (tape (slot_disk w)) (λ t is.
+      keeps_words opening t (moment (slot_disk w)) script lists
+      (subst (λ (o : Option Tape). IsMachineRun opening o (moment (slot_disk w)) script lists) is
+      machine) (at_told (BeganSuited opening) (tape (slot_disk w)) t is (began_on suited)))
+
   pub run_assures : RunAssures opening began (tape (slot_disk w)) (moment (slot_disk w))
       (faults (slot_disk w)) script lists
   run_assures = record {
@@ -176,6 +184,7 @@ module _ {D : Type 0} (tape : D → Option Tape) (moment faults : D → ℕ) (be
         ((r.closes).of_log).on_first ((r.closes).of_log).goes_on;
     words = subst (λ (es : List Entry). HoldsSuited opening began → IfSome (tape (slot_disk w))
         (LeavesLogWords size (opening.setup).sysid es opening.moment)) order_is words;
+    firm = firm;
     crash = subst (λ (es : List Entry). HoldsSuited opening began → IfSome (tape (slot_disk w))
         (SurvivesCrashes size opening.moment es lists)) order_is crash;
     keeps_found = subst (λ (es : List Entry). HoldsSuited opening began

@@ -13,6 +13,7 @@ pub mod LineByLine
 pub mod LinePromises
 pub mod LateLines
 pub mod RunCrashes
+pub mod MachineRuns
 pub mod RefusedLines
 pub mod WritableLines
 pub mod FullScripts

@@ -31,12 +31,12 @@ all_contained P (x ∷ xs) each =
     (all_contained P xs (λ y c. each y (suc c.0, omega (arith, c.1), c.2)))
 
 -- of each promise of a pass's log this holds
-abbrev ArePromises : (List Entry → FlushPromise → Type 0) → Joined → Type 0
+abbrev pub ArePromises : (List Entry → FlushPromise → Type 0) → Joined → Type 0
 ArePromises R j = All (R j.entries) j.promises
 
 module _ (R : List Entry → FlushPromise → Type 0) where
   -- what some backend was told is promised
-  all_promised : (size limit pass moment address : ℕ) (script : List (List AskedLine))
+  pub all_promised : (size limit pass moment address : ℕ) (script : List (List AskedLine))
       (lists : List (List Told)) (others : List View)
       → PlayedAll size limit pass script lists others
       → All (λ w. ArePromises R (joined_of w)) others

@@ -7,17 +7,18 @@ use Rattle.segment_disk.specs.ImageWords.{image_word}
 use Rattle.segment_disk.specs.Tape.{DiskState, Tape, state_now}
 use Rattle.wal_page.specs.Log.{IsLawfulWord}
 use Rattle.wal_page.specs.Order.{Entry, IsChained, rooms_of}
+use Rattle.wal_core.specs.Durable.{IsFirm}
 use Rattle.wal_core.specs.Sound.{IsSound}
 use Rattle.wal_core.specs.Suited.{IsSuited, tape_from}
 use Rattle.wal_core.specs.Views.{HasAt, Plain, View}
-use Rattle.wal_core.specs.Words.{Opening}
+use Rattle.wal_core.specs.Words.{Opening, found_end}
 use Rattle.wal_script.specs.Asked.{AskedLine}
 use Rattle.told_lines.specs.declared.told.Told.{Told}
 use Rattle.told_lines.specs.Told.{EachStaysDown, IsFullAnswer, RiseInLineOrder, SomeTold, TellsAll, order_from}
 use Rattle.told_lines.specs.Counts.{TellsOneFault}
 use Rattle.told_lines.specs.Moments.{EachRises}
 use Rattle.told_lines.specs.CatchingUp.{EachCatchesUp}
-use Rattle.told_lines.specs.Crash.{EachIsTimely, KeepsFound, SurvivesCrashes}
+use Rattle.told_lines.specs.Crash.{EachIsTimely, KeepsFound, SaysDurable, SurvivesCrashes}
 use Rattle.told_lines.specs.Rooms.{all_rooms_asked, capacity_of}
 use Rattle.run_laws.specs.Ended.{HasTakenIn, logged_at_end}
 
@@ -45,6 +46,15 @@ LeavesLogWords size sysid order from t =
     (moment : ℕ) (image : DiskImage) → from ≤ moment → LeftAt t moment image
     → (k : ℕ) → IsLawfulWord size sysid order (8 * k) (image_word size image (8 * k))
 
+-- whatever a crash leaves is the log of an order word by word, in segments that are there: from the
+-- opening on up to where what was found ends, and from each moment on by which a line says that all
+-- below an address is durable, up to that address
+pub record KeepsToldWords (opening : Opening) (order : List Entry) (lists : List (List Told))
+    (t : Tape) : Type 0 where
+  pub found : IsFirm opening.setup order (found_end opening) opening.moment t
+  pub told : (moment address : ℕ) → SomeTold (SaysDurable moment address) lists
+      → IsFirm opening.setup order address moment t
+
 -- the run was one of the machine, with a log that was opened so: in a state that the machine's
 -- invariant allows, the order is the one told, the writer at home made the disk's calls, and a pass
 -- took in those of all backends, each of which played its lines and was told these answers
@@ -63,6 +73,14 @@ pub record IsMachineRun (opening : Opening) (now : Option Tape) (moment : ℕ)
   pub here : HasAt views id view
   pub taken : HasTakenIn opening view script lists
 
+-- the run was such a one, on a disk that had the tape `began` at the opening and has the tape `now`
+-- in the end; its lines are told of no moment before the opening's
+pub record IsRunOn (opening : Opening) (began now : Option Tape) (moment : ℕ)
+    (script : List (List AskedLine)) (lists : List (List Told)) : Type 0 where
+  pub machine : IsMachineRun opening now moment script lists
+  pub goes_on : TapeGoesOn began now
+  pub moments : EachRises opening.moment script lists moment
+
 -- the disk had the tape `began` at the opening, and has the tape `now`, this moment and this count
 -- of faults in the end
 pub record RunAssures (opening : Opening) (began now : Option Tape) (moment faults : ℕ)
@@ -79,6 +97,8 @@ pub record RunAssures (opening : Opening) (began now : Option Tape) (moment faul
   pub goes_on : TapeGoesOn began now
   pub words : HoldsSuited opening began → IfSome now (LeavesLogWords (opening.setup).segment_size
       (opening.setup).sysid (order_told opening script lists) opening.moment)
+  pub firm : HoldsSuited opening began
+      → IfSome now (KeepsToldWords opening (order_told opening script lists) lists)
   pub crash : HoldsSuited opening began → IfSome now (SurvivesCrashes (opening.setup).segment_size
       opening.moment (order_told opening script lists) lists)
   pub keeps_found : HoldsSuited opening began → IfSome now (KeepsFound

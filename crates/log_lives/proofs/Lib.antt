@@ -1,0 +1,5 @@
+pub mod KeptRecords
+pub mod Lives
+pub mod Calls
+pub mod Receipts
+pub mod Theorem
