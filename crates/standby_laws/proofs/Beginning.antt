@@ -1,8 +1,8 @@
 -- Disks with which a standby's history may begin.
-use Rattle.std.proofs.Common.{◌≡◌, ℕ, ◌<◌, ◌≤◌, length, List, Option, Some, None, IfSome, sym, subst, arith}
+use Rattle.std.proofs.Common.{◌≡◌, ℕ, ◌<◌, length, List, Option, Some, IfSome, sym, subst, arith}
 use Rattle.byte_position.specs.Geometry.{pages_of}
 use Rattle.segment_disk.specs.Assured.{SegmentAssures}
-use Rattle.segment_disk.specs.Tape.{Segment, Tape, page_as_read, state_now}
+use Rattle.segment_disk.specs.Tape.{Segment, Tape, page_as_read}
 use Rattle.flush_core.specs.Pages.{HoldsNothing}
 use Rattle.flush_core.specs.Settled.{IsAmong}
 use Rattle.flush_core.specs.SettledLog.{IsZeroOrLogWord}

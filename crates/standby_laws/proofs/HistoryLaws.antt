@@ -25,8 +25,8 @@ use Rattle.reopened_log.specs.Again.{IsLeftByCrash}
 use Rattle.reopened_log.specs.StopsAt.{StopsAt}
 use Rattle.standby_laws.specs.History.{Closed, KeepsPromises, Lived, NoneTornRead, Open, ReachesEntries, Standing, begins, closes, crashes, disk_standing, fails_to_harden, fails_to_open, hardens, is_killed, is_offered, opens, told_by, told_since}
 use Rattle.standby_laws.proofs.Holding.{HoldsOrder, IsHeld, held_crashed, held_stopped, image_held, image_lawful, order_begun, order_crashed, order_stopped}
-use Rattle.standby_laws.proofs.OpenSteps.{HoldsClosed, HoldsOpen, IsHeldBy, is_closed, step_hardened, step_open}
-use Rattle.standby_laws.proofs.OpenedAgain.{opened_follows, opened_held, opened_in_turn, opened_order, told_now}
+use Rattle.standby_laws.proofs.OpenSteps.{HoldsClosed, HoldsOpen, IsHeldBy, is_closed, open_promises, step_hardened, step_open}
+use Rattle.standby_laws.proofs.OpenedAgain.{opened_follows, opened_held, opened_in_turn, opened_keeps, opened_order, told_now}
 use Rattle.standby_laws.proofs.Settling.{stopped_settling}
 
 -- ---- promises by a moment
@@ -206,7 +206,13 @@ module _ {D : Type 0} (tape : D → Option Tape) (moment faults : D → ℕ)
     held = All-nil (IsHeld size sysid es t);
   }
   lived_holds _ _ _ (opens since told cap disk s lived few none_torn stands) =
-      opened since told cap disk s (lived_holds since told (Closed disk) lived) few none_torn stands
+      let was = lived_holds since told (Closed disk) lived in
+      let t = was.t in
+      let torn = subst (λ (o : Option Tape). NoneTornRead size es o) was.told_tape none_torn in
+      open_promises tape moment faults size sysid es counts since told s (standby_end s)
+      (opened since told cap disk s was few none_torn stands)
+      (opened_keeps tape moment faults size sysid cap es since t was.order disk s few was.told_tape
+      torn stands)
   lived_holds _ _ _ (fails_to_open since told cap disk refused fault lived few none_torn leaves) =
       unsettled since told cap disk refused fault (lived_holds since told (Closed disk) lived) few
       none_torn leaves

@@ -162,9 +162,6 @@ module _ {D : Type 0} (tape : D → Option Tape) (moment faults : D → ℕ) (si
           keeps,
         )
 
-    all_held : All (IsHeldBy (record was.t { calls = (was.t).calls ++ grows.more }) new) told
-    all_held = All-weaker (IsHeldBy t old) (IsHeldBy after new) held_after told was.held
-
     pub step_open : HoldsOpen since told new
     step_open = record {
       t = after;
@@ -173,41 +170,43 @@ module _ {D : Type 0} (tape : D → Option Tape) (moment faults : D → ℕ) (si
       order = order_after;
       follows = follows_after;
       in_turn = in_turn_after;
-      held = all_held;
+      held = All-weaker (IsHeldBy t old) (IsHeldBy after new) held_after told was.held;
     }
 
-    -- with what is promised now
-    pub step_promises : (counts : (disk : D) → IfSome (tape disk) (λ t. moment disk ≡ length t.calls))
-        → (upto : ℕ) → KeepsLogUpto tape sysid es new (moment (standby_disk new), upto)
-        → HoldsOpen since (told ++ (moment (standby_disk new), upto) ∷ []) new
-    step_promises counts upto keeps =
-        let at = moment (standby_disk new) in
-        let counted : at ≡ length after.calls =
-        subst (λ (o : Option Tape). IfSome o (λ t. at ≡ length t.calls)) told_after
-        (counts (standby_disk new)) in
-        let IsThere = IsMadeUpto size upto in
-        let Fits = IsLogBelow size sysid es upto in
-        let kept = subst (λ (n : ℕ). KeepsUpto size sysid es upto n after) (sym counted)
-        (runs_from (StateAssures size IsThere Fits) (CallFits size Fits) after
-        (kept_after at upto keeps).now) in
-        let held : IsHeldBy after new (at, upto) = (
-          record {
-            upto = upto;
-            whole = keeps.whole;
-            reaches = λ i e got low. low;
-            keeps = kept;
-          },
-          keeps,
-        ) in
+  -- what is kept from now on is promised
+  pub open_promises : (counts : (disk : D) → IfSome (tape disk) (λ t. moment disk ≡ length t.calls))
+      → (since : ℕ) (told : List (ℕ × ℕ)) (s : Standby D) (upto : ℕ) → HoldsOpen since told s
+      → KeepsLogUpto tape sysid es s (moment (standby_disk s), upto)
+      → HoldsOpen since (told ++ (moment (standby_disk s), upto) ∷ []) s
+  open_promises counts since told s upto is keeps =
+      let at = moment (standby_disk s) in
+      let counted : at ≡ length (is.t).calls =
+      subst (λ (o : Option Tape). IfSome o (λ t. at ≡ length t.calls)) is.told_tape
+      (counts (standby_disk s)) in
+      let IsThere = IsMadeUpto size upto in
+      let Fits = IsLogBelow size sysid es upto in
+      let now = subst (λ (n : ℕ). TapeAssures n (IsMadeUpto n upto) (IsLogBelow n sysid es upto) at
+      is.t) is.size_is (has_kept tape sysid es s is.t is.told_tape at upto keeps) in
+      let kept = subst (λ (n : ℕ). KeepsUpto size sysid es upto n is.t) (sym counted)
+      (runs_from (StateAssures size IsThere Fits) (CallFits size Fits) is.t now.now) in
+      let held : IsHeldBy is.t s (at, upto) = (
         record {
-          t = after;
-          told_tape = told_after;
-          size_is = new_size;
-          order = order_after;
-          follows = follows_after;
-          in_turn = in_turn_after;
-          held = All-push (IsHeldBy after new) told (at, upto) all_held held;
-        }
+          upto = upto;
+          whole = keeps.whole;
+          reaches = λ i e got low. low;
+          keeps = kept;
+        },
+        keeps,
+      ) in
+      record {
+        t = is.t;
+        told_tape = is.told_tape;
+        size_is = is.size_is;
+        order = is.order;
+        follows = is.follows;
+        in_turn = is.in_turn;
+        held = All-push (IsHeldBy is.t s) told (at, upto) is.held held;
+      }
 
   -- what `harden` told
   pub step_hardened : (counts : (disk : D) → IfSome (tape disk) (λ t. moment disk ≡ length t.calls))
@@ -217,6 +216,7 @@ module _ {D : Type 0} (tape : D → Option Tape) (moment faults : D → ℕ) (si
   step_hardened counts since told upto old new was is =
       let all = follows_and_keeps tape moment faults sysid es since 0 old
       ((Harden upto, new) ∷ []) (is, tt) in
-      step_promises since told 0 old new (Harden upto) was is counts upto
+      open_promises counts since told new upto
+      (step_open since told 0 old new (Harden upto) was is)
       (All-head (KeepsLogUpto tape sysid es new) (moment (standby_disk new), upto) []
       (all.promises was.follows))

@@ -274,3 +274,15 @@ module _ {D : Type 0} (tape : D → Option Tape) (moment faults : D → ℕ) (si
             (subst (λ (n : ℕ). KeepsUpto n sysid es held.0.upto promise.0 after)
             (sym stands.size_is) held.0.keeps),
       )
+
+  -- what it found is durable now
+  pub opened_keeps : KeepsLogUpto tape sysid es s (moment (standby_disk s), standby_end s)
+  opened_keeps = subst (λ (e : ℕ). KeepsLogUpto tape sysid es s (moment (standby_disk s), e))
+      (sym stands.end_is) (record {
+        pages = settled_pages size end before;
+        kept = resumed.kept;
+        log = subst (λ (n : ℕ). HaveLogBelow n sysid es end (settled_pages size end before))
+            (sym stands.size_is) log_below;
+        within = omega (arith, stands.end_is);
+        whole = whole_end;
+      })

@@ -5,7 +5,7 @@ use Rattle.segment_disk.specs.Tape.{Tape}
 use Rattle.wal_page.specs.Order.{Entry}
 use Rattle.wal_stream.specs.Following.{AreSentSteps, ComesOfLog, Harden, NotHardened, Offer, SentStep, promises_of, standby_behind}
 use Rattle.wal_stream.specs.Opened.{StandsAtFound}
-use Rattle.wal_stream.specs.Standby.{standby_disk}
+use Rattle.wal_stream.specs.Standby.{standby_disk, standby_end}
 use Rattle.wal_stream.specs.declared.standby.Standby.{Standby}
 use Rattle.wal_stream.proofs.FollowLaws.{follows_and_keeps}
 use Rattle.received_log.specs.Fetched.{SourceState}
@@ -51,17 +51,18 @@ module _ {D : Type 0} (tape : D → Option Tape) (moment faults : D → ℕ) (si
       → Receives tape moment faults before after first last received
       → HandsOutLog size sysid es hardened before after
       → Lived tape moment faults size sysid es since
-      (told ++ promised_at received.ended (moment (standby_disk last)) received.upto.0)
+      ((told ++ (moment (standby_disk first), standby_end first) ∷ [])
+      ++ promised_at received.ended (moment (standby_disk last)) received.upto.0)
       (Closed (standby_disk last))
   lived_receiving told cap disk first last before after received lived few none_torn stands receives sent =
       let run = is_sent_run tape moment faults sysid es hardened before after first last received
       receives (subst (λ (n : ℕ). HandsOutLog n sysid es hardened before after)
       (sym stands.size_is) sent) in
+      let found : List (ℕ × ℕ) = told ++ (moment (standby_disk first), standby_end first) ∷ [] in
+      let more = promised_at received.ended (moment (standby_disk last)) received.upto.0 in
       let opened = opens since told cap disk first lived few none_torn stands in
-      let behind = lived_steps told first run.steps stands.size_is run.are opened in
-      let promised = subst (λ (l : List (ℕ × ℕ)). LivedOpen (told ++ l)
+      let behind = lived_steps found first run.steps stands.size_is run.are opened in
+      let promised = subst (λ (l : List (ℕ × ℕ)). LivedOpen (found ++ l)
       (standby_behind first run.steps)) run.promised behind in
-      let at_last = subst (λ (s : Standby D). LivedOpen (told ++ promised_at received.ended
-      (moment (standby_disk last)) received.upto.0) s) run.behind promised in
-      closes since
-      (told ++ promised_at received.ended (moment (standby_disk last)) received.upto.0) last at_last
+      let at_last = subst (LivedOpen (found ++ more)) run.behind promised in
+      closes since (found ++ more) last at_last

@@ -40,8 +40,8 @@ abbrev pub IfOpen : {D : Type 0} → Standing D → (Standby D → Type 0) → T
 IfOpen (Closed disk) Holds = Unit {0}
 IfOpen (Open standby) Holds = Holds standby
 
--- what `harden` told by a moment: promises, each a moment and up to where the log is durable from
--- it on
+-- what was told by a moment, by an opening of what it found or by a harden: promises, each a moment
+-- and up to where the log is durable from it on
 abbrev pub told_by : ℕ → List (ℕ × ℕ) → List (ℕ × ℕ)
 told_by at [] = []
 told_by at (promise ∷ told) =
@@ -70,7 +70,7 @@ NoneTornRead size es tape =
     IfSome tape (λ t. NoTornPass size (pages_in size (image_as_read (state_now t))) es)
 
 -- all of it since a moment of the disk, with what was told, and where it stands then. A crash or a
--- kill comes at any moment of that time, in the midst of an opening or a frame too. `hardened` is up
+-- kill comes at any moment of that time, in the midst of an opening or a frame too; `hardened` is up
 -- to where the frames of the log are sent
 pub data Lived {D : Type 0} (tape : D → Option Tape) (moment faults : D → ℕ) (size sysid : ℕ)
     (es : List Entry) : ℕ → List (ℕ × ℕ) → Standing D → Type 0 where
@@ -80,7 +80,8 @@ pub data Lived {D : Type 0} (tape : D → Option Tape) (moment faults : D → �
       → Lived tape moment faults size sysid es since told (Closed disk) → cap ≤ 4096
       → NoneTornRead size es (tape disk)
       → StandsAtFound tape moment faults size sysid cap disk s
-      → Lived tape moment faults size sysid es since told (Open s)
+      → Lived tape moment faults size sysid es since
+      (told ++ (moment (standby_disk s), standby_end s) ∷ []) (Open s)
   fails_to_open : (since : ℕ) (told : List (ℕ × ℕ)) (cap : ℕ) (disk refused : D)
       (fault : FindFault) → Lived tape moment faults size sysid es since told (Closed disk)
       → cap ≤ 4096

@@ -1,11 +1,11 @@
-ghost use Rattle.std.specs.Prelude.{ℕ, ◌≤◌, List, ◌++◌, Some};
+ghost use Rattle.std.specs.Prelude.{ℕ, ◌≤◌, List, [], ◌∷◌, ◌++◌, Some};
 ghost use Rattle.segment_disk.specs.Tape.{Tape};
 ghost use Rattle.flush_core.specs.Pages.{HoldsNothing};
 ghost use Rattle.wal_page.specs.Order.{Entry};
 ghost use Rattle.wal_reader.specs.declared.found.FoundRecord.{FoundRecord};
 ghost use Rattle.wal_stream.specs.FollowedLog.{IsLogOrder};
 ghost use Rattle.wal_stream.specs.Opened.{StandsAtFound};
-ghost use Rattle.wal_stream.specs.Standby.{standby_disk};
+ghost use Rattle.wal_stream.specs.Standby.{standby_disk, standby_end};
 ghost use Rattle.wal_stream.specs.declared.standby.Standby.{Standby};
 ghost use Rattle.received_log.specs.Fetched.{SourceState};
 ghost use Rattle.received_log.specs.Receiving.{Receives};
@@ -21,8 +21,9 @@ use segment_disk::Disk;
 /// A law: whatever is done with a standby's disk, from one on that holds nothing but words of one
 /// log: standbys are opened there and closed, hardened or not, are sent frames of the log in any
 /// order, repeated or cut short, and harden; openings fail; crashes come and processes are killed,
-/// at any moment. What any `harden` told is kept through all of it: by whatever a crash leaves, and
-/// by each standby that is opened later. No answer says that a frame is of another log.
+/// at any moment. What any opening found and any `harden` told is kept through all of it: by
+/// whatever a crash leaves, and by each standby that is opened later. No answer says that a frame
+/// is of another log.
 pub fn standbys_keep_their_promises<D: Disk>()
     ensures { (size sysid since : ℕ) (es : List Entry) (told : List (ℕ × ℕ))
         (standing : Standing D)
@@ -40,8 +41,8 @@ pub fn histories_begin_on_left_disks()
 {}
 
 /// A law: a `receive` is a part of that history: a standby is opened on a disk, is fed with what a
-/// source hands out, and is closed. Where it ended hardened, what it tells is a promise from then
-/// on.
+/// source hands out, and is closed. What it found is a promise from its opening on and, where it
+/// ended hardened, what it tells is one from its end on.
 pub fn received_frames_are_lived<D: Disk>()
     ensures { (size sysid since hardened cap : ℕ) (es : List Entry) (told : List (ℕ × ℕ))
         (disk : D) (first last : Standby D) (before after : SourceState) (received : Received)
@@ -51,7 +52,8 @@ pub fn received_frames_are_lived<D: Disk>()
         → Receives D.tape D.moment D.faults before after first last received
         → HandsOutLog size sysid es hardened before after
         → Lived D.tape D.moment D.faults size sysid es since
-        (told ++ promised_at received.ended (D.moment (standby_disk last)) received.upto.0)
+        ((told ++ (D.moment (standby_disk first), standby_end first) ∷ [])
+        ++ promised_at received.ended (D.moment (standby_disk last)) received.upto.0)
         (Closed (standby_disk last)) }
 {}
 

@@ -5,6 +5,6 @@
 mod laws;
 
 pub use laws::{
-    histories_begin_on_left_disks, later_orders_begin, received_frames_are_lived, sent_frames_are_of_the_log,
-    standbys_keep_their_promises,
+    histories_begin_on_left_disks, later_orders_begin, received_frames_are_lived,
+    sent_frames_are_of_the_log, standbys_keep_their_promises,
 };
