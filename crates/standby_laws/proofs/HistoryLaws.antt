@@ -3,7 +3,7 @@ use Rattle.std.proofs.Common.{◌≡◌, ℕ, ◌≤◌, All, List, [], ◌∷�
 use Rattle.std.proofs.lemmas.Bool.{cases_lt, le-ltb, lt-ltb}
 use Rattle.std.proofs.lemmas.List.Elements.{All-cons, All-head, All-nil, All-tail, All-weaker}
 use Rattle.segment_disk.specs.DiskImage.{DiskImage, LeftAt}
-use Rattle.segment_disk.specs.Tape.{IsNotMade, Tape}
+use Rattle.segment_disk.specs.Tape.{IsNotMade, Tape, state_now}
 use Rattle.found_log.specs.Found.{HasBegunToSettle, LeavesUnsettled}
 use Rattle.found_log.specs.declared.fault.FindFault.{FindFault}
 use Rattle.found_log.specs.declared.fault.FindFault.TheVariants.{Beyond, Disk, Foreign, Memory}
@@ -14,6 +14,7 @@ use Rattle.wal_reader.specs.declared.found.FoundRecord.{FoundRecord}
 use Rattle.wal_reader.specs.Decodes.{Decodes}
 use Rattle.wal_reader.specs.Pages.{pages_in}
 use Rattle.written_log.specs.LawfulLog.{IsFrontUpto}
+use Rattle.written_log.specs.SettledFound.{NothingWaits}
 use Rattle.written_log.specs.Torn.{NoTornPass}
 use Rattle.written_log.proofs.LawfulLaws.{lawful_images_decode_to_fronts}
 use Rattle.wal_stream.specs.Following.{ComesOfLog, NotHardened, Offer}
@@ -23,10 +24,10 @@ use Rattle.wal_stream.specs.declared.standby.Standby.{Standby}
 use Rattle.wal_stream.proofs.FollowLaws.{never_diverges}
 use Rattle.reopened_log.specs.Again.{IsLeftByCrash}
 use Rattle.reopened_log.specs.StopsAt.{StopsAt}
-use Rattle.standby_laws.specs.History.{Closed, KeepsPromises, Lived, NoneTornRead, Open, ReachesEntries, Standing, begins, closes, crashes, disk_standing, fails_to_harden, fails_to_open, hardens, is_killed, is_offered, opens, told_by, told_since}
+use Rattle.standby_laws.specs.History.{Closed, IsFoundSince, KeepsPromises, Lived, NoneTornRead, Open, ReachesEntries, Standing, begins, closes, crashes, disk_standing, fails_to_harden, fails_to_open, hardens, is_killed, is_offered, opens, told_by, told_since}
 use Rattle.standby_laws.proofs.Holding.{HoldsOrder, IsHeld, held_crashed, held_stopped, image_held, image_lawful, order_begun, order_crashed, order_stopped}
-use Rattle.standby_laws.proofs.OpenSteps.{HoldsClosed, HoldsOpen, IsHeldBy, is_closed, open_promises, step_hardened, step_open}
-use Rattle.standby_laws.proofs.OpenedAgain.{opened_follows, opened_held, opened_in_turn, opened_keeps, opened_order, told_now}
+use Rattle.standby_laws.proofs.OpenSteps.{HoldsClosed, HoldsOpen, IsHeldBy, is_closed, open_promises, open_with, step_hardened, step_open}
+use Rattle.standby_laws.proofs.OpenedAgain.{opened_follows, opened_held, opened_in_turn, opened_keeps, opened_order, quiet_held, told_now}
 use Rattle.standby_laws.proofs.Settling.{stopped_settling}
 
 -- ---- promises by a moment
@@ -83,7 +84,7 @@ module _ {D : Type 0} (tape : D → Option Tape) (moment faults : D → ℕ)
 
   -- ---- openings
 
-  opened : (since : ℕ) (told : List (ℕ × ℕ)) (cap : ℕ) (disk : D) (s : Standby D)
+  abbrev opened : (since : ℕ) (told : List (ℕ × ℕ)) (cap : ℕ) (disk : D) (s : Standby D)
       → ClosedSo since told disk → cap ≤ 4096 → NoneTornRead size es (tape disk)
       → StandsAtFound tape moment faults size sysid cap disk s → OpenSo since told s
   opened since told cap disk s was few none_torn stands =
@@ -106,6 +107,30 @@ module _ {D : Type 0} (tape : D → Option Tape) (moment faults : D → ℕ)
             (opened_held tape moment faults size sysid cap es since t was.order disk s few
             was.told_tape torn stands) told was.held;
       }
+
+  found_holds : (since : ℕ) (told : List (ℕ × ℕ)) (cap from : ℕ) (disk : D) (s : Standby D)
+      → ClosedSo since told disk → cap ≤ 4096 → NoneTornRead size es (tape disk)
+      → StandsAtFound tape moment faults size sysid cap disk s
+      → IsFoundSince tape moment disk (standby_disk s) from
+      → OpenSo since (told ++ (from, standby_end s) ∷ []) s
+  found_holds since told cap from disk s was few none_torn stands (inl now) =
+      let t = was.t in
+      let torn = subst (λ (o : Option Tape). NoneTornRead size es o) was.told_tape none_torn in
+      subst (λ (n : ℕ). OpenSo since (told ++ (n, standby_end s) ∷ []) s) (sym now)
+      (open_promises tape moment faults size sysid es counts since told s (standby_end s)
+      (opened since told cap disk s was few none_torn stands)
+      (opened_keeps tape moment faults size sysid cap es since t was.order disk s few was.told_tape
+      torn stands))
+  found_holds since told cap from disk s was few none_torn stands (inr early) =
+      let t = was.t in
+      let torn = subst (λ (o : Option Tape). NoneTornRead size es o) was.told_tape none_torn in
+      let quiet = subst (λ (o : Option Tape). IfSome o (λ t. NothingWaits (state_now t)))
+      was.told_tape early.1 in
+      let held = quiet_held tape moment faults size sysid cap es since t was.order disk s few
+      was.told_tape torn stands quiet (counted disk t was.told_tape) in
+      subst (λ (n : ℕ). OpenSo since (told ++ (n, standby_end s) ∷ []) s) (sym early.0)
+      (open_with tape moment faults size sysid es since told s (moment disk, standby_end s)
+      (opened since told cap disk s was few none_torn stands) held)
 
   -- no call was made
   uncalled : (since : ℕ) (told : List (ℕ × ℕ)) (disk refused : D) → ClosedSo since told disk
@@ -205,14 +230,9 @@ module _ {D : Type 0} (tape : D → Option Tape) (moment faults : D → ℕ)
         (order_begun size sysid es t may);
     held = All-nil (IsHeld size sysid es t);
   }
-  lived_holds _ _ _ (opens since told cap disk s lived few none_torn stands) =
-      let was = lived_holds since told (Closed disk) lived in
-      let t = was.t in
-      let torn = subst (λ (o : Option Tape). NoneTornRead size es o) was.told_tape none_torn in
-      open_promises tape moment faults size sysid es counts since told s (standby_end s)
-      (opened since told cap disk s was few none_torn stands)
-      (opened_keeps tape moment faults size sysid cap es since t was.order disk s few was.told_tape
-      torn stands)
+  lived_holds _ _ _ (opens since told cap from disk s lived few none_torn stands found) =
+      found_holds since told cap from disk s (lived_holds since told (Closed disk) lived) few
+      none_torn stands found
   lived_holds _ _ _ (fails_to_open since told cap disk refused fault lived few none_torn leaves) =
       unsettled since told cap disk refused fault (lived_holds since told (Closed disk) lived) few
       none_torn leaves

@@ -173,6 +173,19 @@ module _ {D : Type 0} (tape : D → Option Tape) (moment faults : D → ℕ) (si
       held = All-weaker (IsHeldBy t old) (IsHeldBy after new) held_after told was.held;
     }
 
+  pub open_with : (since : ℕ) (told : List (ℕ × ℕ)) (s : Standby D) (promise : ℕ × ℕ)
+      → (is : HoldsOpen since told s) → IsHeldBy is.t s promise
+      → HoldsOpen since (told ++ promise ∷ []) s
+  open_with since told s promise is held = record {
+    t = is.t;
+    told_tape = is.told_tape;
+    size_is = is.size_is;
+    order = is.order;
+    follows = is.follows;
+    in_turn = is.in_turn;
+    held = All-push (IsHeldBy is.t s) told promise is.held held;
+  }
+
   -- what is kept from now on is promised
   pub open_promises : (counts : (disk : D) → IfSome (tape disk) (λ t. moment disk ≡ length t.calls))
       → (since : ℕ) (told : List (ℕ × ℕ)) (s : Standby D) (upto : ℕ) → HoldsOpen since told s
@@ -198,15 +211,7 @@ module _ {D : Type 0} (tape : D → Option Tape) (moment faults : D → ℕ) (si
         },
         keeps,
       ) in
-      record {
-        t = is.t;
-        told_tape = is.told_tape;
-        size_is = is.size_is;
-        order = is.order;
-        follows = is.follows;
-        in_turn = is.in_turn;
-        held = All-push (IsHeldBy is.t s) told (at, upto) is.held held;
-      }
+      open_with since told s (at, upto) is held
 
   -- what `harden` told
   pub step_hardened : (counts : (disk : D) → IfSome (tape disk) (λ t. moment disk ≡ length t.calls))

@@ -1,22 +1,25 @@
 -- A standby that is opened on a disk that holds nothing but words of one log follows that log,
 -- whatever waits for a sync there.
-use Rattle.std.proofs.Common.{◌≡◌, ℕ, ◌+◌, ◌*◌, ◌/◌, ◌%◌, ◌<◌, ◌≤◌, List, ◌++◌, Option, Some, IfSome, sym, ap, subst, ◌∙◌, arith}
+use Rattle.std.proofs.Common.{◌≡◌, ℕ, ◌+◌, ◌*◌, ◌/◌, ◌%◌, ◌<◌, ◌≤◌, inl, inr, List, [], ◌++◌, length, Option, Some, None, IfSome, refl, sym, ap, subst, ◌∙◌, arith}
 use Rattle.std.specs.Int.{w64, to_le_bytes}
 use Rattle.std.specs.List.{AllByRecursion}
-use Rattle.std.specs.Prelude.{slice_index}
-use Rattle.byte_position.specs.Geometry.{IsSegmentSize}
+use Rattle.std.specs.Option.{IsSomeAnd}
+use Rattle.std.specs.Prelude.{IsSome, slice_index}
+use Rattle.std.proofs.lemmas.Bool.{cases_lt}
+use Rattle.byte_position.specs.Geometry.{IsSegmentSize, pages_of}
 use Rattle.byte_position.specs.Position.{end_address_of, first_position}
 use Rattle.byte_position.proofs.EndAddresses.{end_address_of-mono}
 use Rattle.segment_disk.specs.declared.disk.Call.{Call}
-use Rattle.segment_disk.specs.Assured.{IsMadeUpto, IsNowhere, TapeAssures}
+use Rattle.segment_disk.specs.Assured.{CallFits, IsMadeUpto, IsNowhere, SegmentAssures, StateAssures, TapeAssures}
 use Rattle.segment_disk.specs.DiskImage.{image_as_read, word_of}
-use Rattle.segment_disk.specs.Tape.{DiskState, Tape, after_calls, state_now}
+use Rattle.segment_disk.specs.Tape.{DiskState, Segment, Tape, after_calls, page_as_read, page_of_segment, state_now}
 use Rattle.flush_core.specs.Calls.{with_calls}
 use Rattle.flush_core.specs.Left.{IsKeptWord, IsWordPut}
-use Rattle.flush_core.specs.Settled.{IfWhole, KeepsOld, settle_calls}
+use Rattle.flush_core.specs.Settled.{IfWhole, IsAmong, KeepsOld, settle_calls}
 use Rattle.flush_core.specs.SettledLog.{IsLogWord, IsZeroOrLogWord}
 use Rattle.flush_core.specs.Writer.{HoldsLogPages, writer_segment_size}
 use Rattle.flush_core.proofs.GrowingTapes.{with_calls-some}
+use Rattle.flush_core.proofs.SettledLeft.{at_number}
 use Rattle.flush_core.proofs.SettledPages.{after_calls-append}
 use Rattle.found_log.specs.Found.{FindsLog, IsFound}
 use Rattle.found_log.specs.Spelled.{spelled_entries}
@@ -24,18 +27,19 @@ use Rattle.wal_page.specs.Order.{Entry, IsChained, end_position}
 use Rattle.wal_page.specs.Log.{log_word}
 use Rattle.wal_page.proofs.WordPositions.{end_address_of-first_position}
 use Rattle.wal_reader.specs.Pages.{pages_in}
+use Rattle.written_log.specs.SettledFound.{NothingWaits}
 use Rattle.written_log.specs.Torn.{NoTornPass}
 use Rattle.wal_stream.specs.Following.{FollowsLog, HaveLogBelow, KeepsLogUpto}
 use Rattle.wal_stream.specs.Opened.{StandsAtFound}
 use Rattle.wal_stream.specs.Standby.{HasResumed, own_page, standby_disk, standby_end}
 use Rattle.wal_stream.specs.declared.standby.Standby.{Standby}
 use Rattle.reopened_log.proofs.SettlingCalls.{Settles, all_settle}
-use Rattle.standby_laws.proofs.AgainPages.{holds_log_pages, settled_pages, word_below}
-use Rattle.standby_laws.proofs.Holding.{HoldsOrder, IsHeld, IsLogBelow, KeepsUpto, pages_now}
+use Rattle.standby_laws.proofs.AgainPages.{holds_log_pages, settled_pages, stands_read, word_below}
+use Rattle.standby_laws.proofs.Holding.{HoldsOrder, IsHeld, IsLogBelow, KeepsUpto, pages_now, words_now}
 use Rattle.standby_laws.proofs.LeftLogs.{ReadsOrder, only_made, read_below, spelled_below}
 use Rattle.standby_laws.proofs.LogPages.{log_is_put, log_pages, log_puts, page_word, put_is_log}
-use Rattle.standby_laws.proofs.Moments.{assures_tape}
-use Rattle.standby_laws.proofs.Settling.{end_whole, held_settled, last_is, order_settled, reads_order, turn_settled}
+use Rattle.standby_laws.proofs.Moments.{assures_tape, runs_from}
+use Rattle.standby_laws.proofs.Settling.{end_whole, held_settled, keeps_settled, last_is, order_settled, reads_order, turn_settled}
 use Rattle.standby_laws.proofs.Turns.{HasSegmentsInTurn, MakesInTurn}
 use Rattle.standby_laws.proofs.Weaker.{TapeAssures-within}
 
@@ -286,3 +290,76 @@ module _ {D : Type 0} (tape : D → Option Tape) (moment faults : D → ℕ) (si
         within = omega (arith, stands.end_is);
         whole = whole_end;
       })
+
+  -- ---- where nothing waited for a sync
+
+  module _ (quiet : NothingWaits (state_now t)) where
+    among_made : (segment : ℕ) (x : Segment) → state_now t segment ≡ Some x
+        → IsAmong stands.log.made segment
+    among_made segment x is = elim (cases_lt 0 segment) [
+      | inr none ↦ absurd (apart (λ among. omega (arith, among.0, none)))
+      | inl some ↦ elim (cases_lt made segment) [
+        | inl above ↦ absurd (apart (λ among. omega (arith, among.1, above)))
+        | inr upto ↦ (omega (arith, some), omega (arith, upto))
+      ]
+    ]
+      where
+        apart : (IsAmong made segment → ⊥) → ⊥
+        apart none =
+            let gone = only_made size sysid es t o cap made end fs found chained end_is segment none in
+            let no : ⊥ = cc (is, gone) in
+            no
+
+    quiet_segment : (segment : ℕ) (x : Option Segment) → state_now t segment ≡ x
+        → IfSome x (λ s. s.writes ≡ [])
+        → SegmentAssures size IsNowhere (IsZeroOrLogWord size sysid es) segment x
+        → SegmentAssures size (IsMadeUpto size stands.log.spelled.end.0)
+        (IsLogBelow size sysid es stands.log.spelled.end.0) segment x
+    quiet_segment segment None is none words = λ asked.
+        let there = subst (λ (o : Option Segment). IsSome (page_of_segment o 0)) is
+        (found.counted.there.there segment
+        (asked.0, omega (arith, asked.1, holds_pages.made_as_far))) in
+        absurd (let no : ⊥ = cc there in no)
+    quiet_segment segment (Some x) is none words = (
+      words.0,
+      λ page word within low bytes may below.
+          let number = segment * pages_of size + page in
+          let read = stands_read x page word bytes none may in
+          let among = at_number size end valid segment page within (λ d m. IsAmong made d)
+          (among_made segment x is) in
+          let here = at_number size end valid segment page within
+          (λ d m. IsSomeAnd (before d) (λ s. bytes ≡ word_of (page_as_read s m) word))
+          (subst (λ (o : Option Segment). IsSomeAnd o
+          (λ s. bytes ≡ word_of (page_as_read s page) word)) (sym is) read) in
+          read_below size sysid es t o cap made end fs found chained end_is number word bytes among
+          low (omega (arith, below)) here,
+    )
+
+    quiet_kept : KeepsUpto size sysid es stands.log.spelled.end.0 (length t.calls)
+        (record t { calls = t.calls ++ stands.settled.calls.calls })
+    quiet_kept =
+        let IsThere = IsMadeUpto size end in
+        let Fits = IsLogBelow size sysid es end in
+        keeps_settled size sysid es since t h made end found.counted.there.there calls each
+        (length t.calls) end (omega arith)
+        (runs_from (StateAssures size IsThere Fits) (CallFits size Fits) t
+        (λ segment. quiet_segment segment (state_now t segment) refl (quiet segment)
+        (words_now size sysid es since t h segment)))
+
+    -- it was durable when the disk was handed in
+    pub quiet_held : moment disk ≡ length t.calls
+        → (held : IsHeld size sysid es (record t { calls = t.calls ++ stands.settled.calls.calls })
+        (moment disk, standby_end s)) × KeepsLogUpto tape sysid es s (moment disk, held.upto)
+    quiet_held counted =
+        let kept = subst (λ (n : ℕ). KeepsUpto size sysid es end n after) (sym counted) quiet_kept in (
+          record {
+            upto = end;
+            whole = whole_end;
+            reaches = λ i e got low. omega (arith, low, stands.end_is);
+            keeps = kept;
+          },
+          keeps_log tape sysid es s after (moment disk) end told_now resumed.kept.0
+              (omega (arith, stands.end_is)) whole_end
+              (subst (λ (n : ℕ). KeepsUpto n sysid es end (moment disk) after) (sym stands.size_is)
+              kept),
+        )

@@ -13,7 +13,7 @@ use Rattle.received_log.specs.Receiving.{Receives}
 use Rattle.received_log.specs.Sent.{HandsOutLog, promised_at}
 use Rattle.received_log.specs.declared.outcome.Received.{Received}
 use Rattle.received_log.proofs.SentLaws.{is_sent_run}
-use Rattle.standby_laws.specs.History.{Closed, Lived, NoneTornRead, Open, closes, fails_to_harden, hardens, is_offered, opens}
+use Rattle.standby_laws.specs.History.{Closed, IsFoundSince, Lived, NoneTornRead, Open, closes, fails_to_harden, hardens, is_offered, opens}
 
 module _ {D : Type 0} (tape : D → Option Tape) (moment faults : D → ℕ) (size sysid : ℕ)
     (es : List Entry) (since hardened : ℕ) where
@@ -43,24 +43,25 @@ module _ {D : Type 0} (tape : D → Option Tape) (moment faults : D → ℕ) (si
       (fails_to_harden since told count first new lived are.0)
 
   -- a standby is opened, receives what a source hands out, and is closed
-  pub lived_receiving : (told : List (ℕ × ℕ)) (cap : ℕ) (disk : D) (first last : Standby D)
+  pub lived_receiving : (told : List (ℕ × ℕ)) (cap from : ℕ) (disk : D) (first last : Standby D)
       (before after : SourceState) (received : Received)
       → Lived tape moment faults size sysid es since told (Closed disk) → cap ≤ 4096
       → NoneTornRead size es (tape disk)
       → StandsAtFound tape moment faults size sysid cap disk first
+      → IsFoundSince tape moment disk (standby_disk first) from
       → Receives tape moment faults before after first last received
       → HandsOutLog size sysid es hardened before after
       → Lived tape moment faults size sysid es since
-      ((told ++ (moment (standby_disk first), standby_end first) ∷ [])
+      ((told ++ (from, standby_end first) ∷ [])
       ++ promised_at received.ended (moment (standby_disk last)) received.upto.0)
       (Closed (standby_disk last))
-  lived_receiving told cap disk first last before after received lived few none_torn stands receives sent =
+  lived_receiving told cap from disk first last before after received lived few none_torn stands since_then receives sent =
       let run = is_sent_run tape moment faults sysid es hardened before after first last received
       receives (subst (λ (n : ℕ). HandsOutLog n sysid es hardened before after)
       (sym stands.size_is) sent) in
-      let found : List (ℕ × ℕ) = told ++ (moment (standby_disk first), standby_end first) ∷ [] in
+      let found : List (ℕ × ℕ) = told ++ (from, standby_end first) ∷ [] in
       let more = promised_at received.ended (moment (standby_disk last)) received.upto.0 in
-      let opened = opens since told cap disk first lived few none_torn stands in
+      let opened = opens since told cap from disk first lived few none_torn stands since_then in
       let behind = lived_steps found first run.steps stands.size_is run.are opened in
       let promised = subst (λ (l : List (ℕ × ℕ)). LivedOpen (found ++ l)
       (standby_behind first run.steps)) run.promised behind in

@@ -1,6 +1,6 @@
 -- The whole life of a standby's disk: standbys are opened on it and closed, are sent frames of one
 -- log, and harden; openings fail; the disk crashes, and processes are killed.
-use Rattle.std.specs.Prelude.{◌≡◌, ℕ, ◌/◌, ◌^◌, ◌<◌, ◌≤◌, All, List, [], ◌∷◌, ◌++◌, Option, Some, None, IfSome, map, nat_lt, slice_get, if◌then◌else◌, Result}
+use Rattle.std.specs.Prelude.{◌≡◌, ℕ, ◌/◌, ◌^◌, ◌<◌, ◌≤◌, ◌⊎◌, All, List, [], ◌∷◌, ◌++◌, Option, Some, None, IfSome, map, nat_lt, slice_get, if◌then◌else◌, Result}
 use Rattle.segment_disk.specs.Assured.{StateAssures}
 use Rattle.segment_disk.specs.DiskImage.{DiskImage, LeftAt, image_as_read}
 use Rattle.segment_disk.specs.Tape.{Tape, state_now}
@@ -14,6 +14,7 @@ use Rattle.wal_reader.specs.declared.found.FoundRecord.{FoundRecord}
 use Rattle.wal_reader.specs.Decodes.{Decodes}
 use Rattle.wal_reader.specs.Pages.{pages_in}
 use Rattle.written_log.specs.LawfulLog.{IsFrontUpto}
+use Rattle.written_log.specs.SettledFound.{NothingWaits}
 use Rattle.written_log.specs.Torn.{NoTornPass}
 use Rattle.wal_stream.specs.FollowedLog.{IsLogOrder}
 use Rattle.wal_stream.specs.Following.{ComesOfLog}
@@ -69,6 +70,12 @@ abbrev pub NoneTornRead : ℕ → List Entry → Option Tape → Type 0
 NoneTornRead size es tape =
     IfSome tape (λ t. NoTornPass size (pages_in size (image_as_read (state_now t))) es)
 
+-- from which moment on all is durable that an opening found: from its end on, and where nothing
+-- waited for a sync, as behind a crash, since the disk was handed in
+abbrev pub IsFoundSince : {D : Type 0} → (D → Option Tape) → (D → ℕ) → D → D → ℕ → Type 0
+IsFoundSince tape moment disk opened from = (from ≡ moment opened)
+    ⊎ ((from ≡ moment disk) × IfSome (tape disk) (λ t. NothingWaits (state_now t)))
+
 -- all of it since a moment of the disk, with what was told, and where it stands then. A crash or a
 -- kill comes at any moment of that time, in the midst of an opening or a frame too; `hardened` is up
 -- to where the frames of the log are sent
@@ -76,12 +83,12 @@ pub data Lived {D : Type 0} (tape : D → Option Tape) (moment faults : D → �
     (es : List Entry) : ℕ → List (ℕ × ℕ) → Standing D → Type 0 where
   begins : (disk : D) (t : Tape) → tape disk ≡ Some t → MayFollow size sysid es t
       → Lived tape moment faults size sysid es (moment disk) [] (Closed disk)
-  opens : (since : ℕ) (told : List (ℕ × ℕ)) (cap : ℕ) (disk : D) (s : Standby D)
+  opens : (since : ℕ) (told : List (ℕ × ℕ)) (cap from : ℕ) (disk : D) (s : Standby D)
       → Lived tape moment faults size sysid es since told (Closed disk) → cap ≤ 4096
       → NoneTornRead size es (tape disk)
       → StandsAtFound tape moment faults size sysid cap disk s
-      → Lived tape moment faults size sysid es since
-      (told ++ (moment (standby_disk s), standby_end s) ∷ []) (Open s)
+      → IsFoundSince tape moment disk (standby_disk s) from
+      → Lived tape moment faults size sysid es since (told ++ (from, standby_end s) ∷ []) (Open s)
   fails_to_open : (since : ℕ) (told : List (ℕ × ℕ)) (cap : ℕ) (disk refused : D)
       (fault : FindFault) → Lived tape moment faults size sysid es since told (Closed disk)
       → cap ≤ 4096

@@ -12,7 +12,7 @@ ghost use Rattle.received_log.specs.Receiving.{Receives};
 ghost use Rattle.received_log.specs.Sent.{HandsOutLog, promised_at};
 ghost use Rattle.received_log.specs.declared.outcome.Received.{Received};
 ghost use Rattle.reopened_log.specs.WasLeft.{WasLeft};
-ghost use Rattle.standby_laws.specs.History.{Closed, KeepsPromises, Lived, MayFollow, NoneTornRead, Standing};
+ghost use Rattle.standby_laws.specs.History.{Closed, IsFoundSince, KeepsPromises, Lived, MayFollow, NoneTornRead, Standing};
 ghost use Rattle.standby_laws.specs.Later.{FramesStayOfLog, LaterOrdersBegin};
 ghost use Rattle.standby_laws.specs.Sent.{SentFramesAreOfLog, SentFramesComeOfLog};
 
@@ -41,18 +41,19 @@ pub fn histories_begin_on_left_disks()
 {}
 
 /// A law: a `receive` is a part of that history: a standby is opened on a disk, is fed with what a
-/// source hands out, and is closed. What it found is a promise from its opening on and, where it
-/// ended hardened, what it tells is one from its end on.
+/// source hands out, and is closed. What it found is a promise from its opening on, behind a crash
+/// since its disk was handed in; and where it ended hardened, what it tells is one from its end on.
 pub fn received_frames_are_lived<D: Disk>()
-    ensures { (size sysid since hardened cap : ℕ) (es : List Entry) (told : List (ℕ × ℕ))
+    ensures { (size sysid since hardened cap from : ℕ) (es : List Entry) (told : List (ℕ × ℕ))
         (disk : D) (first last : Standby D) (before after : SourceState) (received : Received)
         → Lived D.tape D.moment D.faults size sysid es since told (Closed disk) → cap ≤ 4096
         → NoneTornRead size es (D.tape disk)
         → StandsAtFound D.tape D.moment D.faults size sysid cap disk first
+        → IsFoundSince D.tape D.moment disk (standby_disk first) from
         → Receives D.tape D.moment D.faults before after first last received
         → HandsOutLog size sysid es hardened before after
         → Lived D.tape D.moment D.faults size sysid es since
-        ((told ++ (D.moment (standby_disk first), standby_end first) ∷ [])
+        ((told ++ (from, standby_end first) ∷ [])
         ++ promised_at received.ended (D.moment (standby_disk last)) received.upto.0)
         (Closed (standby_disk last)) }
 {}
