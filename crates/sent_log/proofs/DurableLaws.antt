@@ -15,7 +15,7 @@ use Rattle.segment_disk.specs.declared.disk.Call.{Call}
 use Rattle.segment_disk.specs.Tape.{DiskState, Segment, Tape, after_calls, page_as_read, page_of_segment, state_now, sync_call}
 use Rattle.flush_core.specs.Calls.{with_calls}
 use Rattle.flush_core.specs.Pages.{unsynced_writes}
-use Rattle.flush_core.specs.Settled.{AreAllThere, HaveWholePages, IfWhole, IsAmong, MakesCalls, sync_calls}
+use Rattle.flush_core.specs.Settled.{AreAllThere, IsAmong, MakesCalls, sync_calls}
 use Rattle.flush_core.proofs.GrowingTapes.{with_calls-some}
 use Rattle.flush_core.proofs.LeftLaws.{left_moved}
 use Rattle.flush_core.proofs.SettledPages.{after_calls-append, silent_first}
@@ -26,7 +26,7 @@ use Rattle.wal_reader.specs.declared.found.Answer.TheVariants as answers
 use Rattle.wal_reader.specs.declared.found.FoundRecord.{FoundRecord}
 use Rattle.wal_reader.specs.Decodes.{Decodes}
 use Rattle.wal_reader.specs.Pages.{page_of_image, pages_in}
-use Rattle.sent_log.specs.Synced.{LeavesList}
+use Rattle.sent_log.specs.Synced.{HavePageBytes, LeavesList, LeavesRead}
 use Rattle.sent_log.proofs.AlikeLaws.{decodes_alike}
 
 -- ---- pages of an image, and of a disk as it is read
@@ -60,17 +60,9 @@ none_left (Some s) (Some i) none left = elim (cases_Bool (nat_lt 0 s.pages)) [
   | inr outside ↦ ap (λ (n : ℕ). if nat_lt 0 n then Some (i.page 0) else None) left.0 ∙ rw outside refl
 ]
 
--- a page of a disk whose pages are whole
-segment_whole : (size : ℕ) (s : Option Segment) → IfSome s (λ s. (s.pages ≡ pages_of size) × ((page : ℕ) → page < s.pages → length (page_as_read s page) ≡ 8192)) → (page : ℕ) → IfSome (page_of_segment s page) (λ bytes. length bytes ≡ 8192)
-segment_whole size None whole page = tt
-segment_whole size (Some s) whole page = elim (cases_Bool (nat_lt page s.pages)) [
-  | inl inside ↦ rw inside (whole.1 page (ltb-true page s.pages inside))
-  | inr outside ↦ rw outside tt
-]
-
 -- ---- the log behind the syncs
 
-module _ (size count : ℕ) (valid : IsSegmentSize size) (before : DiskState) (whole : HaveWholePages size before) (there : AreAllThere size before count) where
+module _ (size count : ℕ) (valid : IsSegmentSize size) (before : DiskState) (whole : HavePageBytes before) (there : AreAllThere size before count) where
   abbrev synced : DiskState
   synced = after_calls before (sync_calls size (range_with_len 1 count))
 
@@ -86,7 +78,7 @@ module _ (size count : ℕ) (valid : IsSegmentSize size) (before : DiskState) (w
   module _ (image : DiskImage) (left : MayLeave synced image) where
     page_left : (segment page : ℕ) → IsAmong count segment → page_of_image (image_as_read before segment) page ≡ page_of_image (image segment) page
     page_left segment page among =
-        let own = subst (λ (o : Option (List ℕ)). IfSome o (λ bytes. length bytes ≡ 8192)) (sym (read_synced segment page)) (segment_whole size (before segment) (whole segment) page) in
+        let own = subst (λ (o : Option (List ℕ)). IfSome o (λ bytes. length bytes ≡ 8192)) (sym (read_synced segment page)) (whole segment page) in
         let same = segment_left (synced segment) (image segment) page (silent_first segment size count among.0 among.1 before) own (left segment) in
         read_here (before segment) segment page ∙ sym (same ∙ read_synced segment page)
 
@@ -161,7 +153,7 @@ left_now t m image behind left =
     ]
 
 pub LeavesList-synced : (size count : ℕ) → IsSegmentSize size → (old new : Option Tape) (m0 m1 : ℕ) → IfSome old (λ t. m0 ≡ length t.calls) → IfSome old (λ t. AreAllThere size (state_now t) count) → MakesCalls old new m0 m1 (λ _. sync_calls size (range_with_len 1 count))
-    → IfWhole size old new (λ before. LeavesList size before (m0 + count))
+    → LeavesRead size old new (m0 + count)
 LeavesList-synced size count valid None new m0 m1 counts there makes = tt
 LeavesList-synced size count valid (Some t) new m0 m1 counts there makes = λ whole. subst (λ (o : Option Tape). IfSome o (LeavesList size (state_now t) (m0 + count))) (sym grown) (leaves whole)
   where
@@ -171,7 +163,7 @@ LeavesList-synced size count valid (Some t) new m0 m1 counts there makes = λ wh
     grown : new ≡ Some (record t { calls = t.calls ++ syncs })
     grown = makes.made.tape ∙ ap (with_calls (Some t)) makes.are ∙ with_calls-some t syncs
 
-    leaves : HaveWholePages size (state_now t) → LeavesList size (state_now t) (m0 + count) (record t { calls = t.calls ++ syncs })
+    leaves : HavePageBytes (state_now t) → LeavesList size (state_now t) (m0 + count) (record t { calls = t.calls ++ syncs })
     leaves whole found at decodes m image later left =
         let many : length (t.calls ++ syncs) ≡ m0 + count = omega (arith, length-append t.calls syncs, counts, length-map (range_with_len 1 count) (sync_call size), length-range_with_len 1 count) in
         let now = left_now (record t { calls = t.calls ++ syncs }) m image (omega (arith, many, later)) left in

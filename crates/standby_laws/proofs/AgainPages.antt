@@ -1,5 +1,5 @@
--- The pages that a disk holds on which a log was settled that a crash left.
-use Rattle.std.proofs.Common.{◌≡◌, ℕ, ◌+◌, ◌-◌, ◌*◌, ◌/◌, ◌%◌, ◌<◌, ◌≤◌, ◌⊎◌, List, [], ◌∷◌, length, take, replicate, Option, Some, None, IfSome, inl, inr, refl, sym, ap, subst, ◌∙◌, if◌then◌else◌, arith, length-append, length-take}
+-- The pages that a disk holds on which a log was settled.
+use Rattle.std.proofs.Common.{◌≡◌, ℕ, ◌+◌, ◌-◌, ◌*◌, ◌/◌, ◌%◌, ◌<◌, ◌≤◌, ◌⊎◌, List, [], length, take, replicate, Option, Some, None, IfSome, inl, inr, refl, sym, ap, subst, ◌∙◌, if◌then◌else◌, arith, length-append, length-take}
 use Rattle.std.specs.Prelude.{IsSome}
 use Rattle.std.specs.Option.{IsSomeAnd}
 use Rattle.std.proofs.lemmas.Bool.{cases_lt, le-ltb, lt-ltb}
@@ -8,14 +8,13 @@ use Rattle.std.proofs.lemmas.Nat.{div-mul-add, div_below}
 use Rattle.std.proofs.Math.Nat.{div-add-mod, mul-le-mul_right}
 use Rattle.byte_position.specs.Geometry.{IsSegmentSize, pages_of}
 use Rattle.byte_position.proofs.SegmentSizes.{segment_size_in_pages}
-use Rattle.segment_disk.specs.Assured.{IsMadeUpto, IsNowhere, SegmentAssures, TapeAssures, made_upto}
+use Rattle.segment_disk.specs.Assured.{SegmentAssures, made_upto}
 use Rattle.segment_disk.specs.DiskImage.{IsWritten, image_as_read, word_of}
 use Rattle.segment_disk.specs.ImageWords.{zero_word}
 use Rattle.segment_disk.specs.Tape.{DiskState, Segment, Tape, after_calls, after_writes, page_as_read, page_of_segment, state_now, zero_page}
 use Rattle.segment_disk.proofs.ZeroWords.{word_of-zero_page}
-use Rattle.flush_core.specs.Left.{IsKeptWord, IsWordPut, PutHistory}
 use Rattle.flush_core.specs.Pages.{HoldsPages, HoldsSegment, PutPages, unsynced_writes}
-use Rattle.flush_core.specs.Settled.{AreThere, HaveWholePages, IsAmong, IsAsRead, IsOldOrZero, KeepsOld, MayStand, clear_from, cleared, first_to_clear, kept_of, settle_calls}
+use Rattle.flush_core.specs.Settled.{AreThere, HaveWholePages, IsAmong, IsAsRead, IsOldOrZero, KeepsOld, clear_from, cleared, first_to_clear, kept_of, settle_calls}
 use Rattle.flush_core.specs.SettledLog.{AreOnly, IsLogWord, IsZeroOrLogWord}
 use Rattle.flush_core.specs.Writer.{HoldsLogPages}
 use Rattle.flush_core.proofs.LawfulLaws.{no_word_before}
@@ -24,8 +23,6 @@ use Rattle.flush_core.proofs.SettledPages.{settled_page, silent_settled, turns_s
 use Rattle.flush_core.proofs.Words.{same_words}
 use Rattle.wal_page.specs.Order.{Entry, IsChained}
 use Rattle.wal_page.specs.Log.{log_word_bytes}
-use Rattle.written_log.specs.SettledFound.{NothingWaits}
-use Rattle.standby_laws.proofs.Weaker.{TapeAssures-within}
 
 -- a page behind the settling of a segment that was there, zeros where none was
 abbrev settled_or_zero : ℕ → ℕ → ℕ → ℕ → Option Segment → List ℕ
@@ -37,20 +34,6 @@ abbrev pub settled_pages : ℕ → ℕ → DiskState → PutPages
 settled_pages size end state number =
     settled_or_zero size end (number / pages_of size) (number % pages_of size)
     (state (number / pages_of size))
-
--- a page as it was read before
-abbrev pub read_or_zero : ℕ → Option Segment → List ℕ
-read_or_zero page None = zero_page
-read_or_zero page (Some s) = page_as_read s page
-
-abbrev pub read_pages : ℕ → DiskState → PutPages
-read_pages size state number =
-    read_or_zero (number % pages_of size) (state (number / pages_of size))
-
--- all that a page held meanwhile
-abbrev pub settled_puts : ℕ → ℕ → DiskState → PutHistory
-settled_puts size end state number =
-    settled_pages size end state number ∷ read_pages size state number ∷ []
 
 not_there : (o : Option Segment) → o ≡ None → IsSome (page_of_segment o 0) → ⊥
 not_there None is there = absurd (cc there)
@@ -79,7 +62,7 @@ settled_long size end segment page bytes long within = elim (cases_lt page (firs
       ap (λ b. length (if b then bytes else cleared from bytes)) (le-ltb page (first_to_clear size (kept_of size end segment)) behind) ∙ count)
 ]
 
-module _ (size sysid made end : ℕ) (es : List Entry) (valid : IsSegmentSize size) (chained : IsChained size es) (before : DiskState) (whole : HaveWholePages size before) (quiet : NothingWaits before) (only : AreOnly made before) (there : AreThere before made) (begun : size ≤ end) (reached : end ≤ made * size + size)
+module _ (size sysid made end : ℕ) (es : List Entry) (valid : IsSegmentSize size) (chained : IsChained size es) (before : DiskState) (whole : HaveWholePages size before) (only : AreOnly made before) (there : AreThere before made) (begun : size ≤ end) (reached : end ≤ made * size + size)
     (read_below : (number word : ℕ) (bytes : List ℕ) → IsAmong made (number / pages_of size) → word < 1024 → number * 8192 + 8 * word < end → IsAsRead size before number word bytes → IsLogWord size sysid es number word bytes) where
   in_pages : size ≡ 8192 * pages_of size
   in_pages = (segment_size_in_pages size valid).0
@@ -167,24 +150,6 @@ module _ (size sysid made end : ℕ) (es : List Entry) (valid : IsSegmentSize si
       pub word_lawful : IsZeroOrLogWord size sysid es number word (word_of (settled_pages size end before number) word)
       word_lawful = elim (cases_lt (number * 8192 + 8 * word) end) [ inl below ↦ inr (word_below below) | inr above ↦ inl (word_behind (omega (arith, above))) ]
 
-      -- what a crash might have left before, or zeros
-      old_here : (o : Option Segment) → before (number / pages_of size) ≡ o → (bytes : List ℕ) → IsSomeAnd o (λ s. (bytes ≡ word_of (s.durable (number % pages_of size)) word) ⊎ IsWritten s.writes (number % pages_of size) word bytes) → bytes ≡ word_of (read_or_zero (number % pages_of size) o) word
-      old_here None is bytes may = absurd may
-      old_here (Some s) is bytes may = stands_read s page word bytes (subst (λ (o : Option Segment). IfSome o (λ s. s.writes ≡ [])) is (quiet segment)) may
-
-      pub stands_as_read : (bytes : List ℕ) → MayStand size before number word bytes → bytes ≡ word_of (read_pages size before number) word
-      stands_as_read bytes may = old_here (before segment) refl bytes may
-
-      -- below the end that is what is left
-      kept_here : (o : Option Segment) → before (number / pages_of size) ≡ o → number * 8192 + 8 * word < end → word_of (read_or_zero (number % pages_of size) o) word ≡ word_of (settled_or_zero size end (number / pages_of size) (number % pages_of size) o) word
-      kept_here None is below = refl
-      kept_here (Some s) is below =
-          let all = subst (λ (o : Option Segment). IfSome o (λ s. (s.pages ≡ pages_of size) × ((page : ℕ) → page < s.pages → length (page_as_read s page) ≡ 8192))) is (whole segment) in
-          sym (settled_below size end valid segment page within (page_as_read s page) (all.1 page (omega (arith, within, all.0))) word low (omega (arith, split, below)))
-
-      pub read_is_kept : number * 8192 + 8 * word < end → word_of (read_pages size before number) word ≡ word_of (settled_pages size end before number) word
-      read_is_kept = kept_here (before segment) refl
-
     pub zeros_behind : end ≤ number * 8192 → settled_pages size end before number ≡ zero_page
     zeros_behind above =
         same_words 1024 (settled_pages size end before number) zero_page (omega (arith, page_long)) (omega (arith, length-replicate {A = ℕ} 8192 0)) (λ k low. word_behind k low (omega (arith, above)) ∙ sym (word_of-zero_page k low))
@@ -263,22 +228,3 @@ module _ (size sysid made end : ℕ) (es : List Entry) (valid : IsSegmentSize si
       where
         made_below : made_upto size end ≤ made
         made_below = omega (arith, div_below (end - 1) size (made + 1) (omega (arith, in_pages, some_pages)) (omega (arith, reached, begun, in_pages, some_pages)))
-
-    -- nothing is left but these pages, and those that were read
-    pub only_these : TapeAssures size IsNowhere (IsWordPut (settled_puts size end before)) moment after
-    only_these =
-        TapeAssures-within size (IsAmong made) IsNowhere (IsOldOrZero size before end) (IsWordPut (settled_puts size end before)) (λ segment none. absurd none)
-        (λ number word bytes low fits. elim fits.1 [
-          | inl may ↦ inr (inl (stands_as_read number word low bytes may))
-          | inr zeros ↦ inr (inr (zeros.1 ∙ sym (word_of-zero_page word low)))
-        ]) moment after old
-
-    -- what was found is kept
-    pub keeps_found : TapeAssures size (IsMadeUpto size end) (IsKeptWord end (settled_pages size end before)) moment after
-    keeps_found =
-        TapeAssures-within size (IsAmong made) (IsMadeUpto size end) (IsOldOrZero size before end) (IsKeptWord end (settled_pages size end before))
-        (λ segment asked. (asked.0, omega (arith, asked.1, holds_log_pages.made_as_far)))
-        (λ number word bytes low fits below. elim fits.1 [
-          | inl may ↦ stands_as_read number word low bytes may ∙ read_is_kept number word low (omega (arith, below))
-          | inr zeros ↦ absurd (omega (arith, zeros.0, below))
-        ]) moment after old

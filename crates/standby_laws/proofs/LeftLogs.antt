@@ -1,17 +1,16 @@
--- What is found of a log that a crash left.
-use Rattle.std.proofs.Common.{◌≡◌, ℕ, zero, suc, ◌+◌, ◌*◌, ◌/◌, ◌^◌, ◌<◌, ◌≤◌, All, List, [], ◌∷◌, length, take, drop, Some, None, inl, inr, refl, sym, ap, subst, ◌∙◌, arith, take-append-drop}
+-- What is found of a log on a disk that holds nothing else.
+use Rattle.std.proofs.Common.{◌≡◌, ℕ, zero, suc, ◌+◌, ◌*◌, ◌/◌, ◌^◌, ◌<◌, ◌≤◌, All, List, [], ◌∷◌, length, take, drop, Some, None, refl, sym, ap, subst, ◌∙◌, arith, take-append-drop}
 use Rattle.std.specs.Prelude.{slice_get}
 use Rattle.std.proofs.Math.Seq.{take-length}
 use Rattle.byte_position.specs.Geometry.{IsSegmentSize, pages_of}
 use Rattle.byte_position.specs.Position.{end_address_of}
 use Rattle.byte_position.proofs.EndAddresses.{end_address_of-mono}
 use Rattle.byte_position.proofs.SegmentSizes.{segment_size_in_pages}
-use Rattle.segment_disk.specs.Assured.{IsNowhere, StateAssures}
+use Rattle.segment_disk.specs.Assured.{StateAssures}
 use Rattle.segment_disk.specs.DiskImage.{image_as_read}
 use Rattle.segment_disk.specs.Tape.{DiskState, Tape, state_now}
-use Rattle.flush_core.specs.Settled.{HaveWholePages, IsAmong, IsAsRead, IsOldOrZero, KeepsOld}
+use Rattle.flush_core.specs.Settled.{HaveWholePages, IsAmong, IsAsRead}
 use Rattle.flush_core.specs.SettledLog.{AreOnly, IsLogWord, IsZeroOrLogWord}
-use Rattle.flush_core.proofs.SettledLogs.{stands_fit}
 use Rattle.wal_page.specs.Order.{Entry, FollowsFrom, IsChained, end_position, finish_of, position_behind, rooms_of}
 use Rattle.wal_page.specs.Log.{log_byte, log_word}
 use Rattle.wal_page.proofs.OrderLaws.{rooms_of_cons}
@@ -24,14 +23,12 @@ use Rattle.written_log.specs.Written.{found_of}
 use Rattle.written_log.proofs.FoundImages.{end_of_front}
 use Rattle.written_log.proofs.FoundLogs.{found_logs_read_as_log}
 use Rattle.written_log.proofs.LawfulLaws.{log_byte-front}
-use Rattle.written_log.proofs.SettledFound.{crashed_disks_may_hold_log}
+use Rattle.written_log.specs.Torn.{NoTornPass}
+use Rattle.wal_stream.specs.FollowedLog.{IsLogOrder}
 use Rattle.found_log.specs.Found.{IsFound}
 use Rattle.reopened_log.proofs.FirstEntries.{same_as_read, same_words}
-use Rattle.reopened_log.proofs.LeftAgain.{left_whole}
-use Rattle.reopened_log.proofs.MadeSegments.{are_only, are_there, made_segments}
 use Rattle.reopened_log.proofs.SuitedDisks.{same_count}
-use Rattle.standby_laws.specs.Left.{HasFirstSegments, HasOnlyLog, IsLeftOfLog}
-use Rattle.standby_laws.proofs.Weaker.{TapeAssures-within}
+use Rattle.standby_laws.proofs.Holding.{HasFirstSegments}
 
 -- the log of a front has the order's words below its end
 pub word_of_front : (size sysid : ℕ) → IsSegmentSize size → (es : List Entry) (count : ℕ) → IsChained size es → (a : ℕ) → a + 8 ≤ end_address_of size (end_position size (take count es)) → log_word size sysid es a ≡ log_word size sysid (take count es) a
@@ -59,68 +56,45 @@ pub finish_within : (size : ℕ) → IsSegmentSize size → (es : List Entry) �
 finish_within size valid es chained count i e got low =
     end_address_of-mono size valid (position_behind size e) (end_position size (take count es)) (behind_within size _ count i es e chained got low)
 
--- a crash left the segments from 1 to some number and no other
-pub first_segments : (size sysid : ℕ) (es : List Entry) (left : Tape)
-    → IsLeftOfLog size sysid es left → HasFirstSegments size left
-first_segments size sysid es left o =
-    let state = state_now left in
-    let image = image_as_read state in
-    let some : 0 < pages_of size = omega (arith, (segment_size_in_pages size o.order.valid).1) in
-    let first = made_segments size o.since o.at o.t image o.in_turn o.later o.crash.leaves in
-    let fits = IsZeroOrLogWord size sysid es in
-    record {
-      count = first.0;
-      there = are_there size IsNowhere fits some first.0 state first.2
-          (o.only.left o.at o.later image o.crash.leaves);
-      only = are_only size IsNowhere fits some first.0 state first.2;
-      low = omega (arith, first.1, o.in_turn.low);
-    }
+-- a disk that holds nothing but words of an order's log, in its first segments, as it is read
+pub record ReadsOrder (size sysid : ℕ) (es : List Entry) (t : Tape) : Type 0 where
+  pub order : IsLogOrder size sysid es
+  pub segments : HasFirstSegments size t
+  pub lawful : StateAssures size (IsAmong segments.count) (IsZeroOrLogWord size sysid es)
+      (state_now t)
+  pub whole : HaveWholePages size (state_now t)
+  pub none_torn : NoTornPass size (pages_in size (image_as_read (state_now t))) es
 
-module _ (size sysid : ℕ) (es : List Entry) (left : Tape) (o : IsLeftOfLog size sysid es left) where
+module _ (size sysid : ℕ) (es : List Entry) (left : Tape) (o : ReadsOrder size sysid es left) where
   abbrev pub before : DiskState
   before = state_now left
 
   abbrev pub count : ℕ
-  count = (first_segments size sysid es left o).count
+  count = o.segments.count
 
-  pub lawful : StateAssures size (IsAmong (first_segments size sysid es left o).count) (IsZeroOrLogWord size sysid es) (state_now left)
-  lawful = crashed_disks_may_hold_log size sysid count o.since o.at es before o.t o.only o.later o.crash.quiet o.crash.leaves (first_segments size sysid es left o).there
-
-  pub whole : HaveWholePages size (state_now left)
-  whole = left_whole size count (IsZeroOrLogWord size sysid es) before lawful o.t o.at o.crash.leaves
-
-  pub has_found : (found : List FoundRecord) (answer : Answer) → Decodes size (pages_in size (image_as_read (state_now left))) size None found answer → HasFound size sysid (first_segments size sysid es left o).count es (state_now left) found
+  pub has_found : (found : List FoundRecord) (answer : Answer) → Decodes size (pages_in size (image_as_read (state_now left))) size None found answer → HasFound size sysid o.segments.count es (state_now left) found
   has_found found answer decodes = record {
-    may = record { valid = o.order.valid; known = o.order.known; narrow = o.order.narrow; chained = o.order.chained; bounded = o.order.bounded; lawful = lawful };
+    may = record { valid = o.order.valid; known = o.order.known; narrow = o.order.narrow; chained = o.order.chained; bounded = o.order.bounded; lawful = o.lawful };
     none_torn = o.none_torn;
     answer = answer;
     decodes = decodes;
   }
 
-  -- whatever is old or cleared is the log's or zeros
-  pub keeps_only : (made end moment : ℕ) (after : Tape) → KeepsOld size (state_now left) made end moment after → HasOnlyLog size sysid es moment after
-  keeps_only made end moment after old =
-      TapeAssures-within size (IsAmong made) IsNowhere (IsOldOrZero size before end) (IsZeroOrLogWord size sysid es) (λ segment none. absurd none)
-      (λ page word bytes low fits. elim fits.1 [
-        | inl may ↦ stands_fit size (IsAmong count) (IsZeroOrLogWord size sysid es) before o.order.valid lawful page word bytes (before (page / pages_of size)) refl low may
-        | inr zeros ↦ inl zeros.1
-      ]) moment after old
-
   -- ---- these entries were found
 
   module _ (cap made end : ℕ) (fs : List Entry) (found : IsFound size sysid cap fs made left) (chained : IsChained size fs) (end_is : end ≡ end_address_of size (end_position size fs)) where
-    pub has : HasFound size sysid (first_segments size sysid es left o).count es (state_now left) (found_of size fs)
+    pub has : HasFound size sysid o.segments.count es (state_now left) (found_of size fs)
     has = has_found (found_of size fs) found.own.answer found.own.decodes
 
-    pub read : ReadsAsFound size sysid (first_segments size sysid es left o).count es (state_now left) (found_of size fs)
+    pub read : ReadsAsFound size sysid o.segments.count es (state_now left) (found_of size fs)
     read = found_logs_read_as_log size sysid count es before (found_of size fs) has
 
-    pub count_is : (first_segments size sysid es left o).count ≡ made
+    pub count_is : o.segments.count ≡ made
     count_is =
-        same_count size made count (IsZeroOrLogWord size sysid es) before (2 ^ 60 / size) (omega (arith, (segment_size_in_pages size o.order.valid).1)) lawful (first_segments size sysid es left o).only (first_segments size sysid es left o).low found.counted.there.there found.counted.there.others
+        same_count size made count (IsZeroOrLogWord size sysid es) before (2 ^ 60 / size) (omega (arith, (segment_size_in_pages size o.order.valid).1)) o.lawful o.segments.only o.segments.low found.counted.there.there found.counted.there.others
 
     pub only_made : AreOnly made (state_now left)
-    only_made = subst (λ (n : ℕ). AreOnly n before) count_is (first_segments size sysid es left o).only
+    only_made = subst (λ (n : ℕ). AreOnly n before) count_is o.segments.only
 
     pub found_end : end_behind size (found_of size fs) ≡ end
     found_end =

@@ -1,65 +1,85 @@
--- A standby that is opened on what a crash left of one that followed a log.
-use Rattle.std.proofs.Common.{◌≡◌, ℕ, ◌+◌, ◌*◌, ◌/◌, ◌%◌, ◌<◌, ◌≤◌, List, ◌++◌, length, Option, Some, None, IfSome, inl, inr, refl, sym, ap, subst, ◌∙◌, arith}
+-- A standby that is opened on a disk that holds nothing but words of one log follows that log,
+-- whatever waits for a sync there.
+use Rattle.std.proofs.Common.{◌≡◌, ℕ, ◌+◌, ◌*◌, ◌/◌, ◌%◌, ◌<◌, ◌≤◌, inl, inr, List, [], ◌++◌, length, Option, Some, None, IfSome, refl, sym, ap, subst, ◌∙◌, arith}
 use Rattle.std.specs.Int.{w64, to_le_bytes}
-use Rattle.std.specs.Prelude.{slice_index}
-use Rattle.std.proofs.lemmas.List.Elements.{All-weaker}
+use Rattle.std.specs.List.{AllByRecursion}
+use Rattle.std.specs.Option.{IsSomeAnd}
+use Rattle.std.specs.Prelude.{IsSome, slice_index}
+use Rattle.std.proofs.lemmas.Bool.{cases_lt}
 use Rattle.byte_position.specs.Geometry.{IsSegmentSize, pages_of}
 use Rattle.byte_position.specs.Position.{end_address_of, first_position}
 use Rattle.byte_position.proofs.EndAddresses.{end_address_of-mono}
-use Rattle.byte_position.proofs.Words.{end_address_of-mod_word}
-use Rattle.segment_disk.specs.Assured.{IsMadeUpto, IsNowhere, TapeAssures}
-use Rattle.segment_disk.specs.DiskImage.{image_as_read, word_of}
-use Rattle.segment_disk.specs.Tape.{DiskState, Segment, Tape, after_calls, page_as_read, state_now}
-use Rattle.segment_disk.proofs.ZeroWords.{word_of-zero_page}
 use Rattle.segment_disk.specs.declared.disk.Call.{Call}
+use Rattle.segment_disk.specs.Assured.{CallFits, IsMadeUpto, IsNowhere, SegmentAssures, StateAssures, TapeAssures}
+use Rattle.segment_disk.specs.DiskImage.{image_as_read, word_of}
+use Rattle.segment_disk.specs.Tape.{DiskState, Segment, Tape, after_calls, page_as_read, page_of_segment, state_now}
 use Rattle.flush_core.specs.Calls.{with_calls}
 use Rattle.flush_core.specs.Left.{IsKeptWord, IsWordPut}
 use Rattle.flush_core.specs.Settled.{IfWhole, IsAmong, KeepsOld, settle_calls}
 use Rattle.flush_core.specs.SettledLog.{IsLogWord, IsZeroOrLogWord}
 use Rattle.flush_core.specs.Writer.{HoldsLogPages, writer_segment_size}
 use Rattle.flush_core.proofs.GrowingTapes.{with_calls-some}
-use Rattle.flush_core.proofs.LeftLaws.{read_word}
-use Rattle.flush_core.proofs.SettledLogs.{stands_fit}
+use Rattle.flush_core.proofs.SettledLeft.{at_number}
 use Rattle.flush_core.proofs.SettledPages.{after_calls-append}
+use Rattle.found_log.specs.Found.{FindsLog, IsFound}
+use Rattle.found_log.specs.Spelled.{spelled_entries}
 use Rattle.wal_page.specs.Order.{Entry, IsChained, end_position}
 use Rattle.wal_page.specs.Log.{log_word}
-use Rattle.wal_page.proofs.OwnerLaws.{end_position-whole}
 use Rattle.wal_page.proofs.WordPositions.{end_address_of-first_position}
-use Rattle.written_log.specs.Written.{found_of}
-use Rattle.written_log.proofs.FoundImages.{end_of_front}
-use Rattle.written_log.proofs.LawfulLaws.{lawful_images_decode_to_fronts}
-use Rattle.flush_core.specs.Lawful.{IsLawful}
-use Rattle.found_log.specs.Found.{IsFound}
-use Rattle.found_log.specs.Spelled.{spelled_entries}
-use Rattle.wal_stream.specs.FollowedLog.{IsLogOrder}
-use Rattle.wal_stream.specs.Following.{FollowsLog, HaveLogBelow, KeepsLogUpto, promises_of, standby_behind}
+use Rattle.wal_reader.specs.Pages.{pages_in}
+use Rattle.written_log.specs.SettledFound.{NothingWaits}
+use Rattle.written_log.specs.Torn.{NoTornPass}
+use Rattle.wal_stream.specs.Following.{FollowsLog, HaveLogBelow, KeepsLogUpto}
 use Rattle.wal_stream.specs.Opened.{StandsAtFound}
 use Rattle.wal_stream.specs.Standby.{HasResumed, own_page, standby_disk, standby_end}
 use Rattle.wal_stream.specs.declared.standby.Standby.{Standby}
-use Rattle.wal_stream.proofs.FollowLaws.{FollowsAndKeeps, follows_and_keeps}
-use Rattle.wal_stream.proofs.ImagesLeft.{promised_is_left}
-use Rattle.standby_laws.specs.InTurn.{MakesInTurn}
-use Rattle.standby_laws.specs.Left.{HasOnlyLog, IsLeftOfLog}
-use Rattle.standby_laws.specs.Lives.{FollowsAgain, IsLife, Life, OpensOnLog, ReachesEntries, opened_on}
-use Rattle.standby_laws.proofs.AgainPages.{holds_log_pages, keeps_found, only_these, read_or_zero, settled_pages, settled_puts, word_below, word_lawful}
-use Rattle.standby_laws.proofs.FailedOpenings.{TriesOn, tries_on}
-use Rattle.standby_laws.proofs.LeftLogs.{finish_within, first_segments, found_end, lawful, only_made, read_below, spelled_below, whole}
-use Rattle.standby_laws.proofs.OpenedInTurn.{first_in_turn}
-use Rattle.standby_laws.proofs.StepsInTurn.{made_since, steps_in_turn}
+use Rattle.reopened_log.proofs.SettlingCalls.{Settles, all_settle}
+use Rattle.standby_laws.proofs.AgainPages.{holds_log_pages, settled_pages, stands_read, word_below}
+use Rattle.standby_laws.proofs.Holding.{HoldsOrder, IsHeld, IsLogBelow, KeepsUpto, pages_now, words_now}
+use Rattle.standby_laws.proofs.LeftLogs.{ReadsOrder, only_made, read_below, spelled_below}
+use Rattle.standby_laws.proofs.LogPages.{log_is_put, log_pages, log_puts, page_word, put_is_log}
+use Rattle.standby_laws.proofs.Moments.{assures_tape, runs_from}
+use Rattle.standby_laws.proofs.Settling.{end_whole, held_settled, keeps_settled, last_is, order_settled, reads_order, turn_settled}
+use Rattle.standby_laws.proofs.Turns.{HasSegmentsInTurn, MakesInTurn}
 use Rattle.standby_laws.proofs.Weaker.{TapeAssures-within}
 
--- ---- a standby that follows a log has nothing else on its disk
+-- ---- what is kept of a log, as a standby keeps it
 
-module _ {D : Type 0} (tape : D → Option Tape) (sysid : ℕ) (es : List Entry) (since : ℕ) (s : Standby D) (t : Tape) (told : tape (standby_disk s) ≡ Some t) (follows : FollowsLog tape sysid es since s) where
-  pub has_only_log : HasOnlyLog s.geometry sysid es since t
-  has_only_log =
-      let only = subst (λ (o : Option Tape). IfSome o (TapeAssures (writer_segment_size s.writer) IsNowhere (IsWordPut follows.puts.puts) since)) told follows.puts.only in
-      TapeAssures-within s.geometry IsNowhere IsNowhere (IsWordPut follows.puts.puts) (IsZeroOrLogWord s.geometry sysid es) (λ segment none. none) (λ page word bytes low put. follows.puts.log page word bytes low put) since t
-      (subst (λ (n : ℕ). TapeAssures n IsNowhere (IsWordPut follows.puts.puts) since t) s.sized only)
+pub keeps_log : {D : Type 0} (tape : D → Option Tape) (sysid : ℕ) (es : List Entry)
+    (s : Standby D) (t : Tape) (moment upto : ℕ) → tape (standby_disk s) ≡ Some t
+    → (s.writer).written.0 ≤ (s.writer).made * (s.writer).geometry + (s.writer).geometry
+    → upto ≤ standby_end s → upto % 8 ≡ 0 → KeepsUpto s.geometry sysid es upto moment t
+    → KeepsLogUpto tape sysid es s (moment, upto)
+keeps_log tape sysid es s t moment upto told reached within whole keeps =
+    let size = s.geometry in
+    let pages = log_pages size sysid es in
+    let kept = TapeAssures-within size (IsMadeUpto size upto) (IsMadeUpto size upto)
+    (IsLogBelow size sysid es upto) (IsKeptWord upto pages) (λ segment made. made)
+    (λ page word bytes low fits below. fits below ∙ sym (page_word size sysid es page word low))
+    moment t
+    (assures_tape size (IsMadeUpto size upto) (IsLogBelow size sysid es upto) moment t keeps) in
+    record {
+      pages = pages;
+      kept = (
+        reached,
+        subst (λ (o : Option Tape). IfSome o (TapeAssures (writer_segment_size s.writer)
+            (IsMadeUpto (writer_segment_size s.writer) upto) (IsKeptWord upto pages) moment))
+            (sym told)
+            (subst (λ (n : ℕ). TapeAssures n (IsMadeUpto n upto) (IsKeptWord upto pages) moment t)
+            (sym s.sized) kept),
+      );
+      log = λ page word low below. page_word size sysid es page word low;
+      within = within;
+      whole = whole;
+    }
 
--- ---- opened on what a crash left
+-- ---- a standby that is opened
 
-module _ {D : Type 0} (tape : D → Option Tape) (moment faults : D → ℕ) (size sysid cap : ℕ) (es : List Entry) (left : Tape) (o : IsLeftOfLog size sysid es left) (disk : D) (s : Standby D) (told : tape disk ≡ Some left) (stands : StandsAtFound tape moment faults size sysid cap disk s) where
+module _ {D : Type 0} (tape : D → Option Tape) (moment faults : D → ℕ) (size sysid cap : ℕ)
+    (es : List Entry) (since : ℕ) (t : Tape) (h : HoldsOrder size sysid es since t) (disk : D)
+    (s : Standby D) (few : cap ≤ 4096) (told : tape disk ≡ Some t)
+    (none_torn : NoTornPass size (pages_in size (image_as_read (state_now t))) es)
+    (stands : StandsAtFound tape moment faults size sysid cap disk s) where
   abbrev fs : List Entry
   fs = spelled_entries stands.log.spelled
 
@@ -70,25 +90,37 @@ module _ {D : Type 0} (tape : D → Option Tape) (moment faults : D → ℕ) (si
   end = stands.log.spelled.end.0
 
   abbrev before : DiskState
-  before = state_now left
+  before = state_now t
 
   abbrev valid : IsSegmentSize size
-  valid = o.order.valid
+  valid = h.order.valid
 
-  found : IsFound size sysid cap (spelled_entries stands.log.spelled) stands.log.made left
-  found = subst (λ (t : Option Tape). IfSome t (IsFound size sysid cap fs made)) told stands.found.tells
+  abbrev o : ReadsOrder size sysid es t
+  o = reads_order size sysid es since t h none_torn
+
+  pub finds : FindsLog size sysid cap (Some t) stands.log
+  finds = subst (λ (tape : Option Tape). FindsLog size sysid cap tape stands.log) told stands.found
+
+  abbrev found : IsFound size sysid cap fs made t
+  found = finds.tells
 
   chained : IsChained size (spelled_entries stands.log.spelled)
   chained = stands.found.ends.chained
 
-  end_is : stands.log.spelled.end.0 ≡ end_address_of size (end_position size (spelled_entries stands.log.spelled))
+  end_is : stands.log.spelled.end.0
+      ≡ end_address_of size (end_position size (spelled_entries stands.log.spelled))
   end_is = stands.found.ends.end_is
 
-  end_whole : stands.log.spelled.end.0 % 8 ≡ 0
-  end_whole = ap (λ (n : ℕ). n % 8) end_is ∙ end_address_of-mod_word size valid (end_position size fs) (end_position-whole size valid fs chained)
+  whole_end : stands.log.spelled.end.0 % 8 ≡ 0
+  whole_end = end_whole size sysid es since t h none_torn cap stands.log finds
 
   end_from : size ≤ stands.log.spelled.end.0
-  end_from = omega (arith, end_is, end_address_of-mono size valid (first_position size) (end_position size fs) (omega arith), end_address_of-first_position size valid)
+  end_from = omega (
+    arith,
+    end_is,
+    end_address_of-mono size h.order.valid (first_position size) (end_position size fs) (omega arith),
+    end_address_of-first_position size h.order.valid,
+  )
 
   -- ---- the calls that settled it
 
@@ -96,183 +128,238 @@ module _ {D : Type 0} (tape : D → Option Tape) (moment faults : D → ℕ) (si
   calls = stands.settled.calls.calls
 
   abbrev after : Tape
-  after = record left { calls = left.calls ++ calls }
+  after = record t { calls = t.calls ++ calls }
 
-  told_now : tape (standby_disk s) ≡ Some (record left { calls = left.calls ++ stands.settled.calls.calls })
-  told_now = stands.settled.calls.made.tape ∙ ap (λ (t : Option Tape). with_calls t calls) told ∙ with_calls-some left calls
+  pub told_now : tape (standby_disk s)
+      ≡ Some (record t { calls = t.calls ++ stands.settled.calls.calls })
+  told_now = stands.settled.calls.made.tape ∙ ap (λ (o : Option Tape). with_calls o calls) told
+      ∙ with_calls-some t calls
 
-  calls_are : stands.settled.calls.calls ≡ settle_calls size stands.log.spelled.end.0 stands.log.made (state_now left)
-  calls_are = subst (λ (t : Option Tape). IfSome t (λ t. calls ≡ settle_calls size end made (state_now t))) told stands.settled.calls.are
+  calls_are : stands.settled.calls.calls
+      ≡ settle_calls size stands.log.spelled.end.0 stands.log.made (state_now t)
+  calls_are = subst (λ (o : Option Tape). IfSome o (λ t. calls
+      ≡ settle_calls size end made (state_now t))) told stands.settled.calls.are
 
-  are : (segment : ℕ) → state_now (record left { calls = left.calls ++ stands.settled.calls.calls }) segment ≡ after_calls (state_now left) (settle_calls size stands.log.spelled.end.0 stands.log.made (state_now left)) segment
+  each : AllByRecursion (Settles size stands.log.made stands.log.spelled.end.0 h.order.valid
+      (state_now t) (pages_now size sysid es since t h) found.counted.there.there)
+      stands.settled.calls.calls
+  each = subst (λ (l : List Call). AllByRecursion (Settles size made end valid before
+      (pages_now size sysid es since t h) found.counted.there.there) l) (sym calls_are)
+      (all_settle size made end valid before (pages_now size sysid es since t h)
+      found.counted.there.there)
+
+  pub last_made_is : h.last ≡ stands.log.made
+  last_made_is = last_is size sysid es since t h none_torn cap stands.log finds
+
+  pub opened_order : HoldsOrder size sysid es since
+      (record t { calls = t.calls ++ stands.settled.calls.calls })
+  opened_order = order_settled size sysid es since t h made end found.counted.there.there calls each
+      (omega (arith, last_made_is, finds.within, few))
+
+  are : (segment : ℕ) → state_now (record t { calls = t.calls ++ stands.settled.calls.calls }) segment
+      ≡ after_calls (state_now t)
+      (settle_calls size stands.log.spelled.end.0 stands.log.made (state_now t)) segment
   are segment =
-      ap (λ (st : DiskState). st segment) (after_calls-append left.at_first left.calls calls) ∙ ap (λ (cs : List Call). after_calls before cs segment) calls_are
+      ap (λ (st : DiskState). st segment) (after_calls-append t.at_first t.calls calls)
+      ∙ ap (λ (cs : List Call). after_calls before cs segment) calls_are
 
-  old : KeepsOld size (state_now left) stands.log.made stands.log.spelled.end.0 (moment disk) (record left { calls = left.calls ++ stands.settled.calls.calls })
+  old : KeepsOld size (state_now t) stands.log.made stands.log.spelled.end.0 (moment disk)
+      (record t { calls = t.calls ++ stands.settled.calls.calls })
   old =
-      let both = subst (λ (t : Option Tape). IfWhole size t (tape (standby_disk s)) (λ b. KeepsOld size b made end (moment disk))) told stands.settled.keeps_old in
-      let now = subst (λ (t : Option Tape). IfWhole size (Some left) t (λ b. KeepsOld size b made end (moment disk))) told_now both in
-      now (whole size sysid es left o)
+      let both = subst (λ (o : Option Tape). IfWhole size o (tape (standby_disk s))
+      (λ b. KeepsOld size b made end (moment disk))) told stands.settled.keeps_old in
+      let now = subst (λ (o : Option Tape). IfWhole size (Some t) o
+      (λ b. KeepsOld size b made end (moment disk))) told_now both in
+      now (pages_now size sysid es since t h)
 
   -- ---- what it holds
 
-  holds_pages : HoldsLogPages size stands.log.spelled.end.0 stands.log.made (tape (standby_disk s)) (settled_pages size stands.log.spelled.end.0 (state_now left))
+  holds_pages : HoldsLogPages size stands.log.spelled.end.0 stands.log.made
+      (tape (standby_disk s)) (settled_pages size stands.log.spelled.end.0 (state_now t))
   holds_pages =
-      subst (λ (t : Option Tape). HoldsLogPages size end made t (settled_pages size end before)) (sym told_now)
-      (holds_log_pages size sysid made end es valid o.order.chained before (whole size sysid es left o) o.crash.quiet (only_made size sysid es left o cap made end fs found chained end_is) found.counted.there.there end_from stands.found.reaches
-      (read_below size sysid es left o cap made end fs found chained end_is) (moment disk) after are old)
+      subst (λ (o : Option Tape). HoldsLogPages size end made o (settled_pages size end before))
+      (sym told_now)
+      (holds_log_pages size sysid made end es valid h.order.chained before
+      (pages_now size sysid es since t h)
+      (only_made size sysid es t o cap made end fs found chained end_is) found.counted.there.there
+      end_from stands.found.reaches
+      (read_below size sysid es t o cap made end fs found chained end_is) (moment disk) after are
+      old)
 
-  resumed : HasResumed tape moment (standby_disk s) stands.log.spelled.end.0 (settled_pages size stands.log.spelled.end.0 (state_now left)) s
+  resumed : HasResumed tape moment (standby_disk s) stands.log.spelled.end.0
+      (settled_pages size stands.log.spelled.end.0 (state_now t)) s
   resumed = stands.resumes (settled_pages size end before) holds_pages
 
-  log_below : HaveLogBelow size sysid es stands.log.spelled.end.0 (settled_pages size stands.log.spelled.end.0 (state_now left))
+  log_below : HaveLogBelow size sysid es stands.log.spelled.end.0
+      (settled_pages size stands.log.spelled.end.0 (state_now t))
   log_below number word low below =
-      word_below size sysid made end es valid o.order.chained before (whole size sysid es left o) o.crash.quiet (only_made size sysid es left o cap made end fs found chained end_is) found.counted.there.there end_from stands.found.reaches
-      (read_below size sysid es left o cap made end fs found chained end_is) number word low below
+      word_below size sysid made end es valid h.order.chained before
+      (pages_now size sysid es since t h)
+      (only_made size sysid es t o cap made end fs found chained end_is) found.counted.there.there
+      end_from stands.found.reaches
+      (read_below size sysid es t o cap made end fs found chained end_is) number word low below
 
-  -- each word that was read is the log's or zeros
-  read_here : (number word : ℕ) (t : Option Segment) → state_now left (number / pages_of size) ≡ t → word < 1024 → IsZeroOrLogWord size sysid es number word (word_of (read_or_zero (number % pages_of size) t) word)
-  read_here number word None is low = inl (word_of-zero_page word low)
-  read_here number word (Some x) is low =
-      let page = number % pages_of size in
-      let bytes = word_of (page_as_read x page) word in
-      stands_fit size (IsAmong (first_segments size sysid es left o).count) (IsZeroOrLogWord size sysid es) before valid (lawful size sysid es left o) number word bytes (Some x) is low (read_word x.writes page word (x.durable page) bytes refl)
-
-  puts_lawful : (number word : ℕ) (bytes : List ℕ) → word < 1024 → IsWordPut (settled_puts size stands.log.spelled.end.0 (state_now left)) number word bytes → IsZeroOrLogWord size sysid es number word bytes
-  puts_lawful number word bytes low (inl settled) =
-      subst (IsZeroOrLogWord size sysid es number word) (sym settled)
-      (word_lawful size sysid made end es valid o.order.chained before (whole size sysid es left o) o.crash.quiet (only_made size sysid es left o cap made end fs found chained end_is) found.counted.there.there end_from stands.found.reaches
-      (read_below size sysid es left o cap made end fs found chained end_is) number word low)
-  puts_lawful number word bytes low (inr (inl was)) = subst (IsZeroOrLogWord size sysid es number word) (sym was) (read_here number word (before (number / pages_of size)) refl low)
-  puts_lawful number word bytes low (inr (inr zeros)) = inl (zeros ∙ word_of-zero_page word low)
-
-  -- ---- its own page
-
-  own_end : (k : ℕ) → stands.log.spelled.end.0 / 8192 * 8192 + 8 * k < stands.log.spelled.end.0 → IsLogWord size sysid es (stands.log.spelled.end.0 / 8192) k (word_of (own_page s) k)
+  own_end : (k : ℕ) → stands.log.spelled.end.0 / 8192 * 8192 + 8 * k < stands.log.spelled.end.0
+      → IsLogWord size sysid es (stands.log.spelled.end.0 / 8192) k (word_of (own_page s) k)
   own_end k below =
-      let spelled = subst (λ (n : ℕ). n / 8192 * 8192 + 8 * k < n → slice_index stands.log.spelled.words.value k ≡ log_word size sysid fs (n / 8192 * 8192 + 8 * k)) (sym end_is) (stands.found.ends.words_are k) in
-      let same = spelled_below size sysid es left o cap made end fs found chained end_is stands.found.ends.nobodys (end / 8192 * 8192 + 8 * k) (omega (arith, below, end_whole)) in
+      let spelled = subst (λ (n : ℕ). n / 8192 * 8192 + 8 * k < n
+      → slice_index stands.log.spelled.words.value k
+      ≡ log_word size sysid fs (n / 8192 * 8192 + 8 * k)) (sym end_is)
+      (stands.found.ends.words_are k) in
+      let same = spelled_below size sysid es t o cap made end fs found chained end_is
+      stands.found.ends.nobodys (end / 8192 * 8192 + 8 * k) (omega (arith, below, whole_end)) in
       stands.page_is k (omega (arith, below)) ∙ ap (to_le_bytes w64) (spelled below ∙ same)
-
-  -- ---- it follows the log
 
   writer_size : writer_segment_size s.writer ≡ size
   writer_size = s.sized ∙ stands.size_is
 
-  pub opened_follows : FollowsLog tape sysid es (moment disk) s
+  only_log : TapeAssures size IsNowhere (IsWordPut (log_puts size sysid es)) since
+      (record t { calls = t.calls ++ stands.settled.calls.calls })
+  only_log =
+      TapeAssures-within size IsNowhere IsNowhere (IsZeroOrLogWord size sysid es)
+      (IsWordPut (log_puts size sysid es)) (λ segment none. none) (log_is_put size sysid es) since
+      after (assures_tape size IsNowhere (IsZeroOrLogWord size sysid es) since after
+      opened_order.words)
+
+  pub opened_follows : FollowsLog tape sysid es since s
   opened_follows = record {
-    whole = ap (λ (n : ℕ). n % 8) stands.end_is ∙ end_whole;
-    own = subst (λ (e : ℕ). (k : ℕ) → e / 8192 * 8192 + 8 * k < e → IsLogWord s.geometry sysid es (e / 8192) k (word_of (own_page s) k)) (sym stands.end_is)
-        (subst (λ (n : ℕ). (k : ℕ) → end / 8192 * 8192 + 8 * k < end → IsLogWord n sysid es (end / 8192) k (word_of (own_page s) k)) (sym stands.size_is) own_end);
+    whole = ap (λ (n : ℕ). n % 8) stands.end_is ∙ whole_end;
+    own = subst (λ (e : ℕ). (k : ℕ) → e / 8192 * 8192 + 8 * k < e
+        → IsLogWord s.geometry sysid es (e / 8192) k (word_of (own_page s) k)) (sym stands.end_is)
+        (subst (λ (n : ℕ). (k : ℕ) → end / 8192 * 8192 + 8 * k < end
+        → IsLogWord n sysid es (end / 8192) k (word_of (own_page s) k)) (sym stands.size_is)
+        own_end);
     puts = record {
-      puts = settled_puts size end before;
-      only = subst (λ (t : Option Tape). IfSome t (TapeAssures (writer_segment_size s.writer) IsNowhere (IsWordPut (settled_puts size end before)) (moment disk))) (sym told_now)
-          (subst (λ (n : ℕ). TapeAssures n IsNowhere (IsWordPut (settled_puts size end before)) (moment disk) after) (sym writer_size)
-          (only_these size sysid made end es valid o.order.chained before (whole size sysid es left o) o.crash.quiet (only_made size sysid es left o cap made end fs found chained end_is) found.counted.there.there end_from stands.found.reaches
-          (read_below size sysid es left o cap made end fs found chained end_is) (moment disk) after are old));
-      log = subst (λ (n : ℕ). (number word : ℕ) (bytes : List ℕ) → word < 1024 → IsWordPut (settled_puts size end before) number word bytes → IsZeroOrLogWord n sysid es number word bytes) (sym stands.size_is) puts_lawful;
+      puts = log_puts size sysid es;
+      only = subst (λ (o : Option Tape). IfSome o (TapeAssures (writer_segment_size s.writer)
+          IsNowhere (IsWordPut (log_puts size sysid es)) since)) (sym told_now)
+          (subst (λ (n : ℕ). TapeAssures n IsNowhere (IsWordPut (log_puts size sysid es)) since
+          after) (sym writer_size) only_log);
+      log = subst (λ (n : ℕ). (number word : ℕ) (bytes : List ℕ) → word < 1024
+          → IsWordPut (log_puts size sysid es) number word bytes
+          → IsZeroOrLogWord n sysid es number word bytes) (sym stands.size_is)
+          (put_is_log size sysid es);
     };
     holds = λ _. record {
       pages = settled_pages size end before;
       writer = resumed.holds;
-      log = subst (λ (e : ℕ). HaveLogBelow s.geometry sysid es e (settled_pages size end before)) (sym stands.end_is) (subst (λ (n : ℕ). HaveLogBelow n sysid es end (settled_pages size end before)) (sym stands.size_is) log_below);
+      log = subst (λ (e : ℕ). HaveLogBelow s.geometry sysid es e (settled_pages size end before))
+          (sym stands.end_is)
+          (subst (λ (n : ℕ). HaveLogBelow n sysid es end (settled_pages size end before))
+          (sym stands.size_is) log_below);
     };
   }
 
-  -- all that was found is durable since the disk was handed in
-  pub opened_keeps : KeepsLogUpto tape sysid es s (moment disk, standby_end s)
-  opened_keeps = subst (λ (e : ℕ). KeepsLogUpto tape sysid es s (moment disk, e)) (sym stands.end_is) (record {
-    pages = settled_pages size end before;
-    kept = (
-      resumed.kept.0,
-      subst (λ (t : Option Tape). IfSome t (TapeAssures (writer_segment_size s.writer) (IsMadeUpto (writer_segment_size s.writer) end) (IsKeptWord end (settled_pages size end before)) (moment disk))) (sym told_now)
-          (subst (λ (n : ℕ). TapeAssures n (IsMadeUpto n end) (IsKeptWord end (settled_pages size end before)) (moment disk) after) (sym writer_size)
-          (keeps_found size sysid made end es valid o.order.chained before (whole size sysid es left o) o.crash.quiet (only_made size sysid es left o cap made end fs found chained end_is) found.counted.there.there end_from stands.found.reaches
-          (read_below size sysid es left o cap made end fs found chained end_is) (moment disk) after are old)),
-    );
-    log = subst (λ (n : ℕ). HaveLogBelow n sysid es end (settled_pages size end before)) (sym stands.size_is) log_below;
-    within = omega (arith, stands.end_is);
-    whole = end_whole;
-  })
-
-  -- it stands behind each entry that was left whole
-  pub reaches_left : (upto : ℕ) → IsLawful size sysid (image_as_read (state_now left)) es upto → ReachesEntries size es upto (standby_end s)
-  reaches_left upto is i e got low =
-      let order = o.order in
-      let front = lawful_images_decode_to_fronts size sysid upto (image_as_read before) es valid order.known order.narrow order.chained order.bounded is o.none_torn (found_of size fs) found.own.answer found.own.decodes in
-      let ends = end_of_front size es front.count (found_of size fs) valid order.chained front.found_is in
-      let here = finish_within size valid es order.chained front.count i e got (front.holds i e got low) in
-      omega (arith, here, ends, found_end size sysid es left o cap made end fs found chained end_is, stands.end_is)
-
--- ---- a life
-
-module _ {D : Type 0} (tape : D → Option Tape) (moment faults : D → ℕ) (sysid : ℕ) (es : List Entry) (since : ℕ) (first : Standby D) (life : Life D) (counts : (disk : D) → IfSome (tape disk) (λ t. moment disk ≡ length t.calls)) (order : IsLogOrder first.geometry sysid es) (follows : FollowsLog tape sysid es since first) (in_turn : MakesInTurn tape since first) (l : IsLife tape moment faults sysid es since first life) where
-  abbrev last : Standby D
-  last = standby_behind first life.steps
-
-  all : FollowsAndKeeps tape moment faults sysid es since l.hardened first life.steps
-  all = follows_and_keeps tape moment faults sysid es since l.hardened first life.steps l.are
-
-  left_of_log : IsLeftOfLog first.geometry sysid es l.left
-  left_of_log = record {
-    order = order;
-    since = since;
-    at = life.at;
-    t = l.t;
-    only = subst (λ (n : ℕ). HasOnlyLog n sysid es since l.t) all.stays.size (has_only_log tape sysid es since last l.t l.told (all.stays.follows follows));
-    later = l.later;
-    crash = l.crash;
-    in_turn = made_since tape since first.geometry last l.t order.valid l.told
-        (steps_in_turn tape moment faults since sysid es l.hardened first life.steps order.valid
-        follows l.are in_turn);
-    none_torn = l.none_torn;
+  pub opened_in_turn : MakesInTurn tape since s
+  opened_in_turn = record {
+    few = omega (arith, few, stands.cap_is);
+    told = subst (λ (o : Option Tape). IfSome o (HasSegmentsInTurn since s)) (sym told_now)
+        (record {
+          last = h.last;
+          made = turn_settled size sysid es since t h made end found.counted.there.there calls each;
+          known = λ _. (
+            last_made_is ∙ sym stands.made_is,
+            omega (arith, last_made_is, finds.within, stands.cap_is),
+          );
+          low = omega (arith, last_made_is, finds.within, stands.cap_is);
+        });
   }
 
-  -- what it is opened on, behind all openings that failed
-  tried : TriesOn tape first.geometry sysid es l.left (opened_on life)
-  tried = tries_on tape moment first.geometry sysid es counts life.disk l.left left_of_log
-      l.told_left life.failed l.failed
+  -- what was held before is held, and the standby stands at or behind it
+  pub opened_held : (promise : ℕ × ℕ) → IsHeld size sysid es t promise
+      → (held : IsHeld size sysid es (record t { calls = t.calls ++ stands.settled.calls.calls })
+      promise) × KeepsLogUpto tape sysid es s (promise.0, held.upto)
+  opened_held promise was =
+      let held = held_settled size sysid es since t h none_torn cap stands.log finds made
+      found.counted.there.there calls each promise was in (
+        held.0,
+        keeps_log tape sysid es s after promise.0 held.0.upto told_now resumed.kept.0
+            (omega (arith, held.1, stands.end_is)) held.0.whole
+            (subst (λ (n : ℕ). KeepsUpto n sysid es held.0.upto promise.0 after)
+            (sym stands.size_is) held.0.keeps),
+      )
 
-  last_reaches : (promise : ℕ × ℕ) → KeepsLogUpto tape sysid es (standby_behind first life.steps) promise → promise.0 ≤ life.at → ReachesEntries first.geometry es promise.1 (standby_end life.next)
-  last_reaches promise keeps after =
-      let size_is = all.stays.size in
-      let valid = subst IsSegmentSize (sym size_is) order.valid in
-      let chained = subst (λ (n : ℕ). IsChained n es) (sym size_is) order.chained in
-      let is = promised_is_left tape sysid es since last l.t l.told valid chained (all.stays.follows follows) life.at l.later (image_as_read (state_now l.left)) l.crash.leaves promise keeps after in
-      let still = tried.hands.keeps promise.1
-      (subst (λ (n : ℕ). IsLawful n sysid (image_as_read (state_now l.left)) es promise.1) size_is is) in
-      let behind = reaches_left tape moment faults first.geometry sysid l.cap es tried.last
-      tried.hands.left_of (opened_on life) life.next tried.told l.opened still.still still.lawful in
-      λ i e got low. behind i e got (still.reaches i e got low)
+  -- what it found is durable now
+  pub opened_keeps : KeepsLogUpto tape sysid es s (moment (standby_disk s), standby_end s)
+  opened_keeps = subst (λ (e : ℕ). KeepsLogUpto tape sysid es s (moment (standby_disk s), e))
+      (sym stands.end_is) (record {
+        pages = settled_pages size end before;
+        kept = resumed.kept;
+        log = subst (λ (n : ℕ). HaveLogBelow n sysid es end (settled_pages size end before))
+            (sym stands.size_is) log_below;
+        within = omega (arith, stands.end_is);
+        whole = whole_end;
+      })
 
-  -- what was kept before is reached again
-  pub reaches : (promise : ℕ × ℕ) → KeepsLogUpto tape sysid es first promise → promise.0 ≤ life.at → ReachesEntries first.geometry es promise.1 (standby_end life.next)
-  reaches promise keeps = last_reaches promise (all.stays.keeps promise follows keeps)
+  -- ---- where nothing waited for a sync
 
-  pub follows_again : FollowsAgain tape moment sysid es first life
-  follows_again = record {
-    follows = opened_follows tape moment faults first.geometry sysid l.cap es tried.last
-        tried.hands.left_of (opened_on life) life.next tried.told l.opened;
-    in_turn = first_in_turn tape moment faults counts first.geometry sysid l.cap tried.last
-        (opened_on life) life.next l.few tried.told
-        (first_segments first.geometry sysid es tried.last tried.hands.left_of) l.opened;
-    keeps = opened_keeps tape moment faults first.geometry sysid l.cap es tried.last
-        tried.hands.left_of (opened_on life) life.next tried.told l.opened;
-    promised = All-weaker (KeepsLogUpto tape sysid es last) (λ promise. promise.0 ≤ life.at → ReachesEntries first.geometry es promise.1 (standby_end life.next)) last_reaches (promises_of moment life.steps) (all.promises follows);
-  }
+  module _ (quiet : NothingWaits (state_now t)) where
+    among_made : (segment : ℕ) (x : Segment) → state_now t segment ≡ Some x
+        → IsAmong stands.log.made segment
+    among_made segment x is = elim (cases_lt 0 segment) [
+      | inr none ↦ absurd (apart (λ among. omega (arith, among.0, none)))
+      | inl some ↦ elim (cases_lt made segment) [
+        | inl above ↦ absurd (apart (λ among. omega (arith, among.1, above)))
+        | inr upto ↦ (omega (arith, some), omega (arith, upto))
+      ]
+    ]
+      where
+        apart : (IsAmong made segment → ⊥) → ⊥
+        apart none =
+            let gone = only_made size sysid es t o cap made end fs found chained end_is segment none in
+            let no : ⊥ = cc (is, gone) in
+            no
 
--- ---- on whatever was left of a log
+    quiet_segment : (segment : ℕ) (x : Option Segment) → state_now t segment ≡ x
+        → IfSome x (λ s. s.writes ≡ [])
+        → SegmentAssures size IsNowhere (IsZeroOrLogWord size sysid es) segment x
+        → SegmentAssures size (IsMadeUpto size stands.log.spelled.end.0)
+        (IsLogBelow size sysid es stands.log.spelled.end.0) segment x
+    quiet_segment segment None is none words = λ asked.
+        let there = subst (λ (o : Option Segment). IsSome (page_of_segment o 0)) is
+        (found.counted.there.there segment
+        (asked.0, omega (arith, asked.1, holds_pages.made_as_far))) in
+        absurd (let no : ⊥ = cc there in no)
+    quiet_segment segment (Some x) is none words = (
+      words.0,
+      λ page word within low bytes may below.
+          let number = segment * pages_of size + page in
+          let read = stands_read x page word bytes none may in
+          let among = at_number size end valid segment page within (λ d m. IsAmong made d)
+          (among_made segment x is) in
+          let here = at_number size end valid segment page within
+          (λ d m. IsSomeAnd (before d) (λ s. bytes ≡ word_of (page_as_read s m) word))
+          (subst (λ (o : Option Segment). IsSomeAnd o
+          (λ s. bytes ≡ word_of (page_as_read s page) word)) (sym is) read) in
+          read_below size sysid es t o cap made end fs found chained end_is number word bytes among
+          low (omega (arith, below)) here,
+    )
 
-pub opens_on_log : {D : Type 0} (tape : D → Option Tape) (moment faults : D → ℕ)
-    (counts : (disk : D) → IfSome (tape disk) (λ t. moment disk ≡ length t.calls))
-    (size sysid cap : ℕ) (es : List Entry) (left : Tape) (disk : D) (s : Standby D)
-    → IsLeftOfLog size sysid es left → tape disk ≡ Some left → cap ≤ 4096
-    → StandsAtFound tape moment faults size sysid cap disk s
-    → OpensOnLog tape moment size sysid es left disk s
-opens_on_log tape moment faults counts size sysid cap es left disk s o told few stands = record {
-  follows = opened_follows tape moment faults size sysid cap es left o disk s told stands;
-  in_turn = first_in_turn tape moment faults counts size sysid cap left disk s few told
-      (first_segments size sysid es left o) stands;
-  keeps = opened_keeps tape moment faults size sysid cap es left o disk s told stands;
-  reaches = reaches_left tape moment faults size sysid cap es left o disk s told stands;
-}
+    quiet_kept : KeepsUpto size sysid es stands.log.spelled.end.0 (length t.calls)
+        (record t { calls = t.calls ++ stands.settled.calls.calls })
+    quiet_kept =
+        let IsThere = IsMadeUpto size end in
+        let Fits = IsLogBelow size sysid es end in
+        keeps_settled size sysid es since t h made end found.counted.there.there calls each
+        (length t.calls) end (omega arith)
+        (runs_from (StateAssures size IsThere Fits) (CallFits size Fits) t
+        (λ segment. quiet_segment segment (state_now t segment) refl (quiet segment)
+        (words_now size sysid es since t h segment)))
+
+    -- it was durable when the disk was handed in
+    pub quiet_held : moment disk ≡ length t.calls
+        → (held : IsHeld size sysid es (record t { calls = t.calls ++ stands.settled.calls.calls })
+        (moment disk, standby_end s)) × KeepsLogUpto tape sysid es s (moment disk, held.upto)
+    quiet_held counted =
+        let kept = subst (λ (n : ℕ). KeepsUpto size sysid es end n after) (sym counted) quiet_kept in (
+          record {
+            upto = end;
+            whole = whole_end;
+            reaches = λ i e got low. omega (arith, low, stands.end_is);
+            keeps = kept;
+          },
+          keeps_log tape sysid es s after (moment disk) end told_now resumed.kept.0
+              (omega (arith, stands.end_is)) whole_end
+              (subst (λ (n : ℕ). KeepsUpto n sysid es end (moment disk) after) (sym stands.size_is)
+              kept),
+        )

@@ -25,9 +25,7 @@ use Rattle.wal_stream.specs.declared.answers.StandbyErr.{StandbyErr}
 use Rattle.wal_stream.specs.declared.answers.StandbyErr.TheVariants.{Bad, Gap, Diverged, Disk}
 use Rattle.wal_stream.specs.declared.standby.Standby.{Standby}
 use Rattle.wal_stream.proofs.FollowLaws.{follows_and_keeps}
-use Rattle.reopened_log.specs.Again.{HasMadeInTurn}
-use Rattle.standby_laws.specs.InTurn.{HasSegmentsInTurn, MakesInTurn}
-use Rattle.standby_laws.proofs.Turns.{broken_in_turn, few_are_low, grown_in_turn, grown_told, max_within, near_made, put_in_turn}
+use Rattle.standby_laws.proofs.Turns.{HasSegmentsInTurn, MakesInTurn, broken_in_turn, grown_in_turn, grown_told, max_within, near_made, put_in_turn}
 
 harden_in_turn : (size written made : ℕ) (unsynced : Bool)
     → MakeInTurn made (harden_calls size written unsynced) made
@@ -300,18 +298,3 @@ module _ {D : Type 0} (tape : D → Option Tape) (moment faults : D → ℕ) (si
           few = omega (arith, in_turn.few, step_cap first step.1 step.0 are.0);
           told = step_in_turn first step.1 valid follows step.0 are.0 in_turn.told;
         })
-
--- what it made since then, below the last address that is read
-pub made_since : {D : Type 0} (tape : D → Option Tape) (since size : ℕ) (s : Standby D) (t : Tape)
-    → IsSegmentSize size → tape (standby_disk s) ≡ Some t → MakesInTurn tape since s
-    → HasMadeInTurn size since t
-made_since tape since size s t valid told in_turn =
-    let has = subst (λ (o : Option Tape). IfSome o (HasSegmentsInTurn since s)) told in_turn.told in
-    record {
-      first = has.made.first;
-      there = has.made.there;
-      only = has.made.only;
-      last = has.last;
-      in_turn = has.made.in_turn;
-      low = few_are_low size has.last valid (omega (arith, has.low, in_turn.few));
-    }

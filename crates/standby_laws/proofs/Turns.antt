@@ -1,8 +1,9 @@
 -- Calls that make segments one behind another.
-use Rattle.std.proofs.Common.{◌≡◌, ℕ, ◌+◌, ◌*◌, ◌/◌, ◌%◌, ◌^◌, ◌<◌, ◌≤◌, ◌⊎◌, inl, inr, Bool, true, false, max, not, ◌==◌, List, [], ◌∷◌, ◌++◌, length, drop, Option, Some, None, IfSome, if◌then◌else◌, refl, sym, ap, subst, ◌∙◌, arith, length-append}
+use Rattle.std.proofs.Common.{◌≡◌, ℕ, zero, suc, ◌+◌, ◌-◌, ◌*◌, ◌/◌, ◌%◌, ◌^◌, ◌<◌, ◌≤◌, ◌⊎◌, inl, inr, Bool, true, false, is_some, max, not, ◌==◌, List, [], ◌∷◌, ◌++◌, length, take, drop, Option, Some, None, IfSome, if◌then◌else◌, refl, sym, ap, subst, ◌∙◌, arith, length-append, length-take, take-append-drop}
+use Rattle.std.specs.Prelude.{IsSome}
 use Rattle.std.specs.List.{flat_map, list_any, range_with_len}
 use Rattle.std.proofs.lemmas.Bool.{cases_lt, le-ltb, lt-ltb}
-use Rattle.std.proofs.lemmas.List.{drop-append-le, drop_all}
+use Rattle.std.proofs.lemmas.List.{drop-append-le, drop_all, take-take}
 use Rattle.std.proofs.lemmas.Nat.{div_below}
 use Rattle.std.proofs.Math.Nat.{le-div_iff_mul-le, max-eq_left, max-eq_right, mul-le-mul_right}
 use Rattle.std.proofs.Math.Seq.{take-length}
@@ -12,14 +13,46 @@ use Rattle.segment_disk.specs.declared.disk.Call.{Call}
 use Rattle.segment_disk.specs.declared.disk.CallKind.{CallKind}
 use Rattle.segment_disk.specs.declared.disk.CallKind.TheVariants.{Create, Write, Sync}
 use Rattle.segment_disk.specs.Present.{MakesNone}
-use Rattle.segment_disk.specs.Tape.{DiskState, Tape, after_calls, failed_call, page_of_segment, state_at, state_now, write_call}
+use Rattle.segment_disk.specs.Tape.{DiskState, Segment, Tape, after_call, after_calls, failed_call, page_of_segment, segment_after, state_at, state_now, write_call}
 use Rattle.segment_disk.proofs.Fronts.{take-before}
+use Rattle.segment_disk.proofs.Presence.{is_some-kept}
 use Rattle.flush_core.specs.Calls.{AreMade, BreaksOff, put_calls, store_calls, with_calls}
 use Rattle.flush_core.specs.Settled.{AreThere, NextFails, clear_calls, clear_from, cleared, kept_of, segment_clears, segments_cleared, settle_calls, sync_calls}
 use Rattle.flush_core.specs.SettledLog.{AreOnly}
 use Rattle.flush_core.proofs.GrowingTapes.{with_calls-append, with_calls-none, with_calls-some}
+use Rattle.flush_core.proofs.SettledPages.{after_calls-append}
+use Rattle.flush_core.proofs.StateLaws.{after_each}
+use Rattle.flush_core.specs.Writer.{last_made}
 use Rattle.wal_core.specs.Made.{MakeInTurn, MakesNext, last_behind}
-use Rattle.standby_laws.specs.InTurn.{AreMadeInTurn}
+use Rattle.wal_stream.specs.Standby.{standby_disk, standby_fault}
+use Rattle.wal_stream.specs.declared.standby.Standby.{Standby}
+use Rattle.reopened_log.specs.StopsAt.{StopsAt, tape_until, write_to}
+use Rattle.reopened_log.proofs.MadeSegments.{AreFirst}
+use Rattle.standby_laws.proofs.Moments.{drop_taken}
+
+-- ---- what holds of a standby's segments
+
+-- segments are made one behind another since a moment, at which those from 1 to some number were
+-- there and no other; this is the last one
+pub record AreMadeInTurn (since last : ℕ) (t : Tape) : Type 0 where
+  pub within : since ≤ length t.calls
+  pub first : ℕ
+  pub there : AreThere (state_at t since) first
+  pub only : AreOnly first (state_at t since)
+  pub in_turn : MakeInTurn first (drop since t.calls) last
+
+-- the last one is the one that the standby knows of; a disk that failed may have made one more
+pub record HasSegmentsInTurn {D : Type 0} (since : ℕ) (s : Standby D) (t : Tape) : Type 0 where
+  pub last : ℕ
+  pub made : AreMadeInTurn since last t
+  pub known : standby_fault s ≡ None → (last ≡ last_made s.writer) × (last ≤ s.cap)
+  pub low : last ≤ s.cap + 1
+
+-- so of a disk that tells what it holds, with as many segments as a standby may be opened with
+pub record MakesInTurn {D : Type 0} (tape : D → Option Tape) (since : ℕ) (s : Standby D)
+    : Type 0 where
+  pub few : s.cap ≤ 4096
+  pub told : IfSome (tape (standby_disk s)) (HasSegmentsInTurn since s)
 
 -- ---- calls that make none
 
@@ -360,3 +393,111 @@ few_are_low size last valid few =
     let far : (last + 2) * size ≤ 2 ^ 60 = omega (arith, scaled, tests.2) in
     let counted : last + 2 ≤ 2 ^ 60 / size = (le-div_iff_mul-le some).1 far in
     omega (arith, counted)
+
+-- ---- which segments are there behind such calls
+
+abbrev AreFirstOn : ℕ → DiskState → Type 0
+AreFirstOn count state = AreFirst count (λ segment. is_some (state segment))
+
+module _ (count : ℕ) (state : DiskState) (first : AreFirstOn count state) where
+  kept_first : (call : Call) → ((s : Option Segment)
+      → is_some (segment_after call.kind call.geometry call.done s) ≡ is_some s)
+      → AreFirstOn count (after_call state call)
+  kept_first call keeps =
+      let same : (segment : ℕ) → is_some (after_call state call segment) ≡ is_some (state segment) =
+      λ segment. after_each state call
+      (λ (o : Option Segment). is_some o ≡ is_some (state segment)) segment
+      (λ _. keeps (state segment)) (λ _. refl) in
+      record {
+        there = λ segment among. same segment ∙ first.there segment among;
+        only = λ segment apart. same segment ∙ first.only segment apart;
+      }
+
+  module _ (size segment : ℕ) (done : Bool) where
+    abbrev call_of : CallKind → Call
+    call_of kind = record { geometry = size; segment = segment; kind = kind; done = done }
+
+    called_first : (kind : CallKind) → MakesNext count segment kind
+        → AreFirstOn (last_behind count kind) (after_call state (call_of kind))
+    called_first (Create true) next = record {
+      there = λ n among. after_each state (call_of (Create true))
+          (λ (o : Option Segment). is_some o ≡ true) n (λ _. refl)
+          (λ other. first.there n (among.0, omega (arith, among.1, next, other)));
+      only = λ n apart. after_each state (call_of (Create true))
+          (λ (o : Option Segment). is_some o ≡ false) n
+          (λ same. absurd (apart (omega (arith, same, next), omega (arith, same, next))))
+          (λ _. first.only n (λ among. apart (among.0, omega (arith, among.1))));
+    }
+    called_first (Create false) next = kept_first (call_of (Create false)) (λ _. refl)
+    called_first (Write page bytes) next = kept_first (call_of (Write page bytes))
+        (is_some-kept (Write page bytes) tt size done)
+    called_first Sync next = kept_first (call_of Sync) (is_some-kept Sync tt size done)
+
+all_first : (calls : List Call) (count last : ℕ) (state : DiskState) → AreFirstOn count state
+    → MakeInTurn count calls last → AreFirstOn last (after_calls state calls)
+all_first [] count last state first turn =
+    subst (λ (n : ℕ). AreFirstOn n state) turn first
+all_first (call ∷ calls) count last state first turn =
+    all_first calls (last_behind count call.kind) last (after_call state call)
+    (called_first count state first call.geometry call.segment call.done call.kind turn.0) turn.1
+
+is_some_there : (s : Option Segment) → IsSome (page_of_segment s 0) → is_some s ≡ true
+is_some_there None there = absurd (cc there)
+is_some_there (Some s) there = refl
+
+pub first_behind : (since last : ℕ) (t : Tape) → AreMadeInTurn since last t
+    → AreFirst last (λ segment. is_some (state_now t segment))
+first_behind since last t made =
+    let state = state_at t since in
+    let first : AreFirstOn made.first (state_at t since) = record {
+      there = λ segment among. is_some_there (state segment) (made.there segment among);
+      only = λ segment apart. ap is_some (made.only segment apart);
+    } in
+    subst (λ (calls : List Call). AreFirstOn last (after_calls t.at_first calls))
+    (take-append-drop since t.calls)
+    (subst (AreFirstOn last)
+    (sym (after_calls-append t.at_first (take since t.calls) (drop since t.calls)))
+    (all_first (drop since t.calls) made.first last state first made.in_turn))
+
+-- ---- where a process is killed
+
+turn_taken : (n : ℕ) (calls : List Call) (from upto : ℕ) → MakeInTurn from calls upto
+    → (mid : ℕ) × (mid ≤ upto) × MakeInTurn from (take n calls) mid
+turn_taken zero calls from upto turn = (from, turn_rises from upto calls turn, refl)
+turn_taken (suc n) [] from upto turn = (from, omega (arith, turn), refl)
+turn_taken (suc n) (call ∷ calls) from upto turn =
+    let rest = turn_taken n calls (last_behind from call.kind) upto turn.1 in
+    (rest.0, rest.1, (turn.0, rest.2))
+
+turns_until : (since at last : ℕ) (t : Tape) → since ≤ at → AreMadeInTurn since last t
+    → (mid : ℕ) × (mid ≤ last) × AreMadeInTurn since mid (tape_until at t)
+turns_until since at last t low made =
+    let taken = turn_taken (at - since) (drop since t.calls) made.first last made.in_turn in
+    let same : state_at (tape_until at t) since ≡ state_at t since =
+    ap (after_calls t.at_first) (take-take since at t.calls low) in (
+      taken.0,
+      taken.1,
+      record {
+        within = omega (arith, low, made.within, length-take at t.calls);
+        first = made.first;
+        there = subst (λ (state : DiskState). AreThere state made.first) (sym same) made.there;
+        only = subst (AreOnly made.first) (sym same) made.only;
+        in_turn = subst (λ (calls : List Call). MakeInTurn made.first calls taken.0)
+            (sym (drop_taken t.calls since at low)) taken.2;
+      },
+    )
+
+pub stopped_turns : (since at last : ℕ) (t stopped : Tape) → since ≤ at → StopsAt t at stopped
+    → AreMadeInTurn since last t
+    → (mid : ℕ) × (mid ≤ last) × AreMadeInTurn since mid stopped
+stopped_turns since at last t stopped low (inl same) made =
+    let until = turns_until since at last t low made in
+    (until.0, until.1, subst (AreMadeInTurn since until.0) (sym same) until.2)
+stopped_turns since at last t stopped low (inr c) made =
+    let until = turns_until since at last t low made in
+    let cut = write_to c.geometry c.segment c.page c.mix c.done in (
+      until.0,
+      until.1,
+      subst (AreMadeInTurn since until.0) (sym c.stopped_is)
+          (grown_in_turn since until.0 until.0 (tape_until at t) (cut ∷ []) until.2 (tt, refl)),
+    )

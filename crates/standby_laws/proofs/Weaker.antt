@@ -1,8 +1,10 @@
 -- What is asked of a disk's words may grow weaker for those of a page.
-use Rattle.std.proofs.Common.{ℕ, ◌<◌, List, Option, Some, None}
+use Rattle.std.proofs.Common.{ℕ, ◌<◌, List, [], ◌∷◌, Option, Some, None}
+use Rattle.std.specs.List.{AllByRecursion}
+use Rattle.segment_disk.specs.declared.disk.Call.{Call}
 use Rattle.segment_disk.specs.declared.disk.CallKind.{CallKind}
 use Rattle.segment_disk.specs.declared.disk.CallKind.TheVariants.{Create, Write, Sync}
-use Rattle.segment_disk.specs.Assured.{KindFits, SegmentAssures, SegmentFits, TapeAssures}
+use Rattle.segment_disk.specs.Assured.{CallFits, KindFits, SegmentAssures, SegmentFits, TapeAssures}
 use Rattle.segment_disk.specs.DiskImage.{ImageSegment}
 use Rattle.segment_disk.specs.Tape.{Segment, Tape, state_now}
 
@@ -11,7 +13,7 @@ module _ (size : ℕ) (IsThere Asked : ℕ → Type 0) (Fits Others : ℕ → �
   fits_within segment None fits = λ asked. fits (fewer segment asked)
   fits_within segment (Some i) fits = (fits.0, λ page word within low. weaker _ _ _ low (fits.1 page word within low))
 
-  assures_within : (segment : ℕ) (s : Option Segment) → SegmentAssures size IsThere Fits segment s → SegmentAssures size Asked Others segment s
+  pub assures_within : (segment : ℕ) (s : Option Segment) → SegmentAssures size IsThere Fits segment s → SegmentAssures size Asked Others segment s
   assures_within segment None assures = λ asked. assures (fewer segment asked)
   assures_within segment (Some s) assures = (assures.0, λ page word within low found may. weaker _ _ _ low (assures.1 page word within low found may))
 
@@ -26,3 +28,9 @@ module _ (size : ℕ) (IsThere Asked : ℕ → Type 0) (Fits Others : ℕ → �
     now = λ n. assures_within n (state_now t n) (assures.now n);
     left = λ m later image leaves. (let fits = assures.left m later image leaves in λ n. fits_within n (image n) (fits n));
   }
+
+  pub calls_within : (calls : List Call) → AllByRecursion (CallFits size Fits) calls
+      → AllByRecursion (CallFits size Others) calls
+  calls_within [] fit = tt
+  calls_within (call ∷ calls) fit =
+      (kind_within call.geometry call.segment call.kind fit.0, calls_within calls fit.1)

@@ -1,6 +1,3 @@
-pub mod InTurn
-pub mod Left
-pub mod Openings
-pub mod Lives
+pub mod History
 pub mod Later
 pub mod Sent

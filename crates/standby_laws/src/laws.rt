@@ -1,76 +1,61 @@
-ghost use Rattle.std.specs.Prelude.{◌≡◌, ℕ, ◌≤◌, List, None, Some};
-ghost use Rattle.segment_disk.specs.DiskImage.{DiskImage};
+ghost use Rattle.std.specs.Prelude.{ℕ, ◌≤◌, List, [], ◌∷◌, ◌++◌, Some};
 ghost use Rattle.segment_disk.specs.Tape.{Tape};
+ghost use Rattle.flush_core.specs.Pages.{HoldsNothing};
 ghost use Rattle.wal_page.specs.Order.{Entry};
-ghost use Rattle.wal_reader.specs.declared.found.Answer.{Answer};
 ghost use Rattle.wal_reader.specs.declared.found.FoundRecord.{FoundRecord};
-ghost use Rattle.wal_reader.specs.Decodes.{Decodes};
-ghost use Rattle.wal_reader.specs.Pages.{pages_in};
-ghost use Rattle.wal_stream.specs.FollowedLog.{IsCrashedStandby, IsLogOrder, IsOpenedEmpty};
-ghost use Rattle.wal_stream.specs.Following.{FollowsLog, KeepsLogUpto, SentStep};
+ghost use Rattle.wal_stream.specs.FollowedLog.{IsLogOrder};
 ghost use Rattle.wal_stream.specs.Opened.{StandsAtFound};
-ghost use Rattle.wal_stream.specs.Standby.{standby_disk};
+ghost use Rattle.wal_stream.specs.Standby.{standby_disk, standby_end};
 ghost use Rattle.wal_stream.specs.declared.standby.Standby.{Standby};
-ghost use Rattle.standby_laws.specs.InTurn.{MakesInTurn};
-ghost use Rattle.standby_laws.specs.Left.{FailedOpeningsLeaveLog, HasFirstSegments, IsLeftOfLog};
-ghost use Rattle.standby_laws.specs.Lives.{AllHeld, AreLives, FollowsAgain, FollowsThrough, IsFrontKept, IsLife, Life, OpensOnLog, last_handed, last_opened};
+ghost use Rattle.received_log.specs.Fetched.{SourceState};
+ghost use Rattle.received_log.specs.Receiving.{Receives};
+ghost use Rattle.received_log.specs.Sent.{HandsOutLog, promised_at};
+ghost use Rattle.received_log.specs.declared.outcome.Received.{Received};
+ghost use Rattle.reopened_log.specs.WasLeft.{WasLeft};
+ghost use Rattle.standby_laws.specs.History.{Closed, IsFoundSince, KeepsPromises, Lived, MayFollow, NoneTornRead, Standing};
 ghost use Rattle.standby_laws.specs.Later.{FramesStayOfLog, LaterOrdersBegin};
 ghost use Rattle.standby_laws.specs.Sent.{SentFramesAreOfLog, SentFramesComeOfLog};
 
 use segment_disk::Disk;
 
-/// A law: a standby that is opened on what a crash left of one that followed a log follows that log
-/// again, with all that `harden` promised before, however many openings failed in between, each
-/// with a crash behind it. Where it could not be opened, its disk still holds nothing but the log.
-pub fn opened_standbys_follow<D: Disk>()
-    ensures follows { (sysid since : ℕ) (es : List Entry) (first : Standby D) (life : Life D)
-        → IsLogOrder first.geometry sysid es → FollowsLog D.tape sysid es since first
-        → MakesInTurn D.tape since first
-        → IsLife D.tape D.moment D.faults sysid es since first life
-        → FollowsAgain D.tape D.moment sysid es first life }
-    ensures left { (size sysid cap : ℕ) (es : List Entry) (left : Tape) (disk : D) (s : Standby D)
-        → IsLeftOfLog size sysid es left → D.tape disk ≡ Some left → cap ≤ 4096
-        → StandsAtFound D.tape D.moment D.faults size sysid cap disk s
-        → OpensOnLog D.tape D.moment size sysid es left disk s }
-    ensures failed { FailedOpeningsLeaveLog }
+/// A law: whatever is done with a standby's disk, from one on that holds nothing but words of one
+/// log: standbys are opened there and closed, hardened or not, are sent frames of the log in any
+/// order, repeated or cut short, and harden; openings fail; crashes come and processes are killed,
+/// at any moment. What any opening found and any `harden` told is kept through all of it: by
+/// whatever a crash leaves, and by each standby that is opened later. No answer says that a frame
+/// is of another log.
+pub fn standbys_keep_their_promises<D: Disk>()
+    ensures { (size sysid since : ℕ) (es : List Entry) (told : List (ℕ × ℕ))
+        (standing : Standing D)
+        → Lived D.tape D.moment D.faults size sysid es since told standing
+        → KeepsPromises D.tape size sysid es since told standing }
 {}
 
-/// A law: a standby that is opened where a disk has the segments from 1 to some number and no
-/// other makes the next ones behind them, one behind another; so on an empty disk.
-pub fn opened_standbys_make_in_turn<D: Disk>()
-    ensures first { (size sysid cap : ℕ) (left : Tape) (disk : D) (s : Standby D) → cap ≤ 4096
-        → D.tape disk ≡ Some left → HasFirstSegments size left
-        → StandsAtFound D.tape D.moment D.faults size sysid cap disk s
-        → MakesInTurn D.tape (D.moment disk) s }
-    ensures empty { (size sysid cap : ℕ) (disk : D) (s : Standby D) → cap ≤ 4096
-        → IsOpenedEmpty D.tape D.moment D.faults size sysid cap disk s
-        → MakesInTurn D.tape (D.moment (standby_disk s)) s }
+/// A law: such a history may begin on a disk that this program left, crashed or not, with the log
+/// that it was left with, and on an empty one with any.
+pub fn histories_begin_on_left_disks()
+    ensures left { (size sysid : ℕ) (t : Tape) (found : List FoundRecord)
+        → (left : WasLeft size sysid t found) → MayFollow size sysid left.order t }
+    ensures empty { (size sysid : ℕ) (es : List Entry) (t : Tape) → IsLogOrder size sysid es
+        → HoldsNothing (Some t) → MayFollow size sysid es t }
 {}
 
-/// A law: so crashes and openings, failed ones too, may be mixed in for ever. Behind as many as may
-/// be the standby follows the log, and stands at or behind each entry that was promised before any
-/// of the crashes; and whatever a crash leaves of it then holds each of them.
-pub fn standbys_follow_through_crashes<D: Disk>()
-    ensures follows { (sysid since : ℕ) (es : List Entry) (first : Standby D)
-        (lives : List (Life D)) → IsLogOrder first.geometry sysid es
-        → FollowsLog D.tape sysid es since first → MakesInTurn D.tape since first
-        → AreLives D.tape D.moment D.faults sysid es since first lives
-        → FollowsThrough D.tape D.moment sysid es since first lives }
-    ensures held { (sysid since hardened at : ℕ) (es : List Entry) (first : Standby D)
-        (lives : List (Life D)) (steps : List (SentStep × Standby D)) (image : DiskImage)
-        (found : List FoundRecord) (answer : Answer)
-        → FollowsLog D.tape sysid es since first → MakesInTurn D.tape since first
-        → IsLogOrder first.geometry sysid es
-        → AreLives D.tape D.moment D.faults sysid es since first lives
-        → IsCrashedStandby D.tape D.moment D.faults sysid es (last_handed D.moment since lives)
-        hardened (last_opened first lives) steps at image
-        → Decodes first.geometry (pages_in first.geometry image) first.geometry None found answer
-        → AllHeld D.moment first.geometry es found lives }
-    ensures left { (sysid since hardened at : ℕ) (es : List Entry) (first : Standby D)
-        (steps : List (SentStep × Standby D)) (image : DiskImage) (promise : ℕ × ℕ)
-        → IsCrashedStandby D.tape D.moment D.faults sysid es since hardened first steps at image
-        → KeepsLogUpto D.tape sysid es first promise
-        → IsFrontKept first.geometry es promise at image }
+/// A law: a `receive` is a part of that history: a standby is opened on a disk, is fed with what a
+/// source hands out, and is closed. What it found is a promise from its opening on, behind a crash
+/// since its disk was handed in; and where it ended hardened, what it tells is one from its end on.
+pub fn received_frames_are_lived<D: Disk>()
+    ensures { (size sysid since hardened cap from : ℕ) (es : List Entry) (told : List (ℕ × ℕ))
+        (disk : D) (first last : Standby D) (before after : SourceState) (received : Received)
+        → Lived D.tape D.moment D.faults size sysid es since told (Closed disk) → cap ≤ 4096
+        → NoneTornRead size es (D.tape disk)
+        → StandsAtFound D.tape D.moment D.faults size sysid cap disk first
+        → IsFoundSince D.tape D.moment disk (standby_disk first) from
+        → Receives D.tape D.moment D.faults before after first last received
+        → HandsOutLog size sysid es hardened before after
+        → Lived D.tape D.moment D.faults size sysid es since
+        ((told ++ (from, standby_end first) ∷ [])
+        ++ promised_at received.ended (D.moment (standby_disk last)) received.upto.0)
+        (Closed (standby_disk last)) }
 {}
 
 /// A law: where a primary's log was hardened up to an address, then a crash came and the log was

@@ -5,6 +5,6 @@
 mod laws;
 
 pub use laws::{
-    later_orders_begin, opened_standbys_follow, opened_standbys_make_in_turn,
-    sent_frames_are_of_the_log, standbys_follow_through_crashes,
+    histories_begin_on_left_disks, later_orders_begin, received_frames_are_lived,
+    sent_frames_are_of_the_log, standbys_keep_their_promises,
 };
