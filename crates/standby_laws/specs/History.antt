@@ -77,8 +77,8 @@ IsFoundSince tape moment disk opened from = (from ≡ moment opened)
     ⊎ ((from ≡ moment disk) × IfSome (tape disk) (λ t. NothingWaits (state_now t)))
 
 -- all of it since a moment of the disk, with what was told, and where it stands then. A crash or a
--- kill comes at any moment of that time, in the midst of an opening or a frame too; `hardened` is up
--- to where the frames of the log are sent
+-- kill comes at any moment of that time, in the midst of an opening or a frame too. Frames of the
+-- log are sent no further than `hardened`
 pub data Lived {D : Type 0} (tape : D → Option Tape) (moment faults : D → ℕ) (size sysid : ℕ)
     (es : List Entry) : ℕ → List (ℕ × ℕ) → Standing D → Type 0 where
   begins : (disk : D) (t : Tape) → tape disk ≡ Some t → MayFollow size sysid es t
