@@ -178,6 +178,20 @@ const BEHIND_A_SWITCH: Failing = Failing {
     moments: 2,
 };
 
+// The same beside two backends of a commit each: in whichever order, no fewer calls are made.
+const BESIDE_A_SWITCH: Failing = Failing {
+    row: Row {
+        what: "a segment is closed beside commits of two others",
+        words: &["run", "--seg", "1048576", "--cap", "2"],
+        backends: &[(1, b"C 1 0\nW\nC 1 0\n"), (1, b"C 2 0\n"), (1, b"C 3 0\n")],
+        awaited: THREE,
+        segments: 2,
+        told: (3, 5),
+        ..ONE
+    },
+    ..BEHIND_A_SWITCH
+};
+
 #[test]
 fn each_call_fails_in_turn(rt: HostRuntime) -> Result<(), Fail> {
     for failing in EACH_CALL {
@@ -194,6 +208,11 @@ fn each_call_fails_in_turn_over_a_segment(rt: HostRuntime) -> Result<(), Fail> {
 #[test]
 fn each_call_fails_in_turn_behind_a_switch(rt: HostRuntime) -> Result<(), Fail> {
     fails_in_turn(&rt, rt.alloc(), &BEHIND_A_SWITCH)
+}
+
+#[test]
+fn each_call_fails_in_turn_beside_a_switch(rt: HostRuntime) -> Result<(), Fail> {
+    fails_in_turn(&rt, rt.alloc(), &BESIDE_A_SWITCH)
 }
 
 fn fails_in_turn<R: Abort + Threads + Wait + Sync>(

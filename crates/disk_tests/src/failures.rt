@@ -32,6 +32,16 @@ static FILES: &[(&str, &[(Call, Answer)])] = &[
             (Call::Sync(1), FAILED),
         ],
     ),
+    // A link to itself cannot be opened, which is another matter than that nothing is there.
+    (
+        "000000010000000000000001",
+        &[
+            (Call::Read(2, 0), Ok(None)),
+            (Call::Read(1, 0), FAILED),
+            (Call::Create(1), FAILED),
+            (Call::Sync(1), FAILED),
+        ],
+    ),
 ];
 
 #[test]

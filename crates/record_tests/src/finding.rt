@@ -1,10 +1,13 @@
 //! Logs that are found and judged, and settled.
+use crate::pages::FIRST_HEADER;
 use crate::placing::{SYSTEM_ID, smallest};
 use crate::reading::{Scene, TORN, TWO_COMMITS, disk_of};
 use byte_position::Geometry;
 use found_log::{FindFault, FoundLog, find, find_and_settle};
-use segment_disk::Disk;
+use segment_disk::{Disk, MemDisk};
+use std::alloc::Global;
 use std::test::Fail;
+use wal_crc32c::Crc;
 use wal_page::PageErr;
 use wal_reader::{DamageKind, Stopped};
 use wal_types::Lsn;
@@ -148,5 +151,79 @@ fn logs_are_found_and_settled(rt: HostRuntime) -> Result<(), Fail> {
             assert_eq!(rt; again, row.found);
         }
     }
+    Ok(())
+}
+
+// With so much main data a record is one byte longer than those that this program writes.
+const TOO_LONG: usize = 1_048_577 - 29;
+
+// Puts a page with the front of what is left of a log's only record, and answers what is left then.
+fn put_page<'a>(disk: &mut MemDisk, number: u8, rest: &'a [u8]) -> Result<&'a [u8], Fail> {
+    let mut page = [0; 8192];
+    let address = u64::from(number) * 8192 + 0x10_0000;
+    let (flags, from) = if number % 128 == 0 { (6, 40) } else { (4, 24) };
+    page[..from].copy_from_slice(&FIRST_HEADER[..from]);
+    page[2] = flags;
+    page[8..16].copy_from_slice(&address.to_le_bytes());
+    if number > 0 {
+        let len = u32::try_from(rest.len()).unwrap_or(u32::MAX);
+        page[2] = flags + 1;
+        page[16..20].copy_from_slice(&len.to_le_bytes());
+    }
+    let (front, rest) = rest.split_at(rest.len().min(8192 - from));
+    page[from..from + front.len()].copy_from_slice(front);
+    disk.write_page(
+        smallest(),
+        u64::from(number / 128) + 1,
+        u32::from(number % 128),
+        &page,
+    )?;
+    Ok(rest)
+}
+
+// A record of this main data alone, by its long header.
+fn record_of_main(alloc: Global, main: &[u8]) -> Result<Vec<u8>, Fail> {
+    let len = u32::try_from(main.len()).unwrap_or(u32::MAX);
+    let mut item = [254, 0, 0, 0, 0];
+    item[1..].copy_from_slice(&len.to_le_bytes());
+    let mut header = [0; 24];
+    header[..4].copy_from_slice(&len.wrapping_add(29).to_le_bytes());
+    header[17] = 10;
+    let mut crc = Crc::new();
+    crc.update(&item);
+    crc.update(main);
+    crc.update(&header[..20]);
+    header[20..].copy_from_slice(&crc.value().to_le_bytes());
+    let mut bytes = Vec::from_slice(alloc, &header)?;
+    bytes.extend_from_slice(&item)?;
+    bytes.extend_from_slice(main)?;
+    Ok(bytes)
+}
+
+// The log of such a record, in segment 1 and in a page of segment 2.
+fn log_of(alloc: Global, record: &[u8]) -> Result<MemDisk, Fail> {
+    let mut disk = MemDisk::new(alloc, 2, 131, Vec::new(alloc), Vec::new(alloc))?;
+    disk.create(smallest(), 1)?;
+    disk.create(smallest(), 2)?;
+    let mut rest = record;
+    for number in 0..129 {
+        rest = put_page(&mut disk, number, rest)?;
+    }
+    Ok(disk)
+}
+
+#[test]
+fn a_record_that_is_too_long_is_not_ours(rt: HostRuntime) -> Result<(), Fail> {
+    let alloc = rt.alloc();
+    let main = vec![in alloc; 0; TOO_LONG]?;
+    let mut disk = log_of(alloc, &record_of_main(alloc, &main)?)?;
+    let found = numbers_of(find(alloc, &mut disk, smallest(), 1, 2));
+    assert_eq!(rt;
+        found,
+        Err(FindFault::Foreign(Stopped::Damaged {
+            at: Lsn(0x10_0028),
+            kind: DamageKind::Malformed,
+        }))
+    );
     Ok(())
 }

@@ -1,10 +1,11 @@
-//! A line alone, and a listing for which nothing is read.
+//! A line alone, and what a listing with a limit reads.
 
 ghost use Rattle.std.specs.Prelude.{IfOk};
 ghost use Rattle.waldump_text.specs.Listing.{IsListable};
 
 use crate::placing::smallest;
-use segment_disk::{MemDisk, MemSink};
+use crate::reading::{CROSSING, Scene, disk_of};
+use segment_disk::MemSink;
 use std::alloc::{AllocError, Global};
 use std::test::Fail;
 use wal_reader::ReadErr;
@@ -45,22 +46,53 @@ fn a_commit_has_its_line(rt: HostRuntime) -> Result<(), Fail> {
     Ok(())
 }
 
-// The disk fails at its first read; lines and statistics are asked for in turn. No words ask for a
-// limit of 0.
+// A limit, a read that fails, and whether the limit needs that read. Each page is read once: the
+// first record fills the first page but for a word, the second goes on in the second page, where
+// the third stands. No words ask for a limit of 0.
+static LIMITS: &[(u64, &[u64], bool)] = &[
+    (0, &[1], false),
+    (1, &[1], true),
+    (1, &[2], false),
+    (2, &[1], true),
+    (2, &[2], true),
+    (2, &[3], false),
+    (3, &[2], true),
+    (3, &[3], false),
+];
+
+// What a listing with a limit answers, of lines or statistics, printed or not.
+fn counted(
+    alloc: Global,
+    limit: u64,
+    failing: &'static [u64],
+    asked: u8,
+) -> Result<Result<u64, DumpErr>, Fail> {
+    let scene = Scene {
+        failing,
+        ..CROSSING
+    };
+    let mut disk = disk_of(alloc, &scene)?;
+    let mut out = MemSink::new(alloc, 20_000, Vec::new(alloc))?;
+    let mut filter = Filter::everything_from(Lsn(0x10_0000));
+    filter.stats = asked / 2 == 1;
+    filter.quiet = asked % 2 == 1;
+    filter.limit = Some(limit);
+    Ok(dump(alloc, &mut disk, smallest(), &filter, &mut out))
+}
+
 #[test]
-fn nothing_is_read_for_a_limit_of_none(rt: HostRuntime) -> Result<(), Fail> {
+fn nothing_is_read_behind_a_limit(rt: HostRuntime) -> Result<(), Fail> {
     let alloc = rt.alloc();
-    for stats in [false, true] {
-        let mut disk = MemDisk::new(alloc, 1, 1, Vec::new(alloc), vec![in alloc; 1]?)?;
-        let mut out = MemSink::new(alloc, 400, Vec::new(alloc))?;
-        let mut filter = Filter::everything_from(Lsn(0x10_0000));
-        filter.stats = stats;
-        filter.limit = Some(0);
-        let counted = dump(alloc, &mut disk, smallest(), &filter, &mut out);
-        assert_eq!(rt; counted, Ok(0));
-        filter.limit = Some(1);
-        let counted = dump(alloc, &mut disk, smallest(), &filter, &mut out);
-        assert_eq!(rt; counted, Err(DumpErr::Read(ReadErr::Disk { faults: 1 })));
+    for (limit, failing, is_needed) in LIMITS {
+        for asked in 0..4 {
+            let wanted = if *is_needed {
+                Err(DumpErr::Read(ReadErr::Disk { faults: 1 }))
+            } else {
+                Ok(*limit)
+            };
+            let counted = counted(alloc, *limit, failing, asked)?;
+            assert_eq!(rt; counted, wanted, "{limit} {failing:?} {asked}");
+        }
     }
     Ok(())
 }

@@ -105,7 +105,7 @@ const LARGE_RECORD: RecordRow = RecordRow {
 
 // A record of 8,144 bytes, and behind it two commits, of which the first goes on in the second
 // page. The read of that page fails once.
-const CROSSING: Scene = Scene {
+pub(crate) const CROSSING: Scene = Scene {
     records: &[
         (LARGE_RECORD, 0, 0),
         (COMMIT, 1018, 0x10_0028),

@@ -1,6 +1,6 @@
 // Which segments are there, so that a disk knows whether it has room for another one. A segment
 // that is made stays: there is no call that removes one.
-ghost use Rattle.std.specs.Prelude.{◌≡◌, ℕ, ◌≤◌, ◌<◌, ◌||◌, false, [], map, IsTrue, IfOk, MatchOption, nat_le, nat_lt, min, is_some, unwrap_or, if◌then◌else◌, vec_capacity, length};
+ghost use Rattle.std.specs.Prelude.{◌≡◌, ℕ, ◌≤◌, ◌<◌, ◌||◌, false, true, [], map, IsTrue, IfOk, IfSome, MatchOption, nat_le, nat_lt, min, is_some, unwrap_or, if◌then◌else◌, vec_capacity, length};
 ghost use Rattle.segment_disk.specs.Crash.{first_behind};
 ghost use Rattle.segment_disk.specs.Failing.{is_listed as listed};
 ghost use Rattle.segment_disk.specs.Present.{with_number};
@@ -48,7 +48,9 @@ impl SegmentList {
 
     /// The least number behind the last one that was met.
     pub fn next_after(&self, last: Option<u64>) -> Option<u64>
-        ensures { MatchOption result
+        ensures listed { IfSome result
+            (λ next. listed self.now.numbers.items next ≡ true) }
+        ensures least { MatchOption result
             ((k : ℕ) → first_behind last ≤ k → listed self.now.numbers.items k ≡ false)
             (λ next. (first_behind last ≤ next) × ((k : ℕ) → first_behind last ≤ k → k < next
             → listed self.now.numbers.items k ≡ false)) }
