@@ -1,6 +1,6 @@
 // The numbers of the writer in hand (PostgreSQL's xlog.c, XLogCtl->LogwrtResult). They are not
-// shared words: who has the writer in hand has them alone. The words that all may load (13 to 15)
-// are stored from them by wal_log, behind the calls.
+// shared words: who has the writer in hand has them alone. The words that all may load (the written
+// and the flushed address, and the moment) are stored from them by wal_log, behind the calls.
 ghost use Rattle.page_writing.specs.InHand.{HasHand, IsReadOff, IsSame, writer_in};
 ghost use Rattle.wal_rule.specs.SeatedPasses.{view_of};
 

@@ -1,5 +1,5 @@
-// A failed disk, as a call meets it. Who made the device call that failed sets the down value (word
-// 16); who comes behind it finds that.
+// A failed disk, as a call meets it. Who made the device call that failed sets the down value; who
+// comes behind it finds that.
 
 /// Why a call broke off.
 #[derive(Clone, Copy, Debug, PartialEq, Eq)]

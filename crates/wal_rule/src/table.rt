@@ -1,7 +1,7 @@
-// The table and its rule. Its words are numbered as the machine's (`Words` of wal_core): 0 and 1
-// the position and the last start; 2 to 9 the insertion locks; 10 and 11 the turns to map and to
-// write; 12 to 16 how far pages are mapped, the log written and durable, since which moment, and
-// whether the disk has failed; then the buffers' ends, then the ring. Slot 0 has the writer.
+// The table and its rule. Its words are the machine's, with the same numbers (`Words` of wal_core):
+// the position and the last start; the insertion locks; the turns to map and to write; how far
+// pages are mapped, the log written and durable, since which moment, and whether the disk has
+// failed; the buffers' ends; the ring; and last the async address. Slot 0 has the writer.
 // PostgreSQL's xlog.c has the same in XLogCtlData and XLogCtlInsert, under spinlocks and LWLocks;
 // here a word changes in one atomic step, and between any two steps of any seats the rule holds. So
 // nobody has to hold a lock to load a word, and what a load tells is told by the rule.

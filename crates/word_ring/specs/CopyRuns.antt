@@ -1,11 +1,12 @@
 -- A run of words that a pass may copy to a page, and what is so behind it.
-use Rattle.std.specs.Prelude.{◌≡◌, ◌≢◌, ℕ, ◌+◌, ◌*◌, ◌<◌, ◌≤◌, List, [], min, slice_index, slice_index_or}
+use Rattle.std.specs.Prelude.{◌≡◌, ◌≢◌, ℕ, ◌+◌, ◌*◌, ◌/◌, ◌%◌, ◌<◌, ◌≤◌, List, [], min, slice_index, slice_index_or}
 use Rattle.std.specs.Int.{w64, from_le_bytes}
 use Rattle.wal_page.specs.Placed.{PlacedState, placed_end}
-use Rattle.wal_core.specs.Steps.{store_ring_word, MayStep, value_behind, word_of_step}
+use Rattle.wal_core.specs.Steps.{load_buffer_end, store_ring_word, MayStep, value_behind, word_of_step}
 use Rattle.wal_core.specs.Views.{View}
 use Rattle.wal_rule.specs.declared.seated.SeatedPass.{SeatedPass}
 use Rattle.wal_rule.specs.SeatedPasses.{HasView, setup_of, view_of}
+use Rattle.wal_rule.specs.Stepping.{Meets}
 use Rattle.word_ring.specs.Copied.{IsPlaceOf, IsRestOf, copied_view, left_on_page, page_end_at}
 use Rattle.word_ring.specs.Ring.{confirmed_view}
 
@@ -26,12 +27,14 @@ pub record HasCopied {D : Type 0} (count : ℕ) (old new : SeatedPass D)
   pub placed_is : placed_new ≡ record placed_old { next = placed_old.next + 8 * count }
   pub rest : IsRestOf (setup_of old) (view_of new) placed_new
 
--- the end of the page in the next word's buffer was met. Where it is the end of that word's page, as
--- many words were copied as are left on the page, or as were asked for where these are fewer; else
--- none was
+-- the end word of the next word's buffer was met, by the view before. Where it is the end of that
+-- word's page, as many words were copied as are left on the page, or as were asked for where these
+-- are fewer; else none was
 pub record CopiesPresent {D : Type 0} (most count : ℕ) (old new : SeatedPass D)
     (placed_old placed_new : PlacedState) : Type 0 where
   pub met : ℕ
+  pub looked : Meets (view_of old)
+      (load_buffer_end (placed_old.next / 8192 % (setup_of old).ring_pages)) met
   pub present : met ≡ page_end_at placed_old.next → count ≡ min (left_on_page placed_old) most
   pub absent : met ≢ page_end_at placed_old.next → count ≡ 0
   pub view : HasView (copied_view count (confirmed_view met (view_of old))) old new

@@ -73,8 +73,9 @@ pub fn copy_present<'p, 'a, D: Disk>(
     requires next { next ≡ placed.old.next }
     requires low { next < 2 ^ 50 }
     requires end { end ≡ placed_end placed.old }
-    // The end of some page was met. If it is the page's own, as many words were copied as `copy_page`
-    // copies, and else none; nothing else of the view has changed, and `placed` goes on from there.
+    // The end word of its buffer was met. If it is the page's own, as many words were copied as
+    // `copy_page` copies, and else none; nothing else of the view has changed, and `placed` goes on
+    // from there.
     ensures copies { CopiesPresent most result seated.old seated.new placed.old placed.new }
     ensures within { placed.new.next ≤ end }
 {

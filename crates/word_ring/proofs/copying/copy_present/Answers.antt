@@ -1,13 +1,30 @@
-use Rattle.std.proofs.Common.{◌≡◌, ℕ, ◌+◌, ◌*◌, refl, sym, ap, ◌∙◌, arith}
+use Rattle.std.proofs.Common.{◌≡◌, ℕ, ◌+◌, ◌*◌, ◌/◌, ◌%◌, refl, sym, ap, ◌∙◌, subst, arith}
 use Rattle.wal_page.specs.Placed.{PlacedState}
 use Rattle.wal_core.specs.declared.setup.Setup.{Setup}
+use Rattle.wal_core.specs.Steps.{load_buffer_end}
 use Rattle.wal_core.specs.Views.{View}
 use Rattle.wal_rule.specs.SeatedPasses.{setup_of, view_of}
+use Rattle.wal_rule.specs.Stepping.{Meets}
 use Rattle.word_ring.specs.Copied.{copied_view, page_end_at}
 use Rattle.word_ring.specs.Ring.{confirmed_view}
 use Rattle.word_ring.proofs.CopyLaws.{copied_none, place_of_buffer, rest_met, words-left}
 use Rattle.word_ring.proofs.Steps.{has_same_view, same_setup, then_view, view_is}
+use Rattle.word_ring.proofs.copying.copy_present.Given.{Over}
 use Rattle.word_ring.proofs.copying.copy_present.Goals as goal
+use Rattle.word_ring.proofs.copying.copy_present.Goals.{After-load_buffer_end-met}
+
+-- the buffer's end word was met by the view before
+looked_up : (g : Over) (c : After-load_buffer_end-met g) → Meets (view_of c.args.seated.now)
+    (load_buffer_end (c.args.placed.now.next / 8192 % (setup_of c.args.seated.now).ring_pages))
+    c.load_buffer_end-met.result
+looked_up g c =
+    let pages = c.from-ring_pages.ensures ∙ c.ring_pages.ensures.pages
+    ∙ ap (λ (s : Setup). s.ring_pages) c.shape.ensures in
+    subst (λ (n : ℕ). Meets (view_of c.args.seated.now) (load_buffer_end n)
+    c.load_buffer_end-met.result)
+    (ap (λ (n : ℕ). c.args.next / 8192 % n) pages
+    ∙ ap (λ (n : ℕ). n / 8192 % (setup_of c.args.seated.now).ring_pages) c.requires.next)
+    c.load_buffer_end-met.ensures.met
 
 -- ---- another page is in the buffer
 
@@ -20,6 +37,7 @@ returns-then-met-page-clause-copies g c =
     let none : a.next ≡ a.next + 8 * 0 = omega arith in
     record {
       met = met;
+      looked = looked_up g (goal.at.returns-then-met-page-clause-copies g c).After-load_buffer_end-met;
       present = λ same.
           absurd (c.if-met-page.true (same ∙ ap page_end_at (sym c.requires.next)));
       absent = λ other. refl;
@@ -65,6 +83,7 @@ returns-clause-copies g c =
     let met : ℕ = c.load_buffer_end-met.result in
     record {
       met = met;
+      looked = looked_up g (goal.at.returns-clause-copies g c).After-load_buffer_end-met;
       present = λ same. c.copy_from.ensures.count;
       absent = λ other. absurd (other (c.if-met-page.false ∙ ap page_end_at c.requires.next));
       view = then_view (copied_view c.copy_from.result) (confirmed_view met (view_of p)) p
