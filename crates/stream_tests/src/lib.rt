@@ -15,6 +15,8 @@ mod log;
 #[cfg(test)]
 mod primary;
 #[cfg(test)]
+mod received;
+#[cfg(test)]
 mod standbys;
 #[cfg(test)]
 mod stops;

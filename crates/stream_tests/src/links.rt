@@ -26,6 +26,9 @@ const LINKS: u64 = 50;
 // Pages whose frames are sent over a link.
 const SENT: u16 = 40;
 
+// An opening makes durable what it found with its first calls, one for each segment that is there.
+const SEGMENTS: u64 = 3;
+
 // A crash decides so many words at random, those of the first 40 pages that wait for a sync, and
 // loses what is behind them.
 const WORDS: usize = 40_960;
@@ -148,25 +151,33 @@ fn feed(
     Ok(())
 }
 
-// A standby that is opened on a disk hardens behind a link; the disk holds a front of the log then,
-// with all that was promised. Noted is from which moments on how much is: what it found, from its
-// opening on, and what it hardened.
+// What is done with a standby over a link: from which moment on what it found is durable, and
+// whether it hardens at the end.
+#[derive(Clone, Copy)]
+struct Turn {
+    durable: u64,
+    hardens: bool,
+}
+
+// A standby that is opened on a disk is fed over a link, and hardens or is just closed; the disk
+// holds a front of the log then, with all that was promised. Noted is from which moments on how
+// much is.
 fn over_link(
     rt: &impl Abort,
     alloc: Global,
     random: &mut SplitMix64,
     log: &Log,
     disk: MemDisk,
+    turn: Turn,
     promises: &mut Vec<(u64, u64)>,
 ) -> Result<MemDisk, Fail> {
-    let begun = disk.moment();
     let mut standby = open_three(alloc, disk)?;
-    promises.push((begun, standby.upto().0))?;
+    promises.push((turn.durable, standby.upto().0))?;
     feed(rt, alloc, random, log, &mut standby)?;
-    let upto = standby.harden()?.0;
+    let hardened = if turn.hardens { standby.harden()?.0 } else { 0 };
     let mut disk = standby.close();
     let last = disk.moment();
-    promises.push((last, upto))?;
+    promises.push((last, hardened))?;
     let listed = Listed::of(alloc, &mut disk)?;
     assert!(rt; listed.is_front(&log.ends, promised_by(promises, last)));
     Ok(disk)
@@ -242,6 +253,8 @@ fn catch_up(rt: &impl Abort, alloc: Global, log: &Log, disk: MemDisk) -> Result<
     Ok(disk)
 }
 
+// Each second standby is closed with pages that wait for a sync, and the next one is opened on
+// these or on what a crash left.
 fn follow(
     rt: &impl Abort,
     alloc: Global,
@@ -250,11 +263,19 @@ fn follow(
 ) -> Result<MemDisk, Fail> {
     let mut disk = MemDisk::new(alloc, 3, 1000, Vec::new(alloc), Vec::new(alloc))?;
     let mut promises = Vec::new(alloc);
-    for _link in 0..LINKS {
-        disk = over_link(rt, alloc, random, log, disk, &mut promises)?;
+    let mut waits = false;
+    for link in 0..LINKS {
+        let syncs = if waits { SEGMENTS } else { 0 };
+        let turn = Turn {
+            durable: disk.moment().saturating_add(syncs),
+            hardens: link % 2 == 0,
+        };
+        waits = link % 2 == 1;
+        disk = over_link(rt, alloc, random, log, disk, turn, &mut promises)?;
         if random.next_u64() % 2 == 0 {
             disk = crashed(rt, alloc, random, log, &disk, &promises)?;
             promises.clear();
+            waits = false;
         }
     }
     catch_up(rt, alloc, log, disk)

@@ -13,20 +13,21 @@ use wal_types::Lsn;
 // A record of a page and one byte, and where it ends.
 const SCRIPT: &[u8] = b"I 1 10 00 8124*5a\n";
 
-const END: u64 = 0x10_2020;
+pub(crate) const END: u64 = 0x10_2020;
 
 // The calls of a standby that takes its first page and hardens, and of another one on the same disk
 // that takes both: it makes durable what is there and clears it, since no record ends in it.
 const CALLS: u64 = 9;
 
+/// The frames of a record's two pages.
 #[derive(Drop)]
-struct TwoFrames {
-    first: FrameBytes,
-    second: FrameBytes,
+pub(crate) struct TwoFrames {
+    pub(crate) first: FrameBytes,
+    pub(crate) second: FrameBytes,
 }
 
 impl TwoFrames {
-    fn new(alloc: Global) -> Result<TwoFrames, Fail> {
+    pub(crate) fn new(alloc: Global) -> Result<TwoFrames, Fail> {
         let log = Log::of_script(alloc, SCRIPT)?;
         Ok(TwoFrames {
             first: log.frame(0, None)?,
