@@ -243,13 +243,24 @@ sight_keeps seen v rises = record {
   down = λ faults knows. knows;
 }
 
+pub sees_keep : {D : Type 0} → (now new : SeatedPass D) → SeesMore now new
+    → KeepsPass (view_of now) (view_of new)
+sees_keep now new sees = subst (λ (w : View). KeepsPass (view_of now) w) (sym (view_is sees.view))
+    (sight_keeps sees.seen (view_of now) sees.rises)
+
+pub sees_same : {D : Type 0} → (p : SeatedPass D) → SeesMore p p
+sees_same p = record {
+  seen = ((view_of p).reserving).seen;
+  rises = omega arith;
+  view = record { same_table = refl; me_is = refl };
+}
+
 pub tried_and_looked : {D : Type 0} → (old now new : SeatedPass D) → HasTriedOn old now
     → SeesMore now new → HasTriedOn old new
 tried_and_looked old now new tried sees = record {
   comes = rests_again old now new tried.comes (record {
     same_table = (sees.view).same_table;
-    keeps = subst (λ (w : View). KeepsPass (view_of now) w) (sym (view_is sees.view))
-        (sight_keeps sees.seen (view_of now) sees.rises);
+    keeps = sees_keep now new sees;
     rests = record {
       rests = (let r = ((tried.comes).rests).rests in
           subst IsResting (sym (view_is sees.view)) (record {

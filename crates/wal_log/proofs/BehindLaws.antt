@@ -20,9 +20,9 @@ use Rattle.insert_locks.specs.Watching.{SeesPosition, with_sight}
 use Rattle.wal_log.specs.declared.fault.Fault.TheVariants as kinds
 use Rattle.wal_log.specs.declared.flushing.FlushErr.{FlushErr}
 use Rattle.wal_log.specs.declared.flushing.FlushErr.TheVariants.{Unreserved, Disk, Down}
-use Rattle.wal_log.specs.Behind.{FindsNothing, FindsTarget, FlushesBehind, RefusesBehind, SeesTarget, page_of_end, page_start, view_met_up}
+use Rattle.wal_log.specs.Behind.{FindsNothing, FindsTarget, FlushesBehind, RefusesBehind, SeesTarget, page_of_end, page_start}
 use Rattle.wal_log.specs.Downs.{KnowsNoFault}
-use Rattle.wal_log.specs.Flushing.{HasReached, IsUnreserved, TellsFlushErr}
+use Rattle.wal_log.specs.Flushing.{HasReached, IsUnreserved, TellsFlushErr, view_met_up}
 use Rattle.wal_log.specs.PassLogs.{log_of_pass}
 use Rattle.wal_log.specs.Standing.{ComesToRest, KeepsPass, KeepsWork}
 use Rattle.wal_log.proofs.FlushLaws.{fault_behind, told_behind}
@@ -200,8 +200,11 @@ module _ (flushed target : ℕ) (old new : View) (sees : SeesTarget flushed targ
 
 -- the down value was loaded, which was 0, and then what was to be flushed was found
 module _ (old down sight : View) (faults flushed target : ℕ)
-    (by_down : down ≡ view_behind old load_down faults none) (zero : faults ≡ 0)
-    (sees : SeesTarget flushed target down sight) where
+    (by_down : down ≡ view_behind old load_down faults none) (met : Meets old load_down faults)
+    (zero : faults ≡ 0) (sees : SeesTarget flushed target down sight) where
+  looked_up : Meets old load_down 0
+  looked_up = subst (λ (n : ℕ). Meets old load_down n) zero met
+
   sees_up : SeesTarget flushed target (view_met_up old) sight
   sees_up = subst (λ (v : View). SeesTarget flushed target v sight)
       (by_down ∙ ap (λ (n : ℕ). view_behind old load_down n none) zero) sees
@@ -237,6 +240,7 @@ module _ (old down sight : View) (faults flushed target : ℕ)
       let both = both_low sees.target_is low in
       let is : target ≡ sight.async_met = both.0 in
       let same = same_page (sight.reserving).seen in record {
+        looked = looked_up;
         sees = subst (λ (n : ℕ). SeesTarget flushed n (view_met_up old) sight) is sees_up;
         page = omega (arith, same, both.1);
         async = omega (arith, is, low);
@@ -247,6 +251,7 @@ module _ (old down sight : View) (faults flushed target : ℕ)
   -- the target is above the flushed address
   finds_target : flushed < target → FindsTarget target old
   finds_target high = record {
+    looked = looked_up;
     flushed = flushed;
     sight = sight;
     sees = sees_up;
@@ -258,8 +263,11 @@ module _ (old down sight : View) (faults flushed target : ℕ)
   flushes_behind hard new keeps high told = record {
     target = target;
     found = finds_target high;
-    told = told_behind target hard.upto.0 hard.moment old sight new same_log keeps target
-        (told.0).reached told.0;
+    told = (
+      told_behind target hard.upto.0 hard.moment old sight new same_log keeps target
+          (told.0).reached told.0,
+      told.1,
+    );
   }
 
   -- a flush of it is not told that it is not reserved

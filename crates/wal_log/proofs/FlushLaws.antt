@@ -30,7 +30,7 @@ use Rattle.wal_log.specs.declared.fault.Fault.TheVariants.{Disk, Down}
 use Rattle.wal_log.specs.declared.turns.TurnErr.{TurnErr}
 use Rattle.wal_log.specs.declared.turns.TurnErr.TheVariants as turns
 use Rattle.wal_log.specs.Downs.{KnowsNoFault, SetsDownItself}
-use Rattle.wal_log.specs.Flushing.{AnswersFlushTry, FailsItsFlush, HasPassedLocks, IsToBeFlushed, IsToldHard, IsUnreserved, TellsFlushErr, TellsFlushTry, flush_err_known_down, flush_err_of_fault, try_flush_err_known_down, try_flush_err_of_turn}
+use Rattle.wal_log.specs.Flushing.{AnswersFlush, AnswersFlushTry, FailsItsFlush, HasPassedLocks, IsToBeFlushed, IsToldHard, IsUnreserved, TellsFlushErr, TellsFlushTry, flush_err_known_down, flush_err_of_fault, try_flush_err_known_down, try_flush_err_of_turn}
 use Rattle.wal_log.specs.Hands.{IsLatestPromise, TellsTurnErr}
 use Rattle.wal_log.specs.PassLogs.{PassLog, log_of_pass, log_with_promise}
 use Rattle.wal_log.specs.Standing.{KeepsPass, KeepsWork}
@@ -474,6 +474,20 @@ module _ (asked : ℕ) (old mid new : View) (keeps : KeepsPass old mid) where
       told.1,
     )
     tried_behind same_down (Err e) why = (tells_behind same_down e why.0, why.1 ∙ same)
+
+    pub flushed_behind : mid.writing.down_set ≡ old.writing.down_set → (r : Result Hard FlushErr)
+        → AnswersFlush asked mid r new → AnswersFlush asked old r new
+    flushed_behind same_down (Ok hard) told = (
+      told_behind asked hard.upto.0 hard.moment old mid new same keeps asked (told.0).reached
+          told.0,
+      told.1,
+    )
+    flushed_behind same_down (Err (flushes.Disk n)) why =
+        (why.0 ∙ same, fails_behind n why.1)
+    flushed_behind same_down (Err (flushes.Down n)) why =
+        (why.0 ∙ same, meets_since old mid new n same_down why.1)
+    flushed_behind same_down (Err (flushes.Unreserved end)) why =
+        (why.0 ∙ same, unreserved_behind end.0 why.1)
 
 -- ---- the last try
 

@@ -17,6 +17,7 @@ pub mod NextWord
 pub mod Opens
 pub mod PageLaws
 pub mod Reopens
+pub mod ReservedLaws
 mod RoomLaws
 pub mod Passing
 pub mod Plain

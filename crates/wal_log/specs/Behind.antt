@@ -18,7 +18,7 @@ use Rattle.wal_log.specs.declared.behind.Caught.TheVariants.{Flushed, Idle}
 use Rattle.wal_log.specs.declared.flushing.FlushErr.{FlushErr}
 use Rattle.wal_log.specs.declared.flushing.FlushErr.TheVariants.{Unreserved, Disk, Down}
 use Rattle.wal_log.specs.Downs.{KnowsNoFault, MeetsDown}
-use Rattle.wal_log.specs.Flushing.{FailsItsFlush, IsToldHard}
+use Rattle.wal_log.specs.Flushing.{FailsItsFlush, HasReached, view_met_up}
 use Rattle.wal_log.specs.Inserting.{InsertsOnly}
 use Rattle.wal_log.specs.PassLogs.{log_of_pass}
 
@@ -70,21 +70,19 @@ pub record SeesTarget (flushed target : ℕ) (old new : View) : Type 0 where
       ⊎ ((page_of_end old (new.reserving).seen ≤ flushed) × (target ≡ new.async_met))
   pub reserved : target ≤ end_form (old.opening).setup (new.reserving).seen
 
--- the view behind a down value of 0
-abbrev pub view_met_up : View → View
-view_met_up old = view_behind old load_down 0 none
-
--- nothing was to be flushed: neither where the end's page begins nor the async address that was met
--- is above the flushed address that was met
+-- nothing was to be flushed: a down value of 0 was met, and then neither where the end's page begins
+-- nor the async address that was met is above the flushed address that was met
 pub record FindsNothing (upto : ℕ) (old new : View) : Type 0 where
+  pub looked : Meets old load_down 0
   pub sees : SeesTarget upto new.async_met (view_met_up old) new
   pub page : page_of_end old (new.reserving).seen ≤ upto
   pub async : new.async_met ≤ upto
   pub log_is : log_of_pass new ≡ log_of_pass old
   pub up : KnowsNoFault new
 
--- this target was found behind a down value of 0, above the flushed address that was met
+-- a down value of 0 was met, and then this target was found, above the flushed address that was met
 pub record FindsTarget (target : ℕ) (old : View) : Type 0 where
+  pub looked : Meets old load_down 0
   pub flushed : ℕ
   pub sight : View
   pub sees : SeesTarget flushed target (view_met_up old) sight
@@ -94,7 +92,7 @@ pub record FindsTarget (target : ℕ) (old : View) : Type 0 where
 pub record FlushesBehind (hard : Hard) (old new : View) : Type 0 where
   pub target : ℕ
   pub found : FindsTarget target old
-  pub told : IsToldHard target hard.upto.0 hard.moment old new
+  pub told : HasReached target hard old new
 
 -- why nothing was flushed; a flush that failed was of the target that was found
 abbrev pub RefusesBehind : View → View → FlushErr → Type 0

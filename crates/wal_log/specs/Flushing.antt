@@ -138,6 +138,56 @@ AnswersFlush asked old (Ok hard) new = HasReached asked hard old new
 AnswersFlush asked old (Err e) new =
     (log_of_pass new ≡ log_of_pass old) × TellsFlushErr asked old new e
 
+-- ---- whether the address is reserved
+
+-- the view behind a down value of 0
+abbrev pub view_met_up : View → View
+view_met_up old = view_behind old load_down 0 none
+
+-- a pass with this view met the position, by which the address asked for is reserved
+pub record SeesReserved (asked : ℕ) (v : View) : Type 0 where
+  pub seen : ℕ
+  pub position : SeesPosition v seen
+  pub reserved : asked ≤ end_form (v.opening).setup seen
+
+-- or is above the end of what is reserved
+pub record SeesUnreserved (asked : ℕ) (v : View) : Type 0 where
+  pub seen : ℕ
+  pub position : SeesPosition v seen
+  pub above : end_form (v.opening).setup seen < asked
+
+-- the address is told as unreserved where the position met by this view says so, and nowhere else
+abbrev pub SeesWhether : ℕ → View → Result Hard TryFlushErr → Type 0
+SeesWhether asked v (Ok hard) = SeesReserved asked v
+SeesWhether asked v (Err (tries.Fault fault)) = SeesReserved asked v
+SeesWhether asked v (Err (tries.Unreserved end)) = SeesUnreserved asked v
+SeesWhether asked v (Err (tries.Behind lock word)) = SeesReserved asked v
+SeesWhether asked v (Err (tries.Turn word)) = SeesReserved asked v
+
+-- a down value of 0 was met, and behind it that position
+abbrev pub MeetsReserved : ℕ → View → Type 0
+MeetsReserved asked old = Meets old load_down 0 × SeesReserved asked (view_met_up old)
+
+abbrev pub MeetsUnreserved : ℕ → View → Type 0
+MeetsUnreserved asked old = Meets old load_down 0 × SeesUnreserved asked (view_met_up old)
+
+-- whether the address is reserved goes by the first position that is met: it is told as unreserved
+-- where it is above the end met then, and nowhere else. A down value may be met before that
+abbrev pub JudgesFlushTry : ℕ → View → Result Hard TryFlushErr → Type 0
+JudgesFlushTry asked old (Ok hard) = MeetsReserved asked old
+JudgesFlushTry asked old (Err (tries.Fault (faults.Disk n))) = MeetsReserved asked old
+JudgesFlushTry asked old (Err (tries.Fault (faults.Down n))) =
+    Meets old load_down n ⊎ MeetsReserved asked old
+JudgesFlushTry asked old (Err (tries.Unreserved end)) = MeetsUnreserved asked old
+JudgesFlushTry asked old (Err (tries.Behind lock word)) = MeetsReserved asked old
+JudgesFlushTry asked old (Err (tries.Turn word)) = MeetsReserved asked old
+
+abbrev pub JudgesFlush : ℕ → View → Result Hard FlushErr → Type 0
+JudgesFlush asked old (Ok hard) = MeetsReserved asked old
+JudgesFlush asked old (Err (Disk n)) = MeetsReserved asked old
+JudgesFlush asked old (Err (Down n)) = Meets old load_down n ⊎ MeetsReserved asked old
+JudgesFlush asked old (Err (Unreserved end)) = MeetsUnreserved asked old
+
 -- ---- where nothing is to be done
 
 -- a pass with this view met these as flushed, and behind it as the moment; and its view is else as

@@ -9,6 +9,7 @@ use Rattle.wal_rule.specs.SeatedPasses.{setup_of, view_of}
 use Rattle.wal_rule.specs.Stepping.{Meets}
 use Rattle.wal_log.specs.Copying.{MapsPage}
 use Rattle.wal_log.specs.Hands.{MeetsFreeWriteTurn, MeetsWriteTurn}
+use Rattle.wal_log.specs.Standing.{ComesToRest}
 use Rattle.wal_log.specs.Writing.{IsHeldUp, WritesCopied}
 
 -- ---- whether it is
@@ -63,3 +64,10 @@ MakesRoom tape moment faults page old new = MeetsMapped (setup_of old) page (vie
     ⊎ (MeetsUnmapped (setup_of old) page (view_of old)
     × (IsHeldUp (end_in_the_way (setup_of old) page) (view_of new)
     ⊎ WritesAndMaps tape moment faults (end_in_the_way (setup_of old) page) old new))
+
+-- and so it was behind a record, once that was whole and its locks given back
+pub record MakesRoomBehind {D : Type 0} (tape : D → Option Tape) (moment faults : D → ℕ) (page : ℕ)
+    (old new : SeatedPass D) : Type 0 where
+  pub landed : SeatedPass D
+  pub rests : ComesToRest old landed
+  pub makes : MakesRoom tape moment faults page landed new

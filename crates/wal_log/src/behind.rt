@@ -77,7 +77,7 @@ fn write_behind_on<'p, D: Disk, R: Wait>(
         let upto = Lsn(flushed);
         return Ok(Caught::Idle { upto });
     }
-    match flush_on(rt, seated, Lsn(target), false) {
+    match flush_on(rt, seated, Lsn(target)) {
         Ok(hard) => Ok(Caught::Flushed(hard)),
         Err(e) => Err(e),
     }

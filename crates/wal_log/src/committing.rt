@@ -12,7 +12,7 @@ ghost use Rattle.wal_log.specs.Committing.{AnswersCommit, InsertsAndFlushes, com
 ghost use Rattle.wal_log.specs.Logs.{IsPassOfLog, setup_of_log};
 ghost use Rattle.wal_log.specs.Standing.{ComesToRest, KeepsPass};
 
-use crate::flushing::{FlushErr, flush_on};
+use crate::flushing::{FlushErr, flush_in_company};
 use crate::inserting::{InsertErr, insert_on};
 use crate::wal::Wal;
 use record_spelling::Body;
@@ -98,7 +98,7 @@ fn commit_on<'p, D: Disk, R: Wait>(
 {
     let Receipt { start, end } = insert_on(rt, seated, company, body)?;
     company.note(start, end);
-    match flush_on(rt, seated, end, company.is_there()) {
+    match flush_in_company(rt, seated, end, company.is_there()) {
         Ok(hard) => Ok(Sealed {
             start,
             end,

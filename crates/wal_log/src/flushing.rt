@@ -15,7 +15,7 @@ ghost use Rattle.wal_rule.specs.Downs.{KnowsDown};
 ghost use Rattle.wal_rule.specs.Passes.{view_of_pass};
 ghost use Rattle.wal_rule.specs.SeatedPasses.{StandsAtRest, setup_of, view_of};
 ghost use Rattle.wal_log.specs.Downs.{KnowsNoFault, SetsDownItself};
-ghost use Rattle.wal_log.specs.Flushing.{AnswersFlush, AnswersFlushTry, FlushesOnlyUnflushed, IsToldHard, LoadsHard, MeetsUnflushed, TriesOnlyUnflushed, flush_err_known_down, flush_err_of_fault, try_flush_err_known_down, try_flush_err_of_turn};
+ghost use Rattle.wal_log.specs.Flushing.{AnswersFlush, AnswersFlushTry, FlushesOnlyUnflushed, IsToldHard, JudgesFlush, JudgesFlushTry, LoadsHard, MeetsUnflushed, SeesWhether, TriesOnlyUnflushed, flush_err_known_down, flush_err_of_fault, try_flush_err_known_down, try_flush_err_of_turn};
 ghost use Rattle.wal_log.specs.Hands.{HasAllStored, HasFailed};
 ghost use Rattle.wal_log.specs.Logs.{IsPassOfLog};
 ghost use Rattle.wal_log.specs.PassLogs.{log_of_pass};
@@ -121,6 +121,9 @@ impl<D: Disk> Wal<D> {
         // the moment loaded behind it, and the view is else as it was: no lock was watched.
         ensures only_unflushed { FlushesOnlyUnflushed upto.0 (view_of_pass pass.old) result
             (view_of_pass pass.new) }
+        // It is told as unreserved just where it is above the end of what is reserved by the
+        // position that it loads first: a flush does not wait until somebody reserves.
+        ensures unreserved { JudgesFlush upto.0 (view_of_pass pass.old) result }
         // A pass that knows of a failed disk is told of it, also if the address is durable.
         ensures down_again { (faults : _) → KnowsDown faults (view_of_pass pass.old)
             → result ≡ flush_err_known_down faults }
@@ -129,7 +132,7 @@ impl<D: Disk> Wal<D> {
         ensures pass { IsPassOfLog self.now pass.new }
     {
         let mut seated = pass.seat(&self.table);
-        let answer = flush_on(rt, &mut seated, upto, false);
+        let answer = flush_on(rt, &mut seated, upto);
         pass.put_back(seated);
         answer
     }
@@ -144,6 +147,7 @@ impl<D: Disk> Wal<D> {
         // Nor does it do more than a flush where the address is flushed already.
         ensures only_unflushed { TriesOnlyUnflushed upto.0 (view_of_pass pass.old) result
             (view_of_pass pass.new) }
+        ensures unreserved { JudgesFlushTry upto.0 (view_of_pass pass.old) result }
         // A pass that knows of a failed disk is told of it, also if the address is durable.
         ensures down_again { (faults : _) → KnowsDown faults (view_of_pass pass.old)
             → result ≡ try_flush_err_known_down faults }
@@ -158,11 +162,9 @@ impl<D: Disk> Wal<D> {
     }
 }
 
-// The flush of a pass, by as many tries as it takes; between two of them nothing is held. It leaves
-// of the pass what `Wal::flush` says. In company others are let come before the first try; behind a
-// try that met the turn taken they always are, where the flushed address that was looked at then is
-// below the one asked for.
-pub(crate) fn flush_on<'p, D: Disk, R: Wait>(
+// The flush of a commit. In company others are let come before it. But for that it leaves of the
+// pass what `Wal::flush` says.
+pub(crate) fn flush_in_company<'p, D: Disk, R: Wait>(
     rt: &R,
     seated: &mut SeatedPass<'p, D>,
     upto: Lsn,
@@ -170,15 +172,31 @@ pub(crate) fn flush_on<'p, D: Disk, R: Wait>(
 ) -> Result<Hard, FlushErr>
     requires rests { StandsAtRest seated.old }
     ensures flushes { AnswersFlush upto.0 (view_of seated.old) result (view_of seated.new) }
+    ensures rests { ComesToRest seated.old seated.new }
+{
+    gather(seated, is_in_company);
+    flush_on(rt, seated, upto)
+}
+
+// The flush of a pass, by as many tries as it takes; between two of them nothing is held. It leaves
+// of the pass what `Wal::flush` says. Behind a try that met the turn taken others are let come,
+// where the flushed address that was looked at then is below the one asked for.
+pub(crate) fn flush_on<'p, D: Disk, R: Wait>(
+    rt: &R,
+    seated: &mut SeatedPass<'p, D>,
+    upto: Lsn,
+) -> Result<Hard, FlushErr>
+    requires rests { StandsAtRest seated.old }
+    ensures flushes { AnswersFlush upto.0 (view_of seated.old) result (view_of seated.new) }
     ensures only_unflushed { FlushesOnlyUnflushed upto.0 (view_of seated.old) result
         (view_of seated.new) }
+    ensures unreserved { JudgesFlush upto.0 (view_of seated.old) result }
     ensures down_again { (faults : _) → KnowsDown faults (view_of seated.old)
         → result ≡ flush_err_known_down faults }
     ensures rests { ComesToRest seated.old seated.new }
 {
     let mut patience = Patience::new();
     let mut flushed = 0;
-    gather(seated, is_in_company);
     for _ in rt.forever() {
         match try_flush(seated, upto) {
             Ok(hard) => return Ok(hard),
@@ -254,6 +272,7 @@ fn try_flush<'p, D: Disk>(seated: &mut SeatedPass<'p, D>, upto: Lsn) -> Result<H
     ensures tries { AnswersFlushTry upto.0 (view_of seated.old) result (view_of seated.new) }
     ensures only_unflushed { TriesOnlyUnflushed upto.0 (view_of seated.old) result
         (view_of seated.new) }
+    ensures unreserved { JudgesFlushTry upto.0 (view_of seated.old) result }
     ensures down_again { (faults : _) → KnowsDown faults (view_of seated.old)
         → result ≡ try_flush_err_known_down faults }
     ensures rests { ComesToRest seated.old seated.new }
@@ -273,6 +292,8 @@ fn try_up<'p, D: Disk>(seated: &mut SeatedPass<'p, D>, upto: Lsn) -> Result<Hard
     ensures tries { AnswersFlushTry upto.0 (view_of seated.old) result (view_of seated.new) }
     ensures only_unflushed { TriesOnlyUnflushed upto.0 (view_of seated.old) result
         (view_of seated.new) }
+    // The position is met by the view that it has before.
+    ensures reserved { SeesWhether upto.0 (view_of seated.old) result }
     ensures works { WorksOn seated.old seated.new }
     ensures rests { HasNoTurn seated.new }
 {

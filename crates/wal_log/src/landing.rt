@@ -2,14 +2,15 @@
 // back, which tells each watcher that no word of it is left (PostgreSQL's xlog.c,
 // WALInsertLockRelease). If the disk has failed the copy is given up: record and locks stay with a
 // view with which nobody steps any more, so that no watch ever takes the record for copied.
-ghost use Rattle.std.specs.Prelude.{◌≡◌, IfOk, MatchResult};
+ghost use Rattle.std.specs.Prelude.{◌≡◌, ◌/◌, ◌<◌, true, IfOk, MatchResult};
 ghost use mathlib.Core.Option.{some};
 ghost use Rattle.insert_locks.specs.Holding.{locks_of};
 ghost use Rattle.wal_page.specs.Placed.{placed_end};
-ghost use Rattle.wal_rule.specs.Company.{IsAlone};
-ghost use Rattle.wal_rule.specs.SeatedPasses.{view_of};
+ghost use Rattle.wal_rule.specs.Company.{IsAlone, has_met_others};
+ghost use Rattle.wal_rule.specs.SeatedPasses.{setup_of, view_of};
 ghost use Rattle.wal_log.specs.Downs.{KnowsNoFault, MeetsFault};
 ghost use Rattle.wal_log.specs.PassLogs.{log_of_pass};
+ghost use Rattle.wal_log.specs.Room.{MakesRoomBehind, page_ahead};
 ghost use Rattle.wal_log.specs.Standing.{ComesToRest, CopiesAlone, entry_in_flight};
 ghost use Rattle.wal_log.specs.Whole.{CopiesLast, CopiesWhole};
 
@@ -94,6 +95,10 @@ pub(crate) fn land_and_make_room<'p, 'a, D: Disk, R: Wait>(
     // A pass that is alone gives the lock back, and does nothing else.
     ensures alone { IsAlone company.now → (e : _) → entry_in_flight (view_of seated.old) ≡ some e
         → IfOk result (λ _. CopiesLast (view_of seated.old) (view_of seated.new) e) }
+    // One that has met others makes room behind it, if the record came to a further page.
+    ensures makes { has_met_others company.now ≡ true → placed.old.next / 8192 < end.0 / 8192
+        → IfOk result (λ _. MakesRoomBehind D.tape D.moment D.faults
+        (page_ahead (setup_of seated.old) (placed.old.next / 8192)) seated.old seated.new) }
     ensures log { log_of_pass (view_of seated.new) ≡ log_of_pass (view_of seated.old) }
     ensures rests { ComesToRest seated.old seated.new }
 {

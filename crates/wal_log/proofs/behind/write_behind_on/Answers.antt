@@ -43,9 +43,10 @@ returns-then-target-flushed-clause-catches g c =
     let old : View = view_of c.args.seated.now in
     let down : View = view_of c.load_down-faults.new.self in
     let by_down = view_is c.load_down-faults.ensures.steps in
+    let met = c.load_down-faults.ensures.met in
     let sees = c.see_target-flushed.ensures.sees in
     finds_nothing old down (view_of c.see_target-flushed.new.seated) c.load_down-faults.result
-    c.see_target-flushed.result.0 c.see_target-flushed.result.1 by_down c.if-faults-ne0.false sees
+    c.see_target-flushed.result.0 c.see_target-flushed.result.1 by_down met c.if-faults-ne0.false sees
     (omega (arith, c.if-target-flushed.true))
     (sight_up c.see_target-flushed.result.0 c.see_target-flushed.result.1 down
     (view_of c.see_target-flushed.new.seated) sees
@@ -76,8 +77,8 @@ returns-in-Ok-clause-catches g c =
     flushes_behind (view_of c.args.seated.now) (view_of c.load_down-faults.new.self)
     (view_of c.see_target-flushed.new.seated) c.load_down-faults.result
     c.see_target-flushed.result.0 c.see_target-flushed.result.1
-    (view_is c.load_down-faults.ensures.steps) c.if-faults-ne0.false
-    c.see_target-flushed.ensures.sees c.in-Ok.hard (view_of c.flush_on.new.seated)
+    (view_is c.load_down-faults.ensures.steps) c.load_down-faults.ensures.met
+    c.if-faults-ne0.false c.see_target-flushed.ensures.sees c.in-Ok.hard (view_of c.flush_on.new.seated)
     (seen_so g at).keeps (omega (arith, c.if-target-flushed.false)) c.in-Ok.ensures.flushes
 
 pub returns-in-Ok-clause-down_again : goal.returns-in-Ok-clause-down_again
@@ -97,12 +98,13 @@ returns-in-Err-clause-catches g c =
     let down : View = view_of c.load_down-faults.new.self in
     let sight : View = view_of c.see_target-flushed.new.seated in
     let by_down = view_is c.load_down-faults.ensures.steps in
+    let met = c.load_down-faults.ensures.met in
     let sees = c.see_target-flushed.ensures.sees in
     let told = c.in-Err.ensures.flushes in (
       told.0 ∙ same_log old down sight c.load_down-faults.result c.see_target-flushed.result.0
-          c.see_target-flushed.result.1 by_down c.if-faults-ne0.false sees,
+          c.see_target-flushed.result.1 by_down met c.if-faults-ne0.false sees,
       refuses_behind old down sight c.load_down-faults.result c.see_target-flushed.result.0
-          c.see_target-flushed.result.1 by_down c.if-faults-ne0.false sees
+          c.see_target-flushed.result.1 by_down met c.if-faults-ne0.false sees
           (view_of c.flush_on.new.seated)
           (subst (λ (s : Setup). IsSegmentSize s.segment_size) (sym (own_setup c.args.seated.now))
           (valid_size c.args.seated.now))

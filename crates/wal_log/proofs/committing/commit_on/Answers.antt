@@ -27,7 +27,7 @@ unreachable-requires g c =
     ∙ same_setup c.args.seated.now c.insert_on.new.seated c.insert_on.ensures.rests.same_table in
     let why = rw c.in-Err-Unreserved.field-0-is at c.in-Err-Unreserved.ensures.flushes in
     end_is_reserved setup c.args.body.now (view_of c.args.seated.now) mid
-    (view_of c.flush_on.new.seated) c.in_ok-start.field-0 c.in_ok-start.ensures.inserts
+    (view_of c.flush_in_company.new.seated) c.in_ok-start.field-0 c.in_ok-start.ensures.inserts
     c.in-Err-Unreserved.field-0-0.0
     (valid_size c.args.seated.now) same why.1
 
@@ -37,9 +37,9 @@ returns-in-Ok-clause-commits g c =
     let mid = view_of c.insert_on.new.seated in
     let same : mid.opening.setup ≡ setup = own_setup c.insert_on.new.seated
     ∙ same_setup c.args.seated.now c.insert_on.new.seated c.insert_on.ensures.rests.same_table in
-    sealed_is setup c.args.body.now (view_of c.args.seated.now) mid (view_of c.flush_on.new.seated)
+    sealed_is setup c.args.body.now (view_of c.args.seated.now) mid (view_of c.flush_in_company.new.seated)
     c.in_ok-start.field-0 c.in_ok-start.ensures.inserts c.insert_on.ensures.rests.keeps
-    c.flush_on.ensures.rests.keeps same _
+    c.flush_in_company.ensures.rests.keeps same _
     c.in-Ok.hard.upto.0 refl refl c.in-Ok.ensures.flushes.0
 
 pub returns-in-Ok-clause-alone : goal.returns-in-Ok-clause-alone
@@ -56,7 +56,7 @@ returns-in-Ok-clause-down_again g c = λ faults knows. absurd (never_both c.inse
 
 pub returns-in-Ok-clause-rests : goal.returns-in-Ok-clause-rests
 returns-in-Ok-clause-rests g c = rests_again c.args.seated.now c.insert_on.new.seated
-    c.flush_on.new.seated c.insert_on.ensures.rests c.flush_on.ensures.rests
+    c.flush_in_company.new.seated c.insert_on.ensures.rests c.flush_in_company.ensures.rests
 
 pub returns-in-Err-Disk-clause-commits : goal.returns-in-Err-Disk-clause-commits
 returns-in-Err-Disk-clause-commits g c =
@@ -68,10 +68,10 @@ returns-in-Err-Disk-clause-commits g c =
     ∙ ap (λ (n : ℕ). record { cause = causes.Disk n; reserved = Some start })
     c.in-Err-Disk.faults-is in
     subst (λ (r : Refused). RefusesCommit (setup_of c.args.seated.now) c.args.body.now
-    (view_of c.args.seated.now) (view_of c.flush_on.new.seated) r.cause r.reserved) (sym is) (
+    (view_of c.args.seated.now) (view_of c.flush_in_company.new.seated) r.cause r.reserved) (sym is) (
       started (setup_of c.args.seated.now) c.args.body.now (view_of c.args.seated.now)
-          (view_of c.insert_on.new.seated) (view_of c.flush_on.new.seated) c.in_ok-start.field-0
-          c.in_ok-start.ensures.inserts why.0 c.flush_on.ensures.rests.keeps.rises,
+          (view_of c.insert_on.new.seated) (view_of c.flush_in_company.new.seated) c.in_ok-start.field-0
+          c.in_ok-start.ensures.inserts why.0 c.flush_in_company.ensures.rests.keeps.rises,
       why.1.down,
     )
 
@@ -81,7 +81,7 @@ returns-in-Err-Disk-clause-down_again g c = λ faults knows. absurd (never_both
 
 pub returns-in-Err-Disk-clause-rests : goal.returns-in-Err-Disk-clause-rests
 returns-in-Err-Disk-clause-rests g c = rests_again c.args.seated.now c.insert_on.new.seated
-    c.flush_on.new.seated c.insert_on.ensures.rests c.flush_on.ensures.rests
+    c.flush_in_company.new.seated c.insert_on.ensures.rests c.flush_in_company.ensures.rests
 
 pub returns-in-Err-Down-clause-commits : goal.returns-in-Err-Down-clause-commits
 returns-in-Err-Down-clause-commits g c =
@@ -93,14 +93,14 @@ returns-in-Err-Down-clause-commits g c =
     ∙ ap (λ (n : ℕ). record { cause = causes.Down n; reserved = Some start })
     c.in-Err-Down.faults-is in
     subst (λ (r : Refused). RefusesCommit (setup_of c.args.seated.now) c.args.body.now
-    (view_of c.args.seated.now) (view_of c.flush_on.new.seated) r.cause r.reserved) (sym is) (
+    (view_of c.args.seated.now) (view_of c.flush_in_company.new.seated) r.cause r.reserved) (sym is) (
       started (setup_of c.args.seated.now) c.args.body.now (view_of c.args.seated.now)
-          (view_of c.insert_on.new.seated) (view_of c.flush_on.new.seated) c.in_ok-start.field-0
-          c.in_ok-start.ensures.inserts why.0 c.flush_on.ensures.rests.keeps.rises,
+          (view_of c.insert_on.new.seated) (view_of c.flush_in_company.new.seated) c.in_ok-start.field-0
+          c.in_ok-start.ensures.inserts why.0 c.flush_in_company.ensures.rests.keeps.rises,
       meets_since (view_of c.args.seated.now) (view_of c.insert_on.new.seated)
-          (view_of c.flush_on.new.seated) c.in-Err-Down.faults
+          (view_of c.flush_in_company.new.seated) c.in-Err-Down.faults
           (set_none (setup_of c.args.seated.now) c.args.body.now (view_of c.args.seated.now)
-          (view_of c.insert_on.new.seated) (view_of c.flush_on.new.seated) c.in_ok-start.field-0
+          (view_of c.insert_on.new.seated) (view_of c.flush_in_company.new.seated) c.in_ok-start.field-0
           c.in_ok-start.ensures.inserts c.insert_on.ensures.rests.keeps)
           why.1,
     )
@@ -111,4 +111,4 @@ returns-in-Err-Down-clause-down_again g c = λ faults knows. absurd (never_both
 
 pub returns-in-Err-Down-clause-rests : goal.returns-in-Err-Down-clause-rests
 returns-in-Err-Down-clause-rests g c = rests_again c.args.seated.now c.insert_on.new.seated
-    c.flush_on.new.seated c.insert_on.ensures.rests c.flush_on.ensures.rests
+    c.flush_in_company.new.seated c.insert_on.ensures.rests c.flush_in_company.ensures.rests

@@ -1,13 +1,18 @@
 use Rattle.std.specs.Prelude.{Ok, Err}
-use Rattle.std.proofs.Common.{inl, inr, sym, ap, ◌∙◌, subst}
+use Rattle.std.proofs.Common.{inl, inr, refl, sym, ap, ◌∙◌, subst}
+use Rattle.byte_position.specs.Geometry.{IsSegmentSize}
+use Rattle.wal_core.specs.declared.setup.Setup.{Setup}
 use Rattle.wal_rule.specs.SeatedPasses.{view_of}
 use Rattle.wal_log.specs.declared.flushing.FlushErr.{FlushErr}
 use Rattle.wal_log.specs.declared.flushing.TryFlushErr.TheVariants.{Fault, Unreserved}
-use Rattle.wal_log.specs.Flushing.{FlushesOnlyUnflushed, TellsFlushErr}
+use Rattle.wal_log.specs.Flushing.{FlushesOnlyUnflushed, JudgesFlush, TellsFlushErr}
 use Rattle.wal_log.specs.Standing.{ComesToRest}
-use Rattle.wal_log.proofs.AwaitLaws.{rests_at_work, tried_and_looked}
+use Rattle.wal_log.proofs.AwaitLaws.{rests_at_work, sees_keep, sees_same, tried_and_looked}
 use Rattle.wal_log.proofs.FlushLaws.{answer_again, answer_of, fault_behind, told_behind, unreserved_behind}
+use Rattle.wal_log.proofs.Keeping.{further_pass, same_pass}
 use Rattle.wal_log.proofs.LookLaws.{fault_only, last_tried, only_found}
+use Rattle.wal_log.proofs.ReservedLaws.{judged_again, last_judged}
+use Rattle.wal_log.proofs.Seated.{own_setup, valid_size}
 use Rattle.wal_log.proofs.Trying.{first_try, rests_again, tried_again}
 use Rattle.wal_log.proofs.flushing.flush_on.Given.{Over}
 use Rattle.wal_log.proofs.flushing.flush_on.Goals as goal
@@ -16,10 +21,15 @@ use Rattle.wal_log.proofs.flushing.flush_on.Goals.{After-try_flush}
 pub loop-init : goal.loop-init
 loop-init g c = record {
   goes_on = (tt, tt);
-  tried = tried_and_looked c.args.seated.now c.args.seated.now c.gather.new.seated
-      (first_try c.args.seated.now c.requires.rests) c.gather.ensures.sees;
-  looked = inl c.gather.ensures.sees;
+  tried = first_try c.args.seated.now c.requires.rests;
+  looked = inl (sees_same c.args.seated.now);
+  judged = inl refl;
 }
+
+size_so : (g : Over) (c : After-try_flush g)
+    → IsSegmentSize (view_of c.loop.seated).opening.setup.segment_size
+size_so g c = subst (λ (s : Setup). IsSegmentSize s.segment_size) (sym (own_setup c.loop.seated))
+    (valid_size c.loop.seated)
 
 rests : (g : Over) (c : After-try_flush g) → ComesToRest c.args.seated.now c.try_flush.new.seated
 rests g c = rests_again c.args.seated.now c.loop.seated c.try_flush.new.seated
@@ -98,6 +108,12 @@ loop-preserved-in-Err-Behind g c =
           c.loop.invariant.tried c.try_flush.ensures.rests why.1 why.0.1.up;
       looked = inr (only_found c.args.upto.0 (view_of c.args.seated.now)
           (rw c.in-Err-Behind.field-0-is at last));
+      judged = judged_again c.args.upto.0 c.args.seated.now c.loop.seated
+          (view_of c.try_flush.new.seated) c.try_flush.new.seated c.loop.invariant.judged
+          (rw c.in-Err-Behind.field-0-is at c.in-Err-Behind.ensures.unreserved) why.0.1
+          (subst (λ (s : Setup). IsSegmentSize s.segment_size)
+          (sym (own_setup c.try_flush.new.seated)) (valid_size c.try_flush.new.seated))
+          (same_pass (view_of c.try_flush.new.seated));
     }
 
 pub await_flush-requires : goal.await_flush-requires
@@ -118,9 +134,19 @@ loop-preserved g c =
     c.in-Err-Turn.ensures.only_unflushed in record {
       goes_on = (tt, tt);
       tried = tried_and_looked c.args.seated.now c.await_flush.new.seated
-          c.gather-in-Err-Turn.new.seated awaited c.gather-in-Err-Turn.ensures.sees;
+          c.gather.new.seated awaited c.gather.ensures.sees;
       looked = inr (only_found c.args.upto.0 (view_of c.args.seated.now)
           (rw c.in-Err-Turn.field-0-is at last));
+      judged = judged_again c.args.upto.0 c.args.seated.now c.loop.seated
+          (view_of c.try_flush.new.seated) c.gather.new.seated
+          c.loop.invariant.judged
+          (rw c.in-Err-Turn.field-0-is at c.in-Err-Turn.ensures.unreserved) why.0.2
+          (subst (λ (s : Setup). IsSegmentSize s.segment_size)
+          (sym (own_setup c.try_flush.new.seated)) (valid_size c.try_flush.new.seated))
+          (further_pass (view_of c.try_flush.new.seated) (view_of c.await_flush.new.seated)
+          (view_of c.gather.new.seated) c.await_flush.ensures.stays.work.pass
+          (sees_keep c.await_flush.new.seated c.gather.new.seated
+          c.gather.ensures.sees));
     }
 
 -- ---- the flushed address is looked at first
@@ -145,3 +171,30 @@ returns-in-Err-Unreserved-clause-only_unflushed g c =
     last_tried c.args.upto.0 c.args.seated.now c.loop.seated (view_of c.try_flush.new.seated)
     c.loop.invariant.looked (Err (Unreserved c.in-Err-Unreserved.end))
     (rw c.in-Err-Unreserved.field-0-is at c.in-Err-Unreserved.ensures.only_unflushed)
+
+-- ---- whether the address is reserved
+
+pub returns-in-Ok-clause-unreserved : goal.returns-in-Ok-clause-unreserved
+returns-in-Ok-clause-unreserved g c =
+    let at = (goal.at.returns-in-Ok-clause-unreserved g c).After-try_flush in
+    last_judged c.args.upto.0 c.args.seated.now c.loop.seated (view_of c.try_flush.new.seated)
+    (size_so g at) c.loop.invariant.judged (Ok c.in-Ok.hard) c.in-Ok.ensures.unreserved
+    c.in-Ok.ensures.tries
+
+pub returns-in-Err-Fault-clause-unreserved : goal.returns-in-Err-Fault-clause-unreserved
+returns-in-Err-Fault-clause-unreserved g c =
+    let at = (goal.at.returns-in-Err-Fault-clause-unreserved g c).After-try_flush in
+    subst (λ (e : FlushErr). JudgesFlush c.args.upto.0 (view_of c.args.seated.now) (Err e))
+    (sym c.from.ensures) (last_judged c.args.upto.0 c.args.seated.now c.loop.seated
+    (view_of c.try_flush.new.seated) (size_so g at) c.loop.invariant.judged
+    (Err (Fault c.in-Err-Fault.fault))
+    (rw c.in-Err-Fault.field-0-is at c.in-Err-Fault.ensures.unreserved)
+    (rw c.in-Err-Fault.field-0-is at c.in-Err-Fault.ensures.tries))
+
+pub returns-in-Err-Unreserved-clause-unreserved : goal.returns-in-Err-Unreserved-clause-unreserved
+returns-in-Err-Unreserved-clause-unreserved g c =
+    let at = (goal.at.returns-in-Err-Unreserved-clause-unreserved g c).After-try_flush in
+    last_judged c.args.upto.0 c.args.seated.now c.loop.seated (view_of c.try_flush.new.seated)
+    (size_so g at) c.loop.invariant.judged (Err (Unreserved c.in-Err-Unreserved.end))
+    (rw c.in-Err-Unreserved.field-0-is at c.in-Err-Unreserved.ensures.unreserved)
+    (rw c.in-Err-Unreserved.field-0-is at c.in-Err-Unreserved.ensures.tries)

@@ -1,8 +1,10 @@
 use Rattle.std.specs.Prelude.{Err}
-use Rattle.std.proofs.Common.{ℕ, ap, inl, sym, ◌∙◌}
-use Rattle.wal_core.specs.Steps.{IsResting}
+use Rattle.std.proofs.Common.{ℕ, ap, inl, subst, sym, ◌∙◌}
+use Rattle.wal_core.specs.Steps.{IsResting, load_down, view_behind}
+use mathlib.Core.Option.{none}
 use Rattle.wal_core.specs.Views.{View}
 use Rattle.wal_rule.specs.SeatedPasses.{view_of}
+use Rattle.wal_rule.specs.Stepping.{Meets}
 use Rattle.wal_log.specs.declared.fault.Fault.TheVariants.{Down}
 use Rattle.wal_log.specs.declared.flushing.TryFlushErr.TheVariants.{Fault}
 use Rattle.wal_log.specs.Flushing.{view_looked}
@@ -12,6 +14,7 @@ use Rattle.wal_log.proofs.BeginLaws.{loaded_rests}
 use Rattle.wal_log.proofs.FlushLaws.{tried_behind}
 use Rattle.wal_log.proofs.Keeping.{down_met_keeps, further_pass, none_loaded, rested_on}
 use Rattle.wal_log.proofs.LookLaws.{tried_since}
+use Rattle.wal_log.proofs.ReservedLaws.{tried_up}
 use Rattle.wal_log.proofs.Seated.{hand_is, view_is}
 use Rattle.wal_log.proofs.flushing.try_flush.Given.{Over}
 use Rattle.wal_log.proofs.flushing.try_flush.Goals as goal
@@ -93,3 +96,18 @@ returns-clause-only_unflushed g c =
     tried_since c.args.upto.0 (view_of c.args.seated.now) (view_of c.load_down-faults.new.self)
     (view_of c.try_up.new.seated) (λ down seen. ap (view_looked down seen) load) c.try_up.result
     c.try_up.ensures.only_unflushed
+
+-- ---- whether the address is reserved
+
+pub returns-then-faults-ne0-clause-unreserved : goal.returns-then-faults-ne0-clause-unreserved
+returns-then-faults-ne0-clause-unreserved g c = inl c.load_down-faults.ensures.met
+
+pub returns-clause-unreserved : goal.returns-clause-unreserved
+returns-clause-unreserved g c =
+    let old : View = view_of c.args.seated.now in
+    let zero = c.if-faults-ne0.false in
+    tried_up c.args.upto.0 old (view_of c.load_down-faults.new.self)
+    (view_is c.load_down-faults.ensures.steps
+    ∙ ap (λ (n : ℕ). view_behind old load_down n none) zero)
+    (subst (λ (n : ℕ). Meets old load_down n) zero c.load_down-faults.ensures.met)
+    c.try_up.result c.try_up.ensures.reserved

@@ -1,17 +1,19 @@
-use Rattle.std.proofs.Common.{◌≡◌, ◌≤◌, ap, sym, subst, inl, inr, ◌∙◌, arith}
+use Rattle.std.proofs.Common.{◌≡◌, ◌<◌, ◌≤◌, ap, sym, subst, inl, inr, ◌∙◌, arith}
 use Rattle.std.proofs.lemmas.Map.Keys.{ge_from_not_lt}
+use Rattle.byte_position.specs.Geometry.{IsSegmentSize}
 use Rattle.byte_position.proofs.EndAddresses.{end_address_of-mono}
 use Rattle.wal_core.specs.declared.setup.Setup.{Setup}
 use Rattle.wal_core.specs.Words.{end_form}
 use Rattle.wal_core.specs.Views.{View}
 use Rattle.insert_locks.specs.Watching.{SeesPosition, with_sight}
 use Rattle.wal_rule.specs.SeatedPasses.{setup_of, view_of}
-use Rattle.wal_log.specs.Flushing.{view_looked}
+use Rattle.wal_log.specs.Flushing.{SeesReserved, view_looked}
 use Rattle.wal_log.specs.Standing.{HasNoTurn, WorksOn}
 use Rattle.wal_log.proofs.AddingNothing.{works_on}
 use Rattle.wal_log.proofs.FlushLaws.{lt_from_is_lt, told_behind, tried_behind}
 use Rattle.wal_log.proofs.Keeping.{both_up}
 use Rattle.wal_log.proofs.LookLaws.{found_unflushed, looked_is, told_at_once}
+use Rattle.wal_log.proofs.ReservedLaws.{sees_whether}
 use Rattle.wal_log.proofs.Seated.{own_setup, same_setup, seat_stays, valid_size, view_is}
 use Rattle.wal_log.proofs.Watched.{Watches, seen_leaves, still_no_turn, watches}
 use Rattle.wal_log.proofs.flushing.try_up.Given.{Over}
@@ -174,3 +176,54 @@ returns-clause-only_unflushed g c = inr (found_unflushed c.args.upto.0
     (view_of c.see_end.new.seated).reserving.seen
     (looked g (goal.at.returns-clause-only_unflushed g c).After-see_end)
     c.in_default.ensures.loads)
+
+-- ---- whether the address is reserved
+
+sees_reserved : (g : Over) (c : After-see_end g) → c.args.upto.0 ≤ c.see_end.result
+    → SeesReserved c.args.upto.0 (view_of c.args.seated.now)
+sees_reserved g c below =
+    let end_seen = (view_of c.see_end.new.seated).reserving.seen in
+    let is = c.see_end.ensures.sees.end_is in record {
+      seen = end_seen;
+      position = c.see_end.ensures.met;
+      reserved = subst (λ (s : Setup). c.args.upto.0 ≤ end_form s end_seen)
+          (sym (own_setup c.args.seated.now)) (omega (arith, below, is));
+    }
+
+pub returns-then-lt-clause-reserved : goal.returns-then-lt-clause-reserved
+returns-then-lt-clause-reserved g c =
+    let end_seen = (view_of c.see_end.new.seated).reserving.seen in
+    let is = c.see_end.ensures.sees.end_is in
+    let less = lt_from_is_lt c.see_end.result c.args.upto.0 (sym c.lt.ensures ∙ c.if-lt.true) in
+    record {
+      seen = end_seen;
+      position = c.see_end.ensures.met;
+      above = subst (λ (s : Setup). end_form s end_seen < c.args.upto.0)
+          (sym (own_setup c.args.seated.now)) (omega (arith, less, is));
+    }
+
+pub returns-in-Some-clause-reserved : goal.returns-in-Some-clause-reserved
+returns-in-Some-clause-reserved g c =
+    sees_reserved g (goal.at.returns-in-Some-clause-reserved g c).After-see_end
+    (ge_from_not_lt c.see_end.result c.args.upto.0 (sym c.lt.ensures ∙ c.if-lt.false))
+
+pub returns-clause-reserved : goal.returns-clause-reserved
+returns-clause-reserved g c =
+    let path = goal.at.returns-clause-reserved g c in
+    let below = ge_from_not_lt c.see_end.result c.args.upto.0
+    (sym c.lt.ensures ∙ c.if-lt.false) in
+    let sees = sees_reserved g path.After-see_end below in
+    let mid = c.told_already.new.seated in
+    let keeps = (before g path.After-told_already (seen g path.After-see_end)).work.pass in
+    let higher = end_address_of-mono (setup_of c.args.seated.now).segment_size
+    (valid_size c.args.seated.now) (view_of c.see_end.new.seated).reserving.seen
+    (view_of mid).reserving.seen c.told_already.ensures.stays.work.pass.rises in
+    let is = c.see_end.ensures.sees.end_is in
+    let same : (view_of mid).opening.setup ≡ setup_of c.args.seated.now =
+    ap (λ o. o.setup) keeps.opening ∙ own_setup c.args.seated.now in
+    sees_whether c.args.upto.0 (view_of mid) (view_of c.harden_copied.new.seated)
+    (subst (λ (s : Setup). IsSegmentSize s.segment_size) (sym same)
+    (valid_size c.args.seated.now))
+    (subst (λ (s : Setup). c.args.upto.0 ≤ end_form s (view_of mid).reserving.seen) (sym same)
+    (omega (arith, higher, below, is)))
+    (view_of c.args.seated.now) sees c.harden_copied.result c.harden_copied.ensures.tries

@@ -1,12 +1,15 @@
-use Rattle.std.proofs.Common.{◌≡◌, arith}
+use Rattle.std.proofs.Common.{◌≡◌, ◌/◌, ℕ, ap, ◌∙◌, subst, arith}
 use Rattle.std.proofs.lemmas.Result.{err_from_is_err_and}
 use mathlib.Core.Option.{some}
 use Rattle.wal_page.specs.Order.{Entry}
+use Rattle.wal_core.specs.declared.setup.Setup.{Setup}
 use Rattle.wal_rule.specs.SeatedPasses.{setup_of, view_of}
 use Rattle.insert_locks.specs.Holding.{locks_of}
+use Rattle.wal_log.specs.Room.{MakesRoom, page_ahead}
 use Rattle.wal_log.specs.Standing.{entry_in_flight}
 use Rattle.wal_log.proofs.CopyLaws.{alone_low}
 use Rattle.wal_log.proofs.RoomLaws.{fault_since, flies}
+use Rattle.wal_log.proofs.Seated.{same_setup}
 use Rattle.wal_log.proofs.WholeLaws.{copied_behind}
 use Rattle.wal_log.proofs.landing.land_and_make_room.Given.{Over}
 use Rattle.wal_log.proofs.landing.land_and_make_room.Goals as goal
@@ -47,3 +50,16 @@ returns-in_ok-make_room-clause-lands g c =
           (c.in_ok-land.ensures.lands e flying).0,
       c.in_ok-make_room.ensures.ends,
     )
+
+pub returns-in_ok-make_room-clause-makes : goal.returns-in_ok-make_room-clause-makes
+returns-in_ok-make_room-clause-makes g c = λ met further. record {
+  landed = c.land.new.seated;
+  rests = c.land.ensures.rests;
+  makes = subst (λ (n : ℕ). MakesRoom g.D.Disk.tape g.D.Disk.moment g.D.Disk.faults n
+      c.land.new.seated c.make_room.new.seated)
+      (ap (λ (s : Setup). page_ahead s (c.next_lsn-page.result.0 / 8192))
+      (same_setup c.args.seated.now c.land.new.seated c.land.ensures.rests.same_table)
+      ∙ ap (λ (n : ℕ). page_ahead (setup_of c.args.seated.now) (n / 8192))
+      c.next_lsn-page.ensures)
+      c.in_ok-make_room.ensures.makes;
+}

@@ -4,7 +4,7 @@ use Rattle.wal_core.specs.declared.setup.Setup.{Setup}
 use Rattle.wal_rule.specs.Downs.{KnowsDown}
 use Rattle.wal_rule.specs.Passes.{view_of_pass}
 use Rattle.wal_rule.specs.SeatedPasses.{setup_of, view_of}
-use Rattle.wal_log.specs.Flushing.{AnswersFlush, FlushesOnlyUnflushed, flush_err_known_down}
+use Rattle.wal_log.specs.Flushing.{AnswersFlush, FlushesOnlyUnflushed, JudgesFlush, flush_err_known_down}
 use Rattle.wal_log.specs.Logs.{setup_of_log}
 use Rattle.wal_log.specs.Standing.{KeepsPass}
 use Rattle.wal_log.proofs.Passing.{answered, numbers_back, seated_rests, still_pass}
@@ -62,3 +62,9 @@ returns-clause-only_unflushed g c =
     answered_so g (goal.at.returns-clause-only_unflushed g c).After-put_back
     (λ setup old new. FlushesOnlyUnflushed c.args.upto.0 old c.flush_on-answer.result new)
     c.flush_on-answer.ensures.only_unflushed
+
+pub returns-clause-unreserved : goal.returns-clause-unreserved
+returns-clause-unreserved g c =
+    answered_so g (goal.at.returns-clause-unreserved g c).After-put_back
+    (λ setup old new. JudgesFlush c.args.upto.0 old c.flush_on-answer.result)
+    c.flush_on-answer.ensures.unreserved
