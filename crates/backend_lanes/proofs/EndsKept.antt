@@ -281,7 +281,7 @@ module _ (setup : Setup) (valid : IsSegmentSize setup.segment_size) (old new : V
   pub end_caught : (answer : Result Caught FlushErr) → AnswersBehind old answer new
       → HasEnd setup end new
   end_caught (Ok (caught.Flushed done)) told =
-      end_stays (ap (λ (l : PassLog). l.entries) told.told.log_is)
+      end_stays (ap (λ (l : PassLog). l.entries) told.told.0.log_is)
   end_caught (Ok (caught.Idle upto)) told =
       end_stays (ap (λ (l : PassLog). l.entries) told.log_is)
   end_caught (Err e) why = end_stays (ap (λ (l : PassLog). l.entries) why.0)

@@ -13,8 +13,8 @@ use Rattle.wal_log.specs.declared.behind.Caught.{Caught}
 use Rattle.wal_log.specs.declared.behind.Caught.TheVariants as caught
 use Rattle.wal_log.specs.declared.flushing.FlushErr.{FlushErr}
 use Rattle.wal_log.specs.declared.flushing.FlushErr.TheVariants as flushes
-use Rattle.wal_log.specs.Behind.{AnswersBehind, SeesTarget, behind_known_down, page_of_end, page_start, view_met_up}
-use Rattle.wal_log.specs.Flushing.{AnswersFlush, IsUnreserved, flush_err_known_down}
+use Rattle.wal_log.specs.Behind.{AnswersBehind, SeesTarget, behind_known_down, page_of_end, page_start}
+use Rattle.wal_log.specs.Flushing.{AnswersFlush, IsUnreserved, flush_err_known_down, view_met_up}
 use Rattle.wal_log.specs.Standing.{KeepsPass}
 use Rattle.wal_log.proofs.CommitLaws.{never_both}
 use Rattle.run_laws.specs.Played.{Leaves, PlaysLine, TellsCause, end_of_own, pass_state_of}
@@ -142,10 +142,10 @@ module _ (setup : Setup) (valid : IsSegmentSize setup.segment_size) (old : View)
         told.found.above in
         record {
           behind = record {
-            page = (let far = told.told.reached in omega (arith, page, far));
-            furthest = told.told.latest.addresses;
+            page = (let far = told.told.0.reached in omega (arith, page, far));
+            furthest = told.told.0.latest.addresses;
           };
-          log_is = told.told.log_is;
+          log_is = told.told.0.log_is;
         }
     caught_up (Ok (caught.Idle upto)) told again =
         let low = own_low (Ok (caught.Idle upto)) (caught.Idle upto) refl again in
@@ -166,7 +166,7 @@ module _ (setup : Setup) (valid : IsSegmentSize setup.segment_size) (old : View)
 
     caught_caused : (answer : Result Caught FlushErr) → AnswersBehind old answer new
         → TellsCause (told_of_caught answer) (pass_state_of old) (pass_state_of new)
-    caught_caused (Ok (caught.Flushed done)) told = (told.told.up.met, told.told.up.set)
+    caught_caused (Ok (caught.Flushed done)) told = (told.told.0.up.met, told.told.0.up.set)
     caught_caused (Ok (caught.Idle upto)) told = (told.up.met, told.up.set)
     caught_caused (Err (flushes.Disk faults)) why = why.1.2.down.set
     caught_caused (Err (flushes.Down faults)) why = (why.1.met, why.1.set_none)

@@ -21,10 +21,14 @@ use Rattle.wal_rule.specs.Passes.{view_of_pass}
 use Rattle.wal_log.specs.Committing.{AnswersCommit, RefusesCommit}
 use Rattle.wal_log.specs.declared.beginning.TryErr.{TryErr}
 use Rattle.wal_log.specs.declared.beginning.TryErr.TheVariants as begins
+use Rattle.wal_log.specs.declared.behind.Caught.{Caught}
+use Rattle.wal_log.specs.declared.behind.Caught.TheVariants.{Flushed, Idle}
+use Rattle.wal_log.specs.declared.flushing.FlushErr.{FlushErr}
 use Rattle.wal_log.specs.declared.flushing.TryFlushErr.{TryFlushErr}
 use Rattle.wal_log.specs.declared.in_flight.Inflight.{Inflight}
 use Rattle.wal_log.specs.declared.wal.Wal.{Wal}
 use Rattle.wal_log.specs.Beginning.{TellsBeginTry}
+use Rattle.wal_log.specs.Behind.{AnswersBehind}
 use Rattle.wal_log.specs.Flights.{AnswersTryBegin, view_of_flight}
 use Rattle.wal_log.specs.Flushing.{AnswersFlushTry, TellsHard}
 use Rattle.wal_log.specs.declared.inserting.InsertErr.{InsertErr}
@@ -145,6 +149,18 @@ module _ (setup : Setup) (body : Assembled) (old new : View) where
       (grows_again l m (log_with_promise told.upto sealed.moment m) (with_entry told.entry l)
       (with_promise told.upto sealed.moment m))
   commit_grows (Err refused) told = refused_grows refused.cause refused.reserved told
+
+-- ---- what a flush behind adds
+
+pub behind_grows : (old new : View) (answer : Result Caught FlushErr)
+    → AnswersBehind old answer new → GrowsTo (log_of_pass old) (log_of_pass new)
+behind_grows old new (Ok (Flushed hard)) told =
+    grows_so (log_of_pass old) _ (log_of_pass new) ((told.told).0).log_is
+    (with_promise hard.upto.0 hard.moment (log_of_pass old))
+behind_grows old new (Ok (Idle upto)) told = grows_so (log_of_pass old) _ (log_of_pass new)
+    told.log_is (grows_itself (log_of_pass old))
+behind_grows old new (Err e) told = grows_so (log_of_pass old) _ (log_of_pass new) told.0
+    (grows_itself (log_of_pass old))
 
 -- ---- what a segment switch adds
 

@@ -16,6 +16,7 @@ ghost use Rattle.wal_rule.specs.declared.pass.Pass.{Pass};
 ghost use Rattle.wal_rule.specs.Passes.{view_of_pass};
 ghost use Rattle.wal_core.specs.Moves.{after_join, after_split};
 ghost use Rattle.closed_log.specs.Closed.{WasPromised};
+ghost use Rattle.wal_log.specs.Behind.{AnswersBehind};
 ghost use Rattle.wal_log.specs.Committing.{AnswersCommit, IsSealed};
 ghost use Rattle.wal_log.specs.Flights.{AnswersTryBegin};
 ghost use Rattle.wal_log.specs.Flushing.{AnswersFlush, AnswersFlushTry, IsToldHard, TellsHard};
@@ -24,6 +25,7 @@ ghost use Rattle.wal_log.specs.Logs.{setup_of_log};
 ghost use Rattle.wal_log.specs.PassLogs.{PassLog, log_of_pass, log_with_entry};
 ghost use Rattle.wal_log.specs.Standing.{KeepsPass};
 ghost use Rattle.wal_log.specs.Switching.{AnswersSwitch};
+ghost use Rattle.wal_log.specs.declared.behind.Caught.{Caught};
 ghost use Rattle.wal_log.specs.declared.closing.Closed.{Closed};
 ghost use Rattle.wal_log.specs.declared.beginning.TryErr.{TryErr};
 ghost use Rattle.wal_log.specs.declared.flushing.FlushErr.{FlushErr};
@@ -61,6 +63,9 @@ pub fn logs_only_grow<D: Disk>()
         → AnswersFlushTry asked old answer new → GrowsTo (log_of_pass old) (log_of_pass new) }
     ensures hard { (upto moment : ℕ) (old new : View) → TellsHard upto moment old new
         → GrowsTo (log_of_pass old) (log_of_pass new) }
+    // A commit that is answered ahead is told as an insert.
+    ensures behind { (old new : View) (answer : Result Caught FlushErr)
+        → AnswersBehind old answer new → GrowsTo (log_of_pass old) (log_of_pass new) }
     ensures stays { (l : PassLog) → GrowsTo l l }
     ensures again { (first second third : PassLog) → GrowsTo first second
         → GrowsTo second third → GrowsTo first third }
