@@ -58,8 +58,8 @@ impl From<SinkFault> for DumpErr {
 /// Lists what the disk's log decodes to, by a filter, a line for each record as it comes, and
 /// answers how many records are listed. Reading begins on the page that holds the filter's start;
 /// once the limit is listed, nothing is read any more. Statistics are put in place of the lines
-/// once all is read. A record that the rules refuse is not kept, and none is for statistics, or where
-/// nothing is printed and no rule is given.
+/// once all is read. A record that the rules refuse is not kept, and none is for statistics, or
+/// where nothing is printed and no rule is given.
 pub fn dump<D: Disk, O: Sink>(
     alloc: Global,
     disk: &mut D,

@@ -1,5 +1,5 @@
-//! What statistics ask of each record that is read: its manager, the bytes of its images and all its
-//! bytes, by its header and the heads of its blocks. Nothing of the record is kept.
+//! What statistics ask of each record that is read: its manager, the bytes of its images and all
+//! its bytes, by its header and the heads of its blocks. Nothing of the record is kept.
 
 ghost use Rattle.std.specs.Prelude.{◌≡◌, ◌<◌, ◌^◌};
 ghost use Rattle.record_decode.specs.Reading.{image_len};
