@@ -5,6 +5,7 @@ use Rattle.wal_types.specs.declared.lsn.Lsn.{Lsn}
 use Rattle.wal_types.specs.declared.record.Block.{Block}
 use Rattle.wal_types.specs.declared.record.Record.{Record}
 use Rattle.wal_types.specs.declared.record.Rel.{Rel}
+use Rattle.wal_types.specs.declared.record.Xid.{Xid}
 use Rattle.listing_filter.specs.declared.Filter.{Filter}
 use Rattle.listing_filter.specs.declared.listed.Listed.{Listed}
 
@@ -16,6 +17,19 @@ is_none_or (Some wanted) test = test wanted
 -- whether a relation is another: its tablespace, its database and its own number
 abbrev pub is_relation : Rel → Rel → Bool
 is_relation rel wanted = rel.spc == wanted.spc && rel.db == wanted.db && rel.rel == wanted.rel
+
+-- whether a manager and a transaction meet the rules on both
+abbrev pub meets_header : Filter → ℕ → Xid → Bool
+meets_header filter rmid xid =
+    is_none_or filter.rmid (λ wanted. rmid == wanted)
+    && is_none_or filter.xid (λ wanted. xid.0 == wanted.0)
+
+-- whether a relation, a block's number and a fork meet the rules on them, all three
+abbrev pub meets_place : Filter → Rel → ℕ → ℕ → Bool
+meets_place filter rel blk fork =
+    is_none_or filter.rel (λ wanted. is_relation rel wanted)
+    && is_none_or filter.blk (λ wanted. blk == wanted)
+    && is_none_or filter.fork (λ wanted. fork == wanted)
 
 -- whether a block meets the rules on a relation, a block's number and a fork, all three
 abbrev pub meets_block : Filter → Block → Bool

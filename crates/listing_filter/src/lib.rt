@@ -4,7 +4,7 @@
 ghost use Rattle.std.specs.Prelude.{◌≡◌, ◌&&◌, IsTrue, nat_le, not};
 ghost use Rattle.std.specs.List.{list_any};
 ghost use Rattle.listing_filter.specs.declared.listed.Listed.{Listed};
-ghost use Rattle.listing_filter.specs.Keeping.{asks_for_block, everything_from, has_page_image, has_rules, is_reached, is_relation, keeps, meets_block, meets_rules};
+ghost use Rattle.listing_filter.specs.Keeping.{asks_for_block, everything_from, has_page_image, has_rules, is_reached, is_relation, keeps, meets_block, meets_header, meets_place, meets_rules};
 
 mod listed;
 mod names;
@@ -92,8 +92,8 @@ impl Filter {
         self.quiet && !self.has_rules()
     }
 
-    // Whether a rule is given beside the start.
-    fn has_rules(&self) -> bool
+    /// Whether a rule is given beside the start.
+    pub fn has_rules(&self) -> bool
         ensures { result ≡ has_rules self.now }
     {
         self.rmid.is_some() || self.xid.is_some() || self.fullpage || self.asks_for_block()
@@ -105,13 +105,21 @@ impl Filter {
         ensures { result ≡ meets_rules self.now value.now }
     {
         let blocks = value.blocks.as_slice();
-        self.rmid.is_none_or(|rmid| value.rmid == rmid)
-            && self.xid.is_none_or(|xid| value.xid.0 == xid.0)
+        self.meets_header(value.rmid, value.xid)
             && (!self.asks_for_block() || self.is_met_by_one(blocks))
             && (!self.fullpage || has_page_image(blocks))
     }
 
-    fn asks_for_block(&self) -> bool
+    /// Whether a record of this manager and transaction meets the rules on both.
+    pub fn meets_header(&self, rmid: u8, xid: Xid) -> bool
+        ensures { result ≡ meets_header self.now rmid xid }
+    {
+        self.rmid.is_none_or(|wanted| rmid == wanted)
+            && self.xid.is_none_or(|wanted| xid.0 == wanted.0)
+    }
+
+    /// Whether a rule is given on a relation, a block's number or a fork.
+    pub fn asks_for_block(&self) -> bool
         ensures { result ≡ asks_for_block self.now }
     {
         self.rel.is_some() || self.blk.is_some() || self.fork.is_some()
@@ -126,9 +134,16 @@ impl Filter {
     fn meets_block(&self, block: &Block) -> bool
         ensures { result ≡ meets_block self.now block.now }
     {
-        self.rel.is_none_or(|rel| is_relation(block.rel, rel))
-            && self.blk.is_none_or(|blk| block.blk == blk)
-            && self.fork.is_none_or(|fork| block.fork == fork)
+        self.meets_place(block.rel, block.blk, block.fork)
+    }
+
+    /// Whether a block of this relation, number and fork meets the rules on them, all three.
+    pub fn meets_place(&self, rel: Rel, blk: u32, fork: u8) -> bool
+        ensures { result ≡ meets_place self.now rel blk fork }
+    {
+        self.rel.is_none_or(|wanted| is_relation(rel, wanted))
+            && self.blk.is_none_or(|wanted| blk == wanted)
+            && self.fork.is_none_or(|wanted| fork == wanted)
     }
 }
 

@@ -1,6 +1,7 @@
 pub mod AlignedLaws
 pub mod WordLaws
 pub mod SinkLaws
+mod SiftingLaws
 pub mod HexadecimalLaws
 pub mod JoinedLaws
 pub mod SpelledLaws

@@ -1,5 +1,5 @@
 -- A reader's step, by the record that is listed of it.
-use Rattle.std.proofs.Common.{◌≡◌, Option, Some, None, Ok, refl}
+use Rattle.std.proofs.Common.{◌≡◌, Option, Some, None, Ok, ap, refl, ◌∙◌}
 use Rattle.std.specs.Prelude.{IfOk, option_map}
 use Rattle.wal_types.specs.declared.lsn.Lsn.{Lsn}
 use Rattle.wal_types.specs.declared.record.Record.{Record}
@@ -8,9 +8,12 @@ use Rattle.wal_reader.specs.Standings.{found_as, given_as}
 use Rattle.wal_reader.specs.declared.found.FoundRecord.{FoundRecord}
 use Rattle.wal_reader.specs.declared.standing.Comes.{Comes}
 use Rattle.wal_reader.specs.declared.standing.Comes.TheVariants as coming
+use Rattle.wal_reader.specs.declared.standing.Step.{Step}
 use Rattle.wal_reader.specs.declared.standing.Step.TheVariants as steps
 use Rattle.listing_filter.specs.declared.listed.Listed.{Listed}
 use Rattle.waldump_text.specs.Listing.{listed_in, listed_of}
+use Rattle.waldump_text.specs.Sifting.{listed_with}
+use Rattle.waldump_text.specs.declared.steps.ListedHead.{ListedHead}
 
 -- a step to a record that is listed so
 pub record GivesListed (value : Record) (comes : Comes) (r : Listed) : Type 0 where
@@ -21,23 +24,30 @@ pub record GivesListed (value : Record) (comes : Comes) (r : Listed) : Type 0 wh
 same_some : (a b : Listed) → Some a ≡ Some b → b ≡ a
 same_some a b is = cc
 
+same_head : (a b : ListedHead) → Some a ≡ Some b → b ≡ a
+same_head a b is = cc
+
 none_is_not : (r : Listed) → None ≡ Some r → ⊥
 none_is_not r is = cc
 
-nothing_put : {T : Type 0} → (u : T) → None ≡ Some u → ⊥
-nothing_put u is = cc
+nothing_told : (head : ListedHead) → None ≡ Some head → ⊥
+nothing_told head is = cc
 
 some_is_not : (r : Listed) → Some r ≡ None → ⊥
 some_is_not r is = cc
 
-pub gives_listed : {T : Type 0} → (value : Record) (comes : Comes) (r : Listed) (put : Option T) (u : T) → put ≡ Some u → IfOk (step_with value (Ok comes)) (λ step. listed_in step ≡ option_map (λ _. r) put) → GivesListed value comes r
-gives_listed value (coming.Record start end prev total) r (Some v) u is listed = record { found = found_as start end prev total value; step_is = refl; listed_is = same_some _ r listed }
-gives_listed value (coming.Record start end prev total) r None u is listed = absurd (some_is_not _ listed)
-gives_listed value (coming.End at) r (Some v) u is listed = absurd (none_is_not r listed)
-gives_listed value (coming.End at) r None u is listed = absurd (nothing_put u is)
+-- what is told of a step that carries this
+abbrev pub TellsHead : Record → Option ListedHead → Step → Type 0
+TellsHead value told step = listed_in step ≡ option_map (listed_with value) told
+
+pub gives_listed : (value : Record) (comes : Comes) (told : Option ListedHead) (head : ListedHead) → told ≡ Some head → IfOk (step_with value (Ok comes)) (TellsHead value told) → GivesListed value comes (listed_with value head)
+gives_listed value (coming.Record start end prev total) (Some h) head is listed = record { found = found_as start end prev total value; step_is = refl; listed_is = ap (listed_with value) (same_head h head is) ∙ same_some _ (listed_with value h) listed }
+gives_listed value (coming.Record start end prev total) None head is listed = absurd (some_is_not _ listed)
+gives_listed value (coming.End at) (Some h) head is listed = absurd (none_is_not _ listed)
+gives_listed value (coming.End at) None head is listed = absurd (nothing_told head is)
 
 -- a step to the end, of which no record is listed
-pub gives_end : {T : Type 0} → (value : Record) (comes : Comes) (r : Listed) (put : Option T) → ((u : T) → put ≡ Some u → ⊥) → IfOk (step_with value (Ok comes)) (λ step. listed_in step ≡ option_map (λ _. r) put) → (at : Lsn) × (step_with value (Ok comes) ≡ Ok (steps.End at))
-gives_end value (coming.Record start end prev total) r (Some v) none listed = absurd (none v refl)
-gives_end value (coming.Record start end prev total) r None none listed = absurd (some_is_not _ listed)
-gives_end value (coming.End at) r put none listed = (at, refl)
+pub gives_end : (value : Record) (comes : Comes) (told : Option ListedHead) → ((h : ListedHead) → told ≡ Some h → ⊥) → IfOk (step_with value (Ok comes)) (TellsHead value told) → (at : Lsn) × (step_with value (Ok comes) ≡ Ok (steps.End at))
+gives_end value (coming.Record start end prev total) (Some h) none listed = absurd (none h refl)
+gives_end value (coming.Record start end prev total) None none listed = absurd (some_is_not _ listed)
+gives_end value (coming.End at) told none listed = (at, refl)

@@ -4,6 +4,8 @@ pub mod Everything
 pub mod Listing
 pub mod Names
 pub mod Put
+pub mod Sifting
 pub mod Statistics
 pub mod Sums
 pub mod Tally
+pub mod Weights

@@ -1,10 +1,12 @@
-ghost use Rattle.std.specs.Prelude.{IfOk, IfSome};
+ghost use Rattle.std.specs.Prelude.{◌≡◌, IfOk, IfSome};
 ghost use Rattle.segment_disk.specs.Tape.{IsUncalled};
 ghost use Rattle.waldump_text.specs.Counting.{HasTallyCause, IsTally};
 ghost use Rattle.waldump_text.specs.Tally.{TallyFits};
 
-use crate::steps::{blank, put_head};
+use crate::sifting::ByFilter;
+use crate::steps::head_of;
 use crate::sums::Tally;
+use crate::weighing::Weighed;
 use byte_position::Geometry;
 use listing_filter::Filter;
 use segment_disk::Disk;
@@ -13,12 +15,13 @@ use wal_reader::{ReadErr, Reader};
 
 /// Tallies the records that a filter lists. No record is kept, so the memory that it needs does not
 /// grow with the log.
-pub(crate) fn tally_log<D: Disk>(
+pub(crate) fn tally_log<D: Disk, B: ByFilter>(
     alloc: Global,
     disk: &mut D,
     geometry: Geometry,
     filter: &Filter,
 ) -> Result<Tally, ReadErr>
+    requires { filter.now ≡ B.filter }
     ensures tallied { IfSome (D.tape disk.old) (IsTally geometry filter.now result) }
     ensures sound { IfOk result TallyFits }
     ensures uncalled { IsUncalled D.tape D.moment disk.old disk.new }
@@ -28,14 +31,14 @@ pub(crate) fn tally_log<D: Disk>(
     let _size = geometry.segment_size();
     let mut reader = Reader::new(geometry, filter.start, filter.end);
     let mut tally = Tally::new();
-    let mut listed = blank(alloc);
+    let mut weighed = Weighed::<B>::new(filter);
     'records: while !filter.is_full(tally.all.records) {
-        let step = reader.next_into(alloc, disk, &mut listed.value)?;
-        let Some(()) = put_head(&mut listed, step) else {
+        let step = reader.next_into(alloc, disk, &mut weighed)?;
+        let Some(head) = head_of(step) else {
             return Ok(tally);
         };
-        if filter.keeps(&listed) {
-            tally.add(&listed);
+        if let Some(weight) = weighed.weight(head) {
+            tally.add(weight);
         }
     }
     Ok(tally)

@@ -10,13 +10,15 @@ use crate::line_buffer::LineBuffer;
 use crate::lines::put_line;
 use crate::putting::SinkFault;
 use crate::quiet::count_records;
+use crate::sifting::{ByFilter, Sifted};
 use crate::statistics::put_tally;
-use crate::steps::{blank, put_head};
+use crate::steps::head_of;
 use crate::sums::Tally;
 use byte_position::Geometry;
 use listing_filter::{Filter, Listed};
 use segment_disk::{Disk, Sink};
 use std::alloc::Global;
+use std::marker::Brand;
 use thiserror::Error;
 use wal_reader::{ReadErr, Reader};
 
@@ -56,7 +58,8 @@ impl From<SinkFault> for DumpErr {
 /// Lists what the disk's log decodes to, by a filter, a line for each record as it comes, and
 /// answers how many records are listed. Reading begins on the page that holds the filter's start;
 /// once the limit is listed, nothing is read any more. Statistics are put in place of the lines
-/// once all is read. Where nothing is printed and no rule is given, the records are not kept.
+/// once all is read. A record that the rules refuse is not kept, and none is for statistics, or
+/// where nothing is printed and no rule is given.
 pub fn dump<D: Disk, O: Sink>(
     alloc: Global,
     disk: &mut D,
@@ -75,19 +78,20 @@ pub fn dump<D: Disk, O: Sink>(
     } else if filter.only_counts() {
         count_records(alloc, disk, geometry, filter)
     } else {
-        dump_lines(alloc, disk, geometry, filter, out)
+        dump_lines::<D, O, Brand>(alloc, disk, geometry, filter, out)
     }
 }
 
 // Lists records by a line for each, as it comes.
-fn dump_lines<D: Disk, O: Sink>(
+fn dump_lines<D: Disk, O: Sink, B: ByFilter>(
     alloc: Global,
     disk: &mut D,
     geometry: Geometry,
     filter: &Filter,
     out: &mut O,
 ) -> Result<u64, DumpErr>
-    requires { IsFalse filter.now.stats }
+    requires by { filter.now ≡ B.filter }
+    requires plain { IsFalse filter.now.stats }
     ensures listed { IfSome (D.tape disk.old)
         (IsDump geometry filter.now (O.taken out.old) (O.taken out.new) result) }
     ensures uncalled { IsUncalled D.tape D.moment disk.old disk.new }
@@ -98,15 +102,15 @@ fn dump_lines<D: Disk, O: Sink>(
     let _size = geometry.segment_size();
     let mut reader = Reader::new(geometry, filter.start, filter.end);
     let mut buffer = LineBuffer::new();
-    let mut listed = blank(alloc);
+    let mut sifted = Sifted::<B>::new(alloc, filter);
     let mut count = 0;
     'records: while !filter.is_full(count) {
-        let step = reader.next_into(alloc, disk, &mut listed.value)?;
-        let Some(()) = put_head(&mut listed, step) else {
+        let step = reader.next_into(alloc, disk, &mut sifted)?;
+        let Some(head) = head_of(step) else {
             return Ok(count);
         };
-        if filter.keeps(&listed) {
-            print(&mut buffer, filter, &listed, out)?;
+        if sifted.keeps(head) {
+            print(&mut buffer, filter, &sifted.listed, out)?;
             count += 1;
         }
     }
@@ -130,7 +134,7 @@ fn dump_statistics<D: Disk, O: Sink>(
 {
     // That a log decodes to something rests on a valid size.
     let _size = geometry.segment_size();
-    let tally = tally_log(alloc, disk, geometry, filter)?;
+    let tally = tally_log::<D, Brand>(alloc, disk, geometry, filter)?;
     put_statistics(filter.quiet, &tally, out)?;
     Ok(tally.all.records)
 }

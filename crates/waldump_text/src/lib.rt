@@ -11,9 +11,11 @@ mod lines;
 mod names;
 mod putting;
 mod quiet;
+mod sifting;
 mod statistics;
 mod steps;
 mod sums;
+mod weighing;
 
 pub use commit_times::{TimeText, time_text};
 pub use dumping::{DumpErr, dump};

@@ -11,7 +11,7 @@ ghost use Rattle.waldump_text.specs.declared.line_buffer.TheConstants.{ROOM};
 use crate::line_buffer::LineBuffer;
 use crate::names::manager_name;
 use crate::putting::SinkFault;
-use crate::sums::{Sums, Tally};
+use crate::sums::{Sums, Tally, weight_of};
 use listing_filter::Listed;
 use segment_disk::Sink;
 
@@ -24,7 +24,7 @@ pub fn stats<O: Sink>(records: &[Listed], out: &mut O) -> Result<(), SinkFault>
 {
     let mut tally = Tally::new();
     for r in records {
-        tally.add(r);
+        tally.add(weight_of(r));
     }
     put_tally(&tally, out)
 }

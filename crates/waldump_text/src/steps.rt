@@ -1,11 +1,23 @@
-ghost use Rattle.std.specs.Prelude.{◌≡◌, Ok, IfOk, option_map};
+ghost use Rattle.std.specs.Prelude.{Ok, IfOk, ◌≡◌, option_map};
+ghost use Rattle.wal_types.specs.declared.record.Record.{Record};
 ghost use Rattle.wal_reader.specs.Filled.{step_with};
 ghost use Rattle.waldump_text.specs.Listing.{listed_in};
+ghost use Rattle.waldump_text.specs.Sifting.{listed_with};
 
 use listing_filter::Listed;
 use std::alloc::Global;
 use wal_reader::Comes;
 use wal_types::{Lsn, Record};
+
+/// What a reader's step says of a record that is to be listed.
+#[derive(Clone, Copy)]
+pub(crate) struct ListedHead {
+    pub(crate) start: Lsn,
+    /// The start of the record before, as this one names it.
+    pub(crate) prev: Lsn,
+    /// The record's size in bytes.
+    pub(crate) total: u32,
+}
 
 /// A record to be listed that is none yet.
 pub(crate) fn blank(alloc: Global) -> Listed {
@@ -17,12 +29,11 @@ pub(crate) fn blank(alloc: Global) -> Listed {
     }
 }
 
-/// Puts to a record that a reader's step has put what the step says of it. At the log's end no
-/// record was put: then the answer is `None`.
+/// What a step says of its record, whatever that carries. At the log's end it is `None`.
 #[inline(always)]
-pub(crate) fn put_head(listed: &mut Listed, step: Comes) -> Option<()>
-    ensures { IfOk (step_with listed.old.value (Ok step))
-        (λ step. listed_in step ≡ option_map (λ _. listed.new) result) }
+pub(crate) fn head_of(step: Comes) -> Option<ListedHead>
+    ensures { (value : Record) → IfOk (step_with value (Ok step))
+        (λ step. listed_in step ≡ option_map (listed_with value) result) }
 {
     match step {
         Comes::Record {
@@ -30,12 +41,7 @@ pub(crate) fn put_head(listed: &mut Listed, step: Comes) -> Option<()>
             end: _,
             prev,
             total,
-        } => {
-            listed.start = start;
-            listed.prev = prev;
-            listed.total = total;
-            Some(())
-        }
+        } => Some(ListedHead { start, prev, total }),
         Comes::End { .. } => None,
     }
 }

@@ -1,14 +1,17 @@
-use Rattle.std.proofs.Common.{◌≡◌, true, false, [], ◌∷◌, ◌++◌, Option, Result, Ok, Err, ap, subst, refl, ◌∙◌, arith}
+use Rattle.std.proofs.Common.{◌≡◌, Bool, true, false, Option, Some, None, Result, Ok, Err, ap, subst, sym, refl, ◌∙◌, arith}
 use Rattle.std.proofs.lemmas.Result.{err_from_is_err_and}
 use Rattle.segment_disk.specs.Tape.{Tape}
 use Rattle.std.specs.Prelude.{IfOk}
-use Rattle.listing_filter.specs.Keeping.{is_reached}
+use Rattle.listing_filter.specs.Keeping.{is_reached, keeps}
 use Rattle.wal_reader.specs.LogReader.{LeavesReader, ReaderState, reader_state}
 use Rattle.wal_reader.specs.Spelled.{GivesSpelled}
 use Rattle.wal_reader.specs.Standings.{HasReadCause, given_as}
+use Rattle.listing_filter.specs.declared.Filter.{Filter}
 use Rattle.listing_filter.specs.declared.listed.Listed.{Listed}
-use Rattle.waldump_text.specs.Listing.{IsListable}
-use Rattle.waldump_text.specs.Tally.{Tallies}
+use Rattle.waldump_text.specs.Listing.{IsListable, listed_of}
+use Rattle.waldump_text.specs.Sifting.{listed_with}
+use Rattle.waldump_text.specs.Weights.{TellsWeight, Weighs}
+use Rattle.waldump_text.specs.declared.weighing.Weight.{Weight}
 use Rattle.wal_reader.specs.declared.standing.ReadErr.{ReadErr}
 use Rattle.wal_reader.specs.declared.standing.Step.{Step}
 use Rattle.wal_reader.specs.declared.standing.Step.TheVariants.{End}
@@ -19,9 +22,21 @@ use Rattle.waldump_text.proofs.StepLaws.{GivesListed, gives_end, gives_listed}
 use Rattle.waldump_text.proofs.counting.tally_log.Goals as goal
 use Rattle.waldump_text.proofs.counting.tally_log.Goals.{In-Some}
 
--- the step to the record that is listed
-gives : (g : _) (c : In-Some g) → GivesListed c.next_into.new.value c.in_ok-step.step c.put_head.new.listed
-gives g c = gives_listed c.next_into.new.value c.in_ok-step.step c.put_head.new.listed c.put_head.result _ c.in-Some.is c.put_head.ensures
+-- that a record is kept by the filter that is picked says that it is by this one
+kept_too : (picked by : Filter) (kept : Bool) (r other : Listed) → picked ≡ by → r ≡ other → keeps picked r ≡ kept → keeps by other ≡ kept
+kept_too picked by kept r other same is told = sym (ap (λ (filter : Filter). keeps filter r) same ∙ ap (keeps by) is) ∙ told
+
+-- what is told of a record that has a weight
+weight_told : (filter : Filter) (r : Listed) (told : Option Weight) (w : Weight) → told ≡ Some w → TellsWeight filter r told → (keeps filter r ≡ true) × Weighs r w
+weight_told filter r told w is tells = subst (TellsWeight filter r) is tells
+
+none_told : (filter : Filter) (r : Listed) (told : Option Weight) → ((w : Weight) → told ≡ Some w → ⊥) → TellsWeight filter r told → keeps filter r ≡ false
+none_told filter r None none tells = tells
+none_told filter r (Some w) none tells = absurd (none w refl)
+
+-- the step to the record that is weighed
+gives : (g : _) (c : In-Some g) → GivesListed c.next_into.new.value.unkept.spelled c.in_ok-step.step (listed_with c.next_into.new.value.unkept.spelled c.in-Some.head)
+gives g c = gives_listed c.next_into.new.value.unkept.spelled c.in_ok-step.step c.head_of.result c.in-Some.head c.in-Some.is (c.head_of.ensures c.next_into.new.value.unkept.spelled)
 
 steps_on : (g : _) (c : In-Some g) → Steps (g.D.Disk.tape c.args.disk.now) c.records.reader c.next_into.new.self (Ok (given_as (gives g c).found))
 steps_on g c =
@@ -34,18 +49,21 @@ leaves_on g c = subst (λ (step : Result Step ReadErr). LeavesReader (reader_sta
 cause_on : (g : _) (c : In-Some g) → g.D.Disk.faults c.next_into.new.disk ≡ g.D.Disk.faults c.records.disk
 cause_on g c = subst (λ (step : Result Step ReadErr). HasReadCause (g.D.Disk.faults c.records.disk) (g.D.Disk.faults c.next_into.new.disk) step) (gives g c).step_is c.in_ok-step.ensures.cause
 
-listable : (g : _) (c : In-Some g) → IsListable c.put_head.new.listed
+listable : (g : _) (c : In-Some g) → IsListable (listed_of (gives g c).found)
 listable g c =
     let spelled = subst (λ (step : Result Step ReadErr). IfOk step GivesSpelled) (gives g c).step_is c.in_ok-step.ensures.spelled in
-    rw (gives g c).listed_is (IsListable-from_spelled (gives g c).found spelled)
+    IsListable-from_spelled (gives g c).found spelled
 
-pub add-requires-clause-listable : goal.add-requires-clause-listable
-add-requires-clause-listable g c = listable g ((goal.at.add-requires-clause-listable g c).In-Some)
+pub add-requires-clause-weighs : goal.add-requires-clause-weighs
+add-requires-clause-weighs g c =
+    let step = (goal.at.add-requires-clause-weighs g c).In-Some in
+    let told = weight_told g.B.ByFilter.filter (listed_with c.next_into.new.value.unkept.spelled c.in-Some.head) c.weight.result c.in-Some-weight.weight c.in-Some-weight.is c.weight.ensures in
+    (listed_with c.next_into.new.value.unkept.spelled c.in-Some.head, subst IsListable (sym (gives g step).listed_is) (listable g step), told.1)
 
-pub records-preserved-then-keeps : goal.records-preserved-then-keeps
-records-preserved-then-keeps g c =
+pub records-preserved-in-Some-weight : goal.records-preserved-in-Some-weight
+records-preserved-in-Some-weight g c =
     let valid = rw c.segment_size-size.ensures.value at c.segment_size-size.ensures.valid in
-    let step = (goal.at.records-preserved-then-keeps g c).In-Some in
+    let step = (goal.at.records-preserved-in-Some-weight g c).In-Some in
     let before = c.records.invariant in
     let read = c.in_ok-step.ensures in
     let leaves = leaves_on g step in
@@ -53,7 +71,9 @@ records-preserved-then-keeps g c =
     let listed_is = (gives g step).listed_is in
     let f = (gives g step).found in
     let unreached : is_reached by.limit c.records.tally.all.records ≡ false = cc in
-    let adds : Adds by f c.records.tally c.add.new.self = Adds-kept by f c.records.tally c.add.new.self (cc) (λ records upto. subst (λ (r : Listed). Tallies c.add.new.self (records ++ r ∷ [])) listed_is (c.add.ensures.tallies records upto)) c.add.ensures.counted unreached c.add.ensures.sound in
+    let told = weight_told g.B.ByFilter.filter (listed_with c.next_into.new.value.unkept.spelled c.in-Some.head) c.weight.result c.in-Some-weight.weight c.in-Some-weight.is c.weight.ensures in
+    let keeps_it : keeps by (listed_of f) ≡ true = kept_too g.B.ByFilter.filter by true _ _ (sym c.requires) listed_is told.0 in
+    let adds : Adds by f c.records.tally c.add.new.self = Adds-kept by f c.records.tally c.add.new.self keeps_it (λ records upto. c.add.ensures.tallies records (listed_of f) (subst (λ (r : Listed). Weighs r c.in-Some-weight.weight) listed_is told.1) upto) c.add.ensures.counted unreached c.add.ensures.sound in
     record {
       sized = ap (λ (s : ReaderState). s.size) leaves.0 ∙ before.sized;
       tallied = TalliesLog-more c.args.geometry by valid c.records.reader before.sized c.records.tally _ c.next_into.new.self f c.add.new.self adds before.tallied (steps_on g step);
@@ -73,10 +93,9 @@ records-preserved g c =
     let read = c.in_ok-step.ensures in
     let leaves = leaves_on g step in
     let by = c.args.filter.now in
-    let listed_is = (gives g step).listed_is in
     let f = (gives g step).found in
-    let unreached : is_reached by.limit c.records.tally.all.records ≡ false = cc in
-    let adds : Adds by f c.records.tally c.records.tally = Adds-passed_over by f c.records.tally c.records.tally (cc) refl before.within before.sound in
+    let passes : keeps by (listed_of f) ≡ false = kept_too g.B.ByFilter.filter by false _ _ (sym c.requires) (gives g step).listed_is (none_told g.B.ByFilter.filter _ c.weight.result c.in_default-weight.not-Some c.weight.ensures) in
+    let adds : Adds by f c.records.tally c.records.tally = Adds-passed_over by f c.records.tally c.records.tally passes refl before.within before.sound in
     record {
       sized = ap (λ (s : ReaderState). s.size) leaves.0 ∙ before.sized;
       tallied = TalliesLog-more c.args.geometry by valid c.records.reader before.sized c.records.tally _ c.next_into.new.self f c.records.tally adds before.tallied (steps_on g step);
@@ -101,7 +120,8 @@ pub returns-in_default-clause-tallied : goal.returns-in_default-clause-tallied
 returns-in_default-clause-tallied g c =
     let valid = rw c.segment_size-size.ensures.value at c.segment_size-size.ensures.valid in
     let before = c.records.invariant in
-    let ends = gives_end c.next_into.new.value c.in_ok-step.step c.put_head.new.listed c.put_head.result c.in_default.not-Some c.put_head.ensures in
+    let read = c.next_into.new.value.unkept.spelled in
+    let ends = gives_end read c.in_ok-step.step c.head_of.result c.in_default.not-Some (c.head_of.ensures read) in
     let on_disk = subst (λ (step : Result Step ReadErr). Steps (g.D.Disk.tape c.records.disk) c.records.reader c.next_into.new.self step) ends.1 c.in_ok-step.ensures.gives in
     let steps = subst (λ (tape : Option Tape). Steps tape c.records.reader c.next_into.new.self (Ok (End ends.0))) before.tape on_disk in
     tally_ended c.args.geometry c.args.filter.now valid c.records.reader before.sized c.records.tally before.within _ c.next_into.new.self ends.0 before.tallied steps
