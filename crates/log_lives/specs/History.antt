@@ -1,12 +1,12 @@
--- All lives of a log on one disk. A life is a call of `pgwal` that may write to the disk, and how it
--- ends: the call comes back, its process is killed, or its machine crashes. Of the call nothing is
--- said but what `pgwal` promises of it in its clause `obeys` (`RunHolds`, `GenHolds` and
+-- All lives of a log on one disk. A life is a call of `pgwal` that may write to the disk, and how
+-- it ends: the call comes back, its process is killed, or its machine crashes. Of the call nothing
+-- is said but what `pgwal` promises of it in its clause `obeys` (`RunHolds`, `GenHolds` and
 -- `AppendHolds` of backend_cli).
 --
--- `size` is the size of a segment in bytes. `t` is the disk's tape when a life begins, `now` the one
--- that its call leaves, `next` what is left for the next life. `order` is the log so far, and `hard`
--- are records of it that were told durable in some life. (A call that is cut short at a moment is
--- one whose later calls of the disk and answers nobody saw.)
+-- `size` is the size of a segment in bytes. `t` is the disk's tape when a life begins, `now` the
+-- one that its call leaves, `next` what is left for the next life. `order` is the log so far, and
+-- `hard` are records of it that were told durable in some life. (A call that is cut short at a
+-- moment is one whose later calls of the disk and answers nobody saw.)
 use Rattle.std.specs.Prelude.{◌≡◌, ℕ, ◌<◌, ◌≤◌, All, Any, Contains, IsTrue, List, [], ◌∷◌, ◌++◌, length, Some}
 use Rattle.byte_position.specs.Geometry.{is_segment_size}
 use Rattle.segment_disk.specs.DiskImage.{image_as_read}

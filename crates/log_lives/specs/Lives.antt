@@ -40,13 +40,14 @@ pub record KeepsAllHard (size : ℕ) (t : Tape) (order : List Entry) (hard : Lis
       → IsFrontWith size order hard records
   -- A run that goes on with the log is not refused, whatever stands on the disk;
   pub not_refused : (options : ScriptRunOptions) (outside : Outside) (now : Tape) (stop : LogStop)
-      → IsCalledOn size options.run outside t now → AppendHolds outside options (Stopped stop) [] → ⊥
+      → IsCalledOn size options.run outside t now
+      → AppendHolds outside options (Stopped stop) [] → ⊥
   -- where it opens the log, it finds such records, and goes on behind them;
   pub finds : (options : ScriptRunOptions) (outside : Outside) (outcome : Outcome) (now : Tape)
       (told : List Told) (others : List (List Told)) → IsCalledOn size options.run outside t now
       → (holds : AppendHolds outside options outcome (told ∷ others))
       → IsFrontWith size order hard (found_of size (holds.2).headline.found)
-  -- and all that such a run promises of a disk that was left by this program it promises of this one
+  -- and all that such a run promises of a disk that this program left it promises of this one
   pub was_left : WasLeftSo size (Some t)
 
 -- this holds behind each history

@@ -9,9 +9,9 @@ use Rattle.told_lines.specs.declared.told.Told.TheVariants.{Hard}
 use Rattle.told_lines.specs.Told.{Logged, TellsAll, order_from}
 use Rattle.log_lives.specs.History.{IsToldDurable}
 
--- what lines may be told of a log (as each run promises of its own) tells the record durable of each
--- commit whose receipt names this moment or an earlier one: that which starts and ends where the
--- receipt says
+-- what lines may be told of a log (as each run promises of its own) tells the record durable of
+-- each commit whose receipt names this moment or an earlier one: that which starts and ends where
+-- the receipt says
 abbrev pub ReceiptsTellDurable : Type 0
 ReceiptsTellDurable =
     (logged : Logged) (pass moment at backend line : ℕ) (script : List (List AskedLine))

@@ -24,7 +24,7 @@ use Rattle.wal_stream.specs.declared.standby.Standby.{Standby}
 use Rattle.wal_stream.proofs.FollowLaws.{never_diverges}
 use Rattle.reopened_log.specs.Again.{IsLeftByCrash}
 use Rattle.reopened_log.specs.StopsAt.{StopsAt}
-use Rattle.standby_laws.specs.History.{Closed, IsFoundSince, KeepsPromises, Lived, NoneTornRead, Open, ReachesEntries, Standing, begins, closes, crashes, disk_standing, fails_to_harden, fails_to_open, hardens, is_killed, is_offered, opens, told_by, told_since}
+use Rattle.standby_laws.specs.History.{Closed, IsFoundSince, KeepsStandbyPromises, Lived, NoneTornRead, Open, ReachesEntries, Standing, begins, closes, crashes, disk_standing, fails_to_harden, fails_to_open, hardens, is_killed, is_offered, opens, told_by, told_since}
 use Rattle.standby_laws.proofs.Holding.{HoldsOrder, IsHeld, held_crashed, held_stopped, image_held, image_lawful, order_begun, order_crashed, order_stopped}
 use Rattle.standby_laws.proofs.OpenSteps.{HoldsClosed, HoldsOpen, IsHeldBy, is_closed, open_promises, open_with, step_hardened, step_open}
 use Rattle.standby_laws.proofs.OpenedAgain.{opened_follows, opened_held, opened_in_turn, opened_keeps, opened_order, quiet_held, told_now}
@@ -303,12 +303,12 @@ module _ {D : Type 0} (tape : D → Option Tape) (moment faults : D → ℕ)
 
   pub promises_are_kept : (since : ℕ) (told : List (ℕ × ℕ)) (standing : Standing D)
       → Lived tape moment faults size sysid es since told standing
-      → KeepsPromises tape size sysid es since told standing
+      → KeepsStandbyPromises tape size sysid es since told standing
   promises_are_kept since told standing lived =
       kept since told standing (lived_holds since told standing lived)
     where
       kept : (since : ℕ) (told : List (ℕ × ℕ)) (standing : Standing D)
-          → Holds since told standing → KeepsPromises tape size sysid es since told standing
+          → Holds since told standing → KeepsStandbyPromises tape size sysid es since told standing
       kept since told (Closed disk) was = record {
         left = all_left since told disk was;
         stands = tt;

@@ -136,8 +136,8 @@ ReachesEntries size es upto end = (i : ℕ) (e : Entry) → slice_get es i ≡ S
 -- whatever a crash leaves since then, in which no torn record passes its CRC, decodes to a front of
 -- the order, which holds each entry under a promise by then; an open standby stands at or behind
 -- all of these, and never says that a frame of the log is of another one
-pub record KeepsPromises {D : Type 0} (tape : D → Option Tape) (size sysid : ℕ) (es : List Entry)
-    (since : ℕ) (told : List (ℕ × ℕ)) (standing : Standing D) : Type 0 where
+pub record KeepsStandbyPromises {D : Type 0} (tape : D → Option Tape) (size sysid : ℕ)
+    (es : List Entry) (since : ℕ) (told : List (ℕ × ℕ)) (standing : Standing D) : Type 0 where
   pub left : IfSome (tape (disk_standing standing)) (λ t. (at : ℕ) (image : DiskImage) → since ≤ at
       → LeftAt t at image → NoTornPass size (pages_in size image) es
       → (found : List FoundRecord) (answer : Answer)

@@ -12,7 +12,7 @@ ghost use Rattle.received_log.specs.Receiving.{Receives};
 ghost use Rattle.received_log.specs.Sent.{HandsOutLog, promised_at};
 ghost use Rattle.received_log.specs.declared.outcome.Received.{Received};
 ghost use Rattle.reopened_log.specs.WasLeft.{WasLeft};
-ghost use Rattle.standby_laws.specs.History.{Closed, IsFoundSince, KeepsPromises, Lived, MayFollow, NoneTornRead, Standing};
+ghost use Rattle.standby_laws.specs.History.{Closed, IsFoundSince, KeepsStandbyPromises, Lived, MayFollow, NoneTornRead, Standing};
 ghost use Rattle.standby_laws.specs.Later.{FramesStayOfLog, LaterOrdersBegin};
 ghost use Rattle.standby_laws.specs.Sent.{SentFramesAreOfLog, SentFramesComeOfLog};
 
@@ -28,7 +28,7 @@ pub fn standbys_keep_their_promises<D: Disk>()
     ensures { (size sysid since : ℕ) (es : List Entry) (told : List (ℕ × ℕ))
         (standing : Standing D)
         → Lived D.tape D.moment D.faults size sysid es since told standing
-        → KeepsPromises D.tape size sysid es since told standing }
+        → KeepsStandbyPromises D.tape size sysid es since told standing }
 {}
 
 /// A law: such a history may begin on a disk that this program left, crashed or not, with the log

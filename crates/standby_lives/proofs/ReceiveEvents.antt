@@ -21,7 +21,7 @@ use Rattle.backend_cli.specs.declared.outcome.Outcome.{Outcome}
 use Rattle.backend_cli.specs.declared.outcome.Outcome.TheVariants.{Done}
 use Rattle.standby_laws.specs.History.{Closed, Lived, begins, crashes, fails_to_open, is_killed, told_by, told_since}
 use Rattle.standby_laws.proofs.ReceivedLaws.{lived_receiving}
-use Rattle.standby_lives.specs.Receives.{GoesOn, IsReceiveCall, ReceiveCall, ThreeGoOn, ThreeReceives}
+use Rattle.standby_lives.specs.Receives.{HistoryGoesOn, IsReceiveCall, ReceiveCall, ThreeGoOn, ThreeReceives}
 
 -- no call ends with status 0 that opened no standby
 unfound_not_done : (outcome : Outcome) (fault : FindFault) → outcome ≡ outcome_unfound fault
@@ -56,7 +56,7 @@ module _ {D O : Type 0} (tape : D → Option Tape) (moment faults : D → ℕ)
       (is : IsReceiveCall tape moment faults taken sink_faults size es disk disk_now call)
       (lived : Lived tape moment faults size system_id es since told (Closed disk)) where
     abbrev Goes : Type 0
-    Goes = GoesOn tape moment faults taken sink_faults size es since told disk_now call
+    Goes = HistoryGoesOn tape moment faults taken sink_faults size es since told disk_now call
 
     not_received : IsNotReceived (outside_of call.source call.source_now tape moment faults disk
         disk_now taken sink_faults call.out call.out_now) call.asked call.outcome → Goes
@@ -109,7 +109,7 @@ module _ {D O : Type 0} (tape : D → Option Tape) (moment faults : D → ℕ)
               ));
         }
 
-    pub goes_on : GoesOn tape moment faults taken sink_faults size es since told disk_now call
+    pub goes_on : HistoryGoesOn tape moment faults taken sink_faults size es since told disk_now call
     goes_on = elim is.holds.0 [ inl none ↦ not_received none | inr some ↦ fed some ]
 
   pub three_go_on : (begun first killed second left third : D) (one two three : ReceiveCall O)

@@ -45,7 +45,7 @@ pub record IsReceiveCall {D O : Type 0} (tape : D → Option Tape) (moment fault
 
 -- the history goes on with what was found and told; with status 0 the line that was printed tells
 -- up to where the log is durable from the call's end on
-pub record GoesOn {D O : Type 0} (tape : D → Option Tape) (moment faults : D → ℕ)
+pub record HistoryGoesOn {D O : Type 0} (tape : D → Option Tape) (moment faults : D → ℕ)
     (taken : O → Option (List ℕ)) (sink_faults : O → ℕ) (size : ℕ) (es : List Entry)
     (since : ℕ) (told : List (ℕ × ℕ)) (disk_now : D) (call : ReceiveCall O) : Type 0 where
   pub more : List (ℕ × ℕ)
@@ -87,9 +87,10 @@ pub record ThreeGoOn {D O : Type 0} (tape : D → Option Tape) (moment faults : 
     (taken : O → Option (List ℕ)) (sink_faults : O → ℕ) (size : ℕ) (es : List Entry)
     (begun first killed second left third : D) (one two three : ReceiveCall O)
     (killed_at crashed_at : ℕ) : Type 0 where
-  pub first_goes : GoesOn tape moment faults taken sink_faults size es (moment begun) [] first one
-  pub second_goes : GoesOn tape moment faults taken sink_faults size es (moment begun)
+  pub first_goes : HistoryGoesOn tape moment faults taken sink_faults size es (moment begun) []
+      first one
+  pub second_goes : HistoryGoesOn tape moment faults taken sink_faults size es (moment begun)
       (told_by killed_at first_goes.more) second two
-  pub third_goes : GoesOn tape moment faults taken sink_faults size es (moment left)
+  pub third_goes : HistoryGoesOn tape moment faults taken sink_faults size es (moment left)
       (told_since (moment left)
       (told_by crashed_at (told_by killed_at first_goes.more ++ second_goes.more))) third three

@@ -2,7 +2,7 @@ ghost use Rattle.std.specs.Prelude.{ℕ, List};
 ghost use Rattle.wal_page.specs.Order.{Entry};
 ghost use Rattle.backend_cli.specs.Setups.{system_id};
 ghost use Rattle.standby_laws.specs.History.{Closed, Lived};
-ghost use Rattle.standby_lives.specs.Receives.{GoesOn, IsReceiveCall, ReceiveCall, ThreeGoOn, ThreeReceives};
+ghost use Rattle.standby_lives.specs.Receives.{HistoryGoesOn, IsReceiveCall, ReceiveCall, ThreeGoOn, ThreeReceives};
 
 use segment_disk::{Disk, Sink};
 
@@ -13,7 +13,7 @@ pub fn receives_are_lived<D: Disk, O: Sink>()
         (call : ReceiveCall O)
         → IsReceiveCall D.tape D.moment D.faults O.taken O.faults size es disk disk_now call
         → Lived D.tape D.moment D.faults size system_id es since told (Closed disk)
-        → GoesOn D.tape D.moment D.faults O.taken O.faults size es since told disk_now call }
+        → HistoryGoesOn D.tape D.moment D.faults O.taken O.faults size es since told disk_now call }
 {}
 
 /// A caller of the law with three calls, a kill behind the first one and a crash behind the second.
