@@ -1,7 +1,7 @@
-// A record is put behind all others within one call: its place is reserved in one try, its words are
-// copied, and its lock is given back. A copy that was begun is ended, since a lock that is kept holds
-// up every flush. Where the ring's room is taken by pages that are not written, a second pass flushes
-// them meanwhile: the one that copies cannot.
+// A record is put behind all others within one call: its place is reserved in one try, its words
+// are copied, and its lock is given back. A copy that was begun is ended, since a lock that is kept
+// holds up every flush. Where the ring's room is taken by pages that are not written, a second pass
+// flushes them meanwhile: the one that copies cannot.
 ghost use Rattle.std.specs.Prelude.{◌≡◌, false, IfOk, IfSome, None};
 ghost use Rattle.record_spelling.specs.Spelling.{is_assembled_switch};
 ghost use Rattle.wal_rule.specs.Passes.{view_of_pass};

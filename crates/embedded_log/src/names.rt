@@ -44,8 +44,8 @@ impl Read for Names {
     }
 }
 
-/// What is open here, and how long it is. What is neither a file nor a folder, as a pipe, is refused.
-/// The file's position stays.
+/// What is open here, and how long it is. What is neither a file nor a folder, as a pipe, is
+/// refused. The file's position stays.
 pub fn metadata_of(fd: i32) -> io::Result<Metadata> {
     if names_at(fd, b".").is_ok() {
         return Ok(Metadata::of_dir());
@@ -61,8 +61,8 @@ pub fn metadata_of(fd: i32) -> io::Result<Metadata> {
     }
 }
 
-/// What a path leads to. To tell it a file is opened to be read and written, which waits for nobody,
-/// also where it is a pipe: so one that may not be written is refused.
+/// What a path leads to. To tell it a file is opened to be read and written, which waits for
+/// nobody, also where it is a pipe: so one that may not be written is refused.
 pub fn metadata_at(path: &str) -> io::Result<Metadata> {
     if names_at(libc::AT_FDCWD, path.as_bytes()).is_ok() {
         return Ok(Metadata::of_dir());
