@@ -1,0 +1,4 @@
+pub mod Calls
+pub mod Appending
+pub mod Copies
+pub mod Holding
