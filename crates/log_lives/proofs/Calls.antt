@@ -25,7 +25,10 @@ use Rattle.told_lines.proofs.AnswerLoops.{some_told}
 use Rattle.run_laws.specs.Assured.{IsMachineRun, IsRunOn, TapeGoesOn}
 use Rattle.reopened_log.specs.Reopened.{IsReopenedOn}
 use Rattle.reopened_log.specs.WasLeft.{WasLeft}
+use Rattle.reopened_log.specs.Lives.{LifeEndsAt}
 use Rattle.reopened_log.proofs.FirstEntries.{left_logs_are_read}
+use Rattle.reopened_log.proofs.KeptLives.{KeepsSure, failed_keeps, none_kept, settled_keeps, uncalled_keeps, with_left}
+use Rattle.reopened_log.proofs.KeptRecords.{IsSureRecord}
 use Rattle.reopened_log.proofs.Surviving.{some_tape}
 use Rattle.generated_lines.specs.Generated.{generated_script}
 use Rattle.command_words.specs.declared.commands.RunOptions.{RunOptions}
@@ -36,19 +39,8 @@ use Rattle.backend_cli.specs.Appending.{EndsUnappended, HoldsAppended, StopsSett
 use Rattle.backend_cli.specs.Outside.{IsUntouched, Outside}
 use Rattle.backend_cli.specs.Run.{HoldsOpened}
 use Rattle.backend_cli.specs.Setups.{run_setup, system_id}
-use Rattle.log_lives.specs.History.{BeginsLog, LifeEndsAt, EndsSettling, FailsToOpen, GeneratesLog, ContinuesLog, IsCalledOn, IsToldDurable}
-use Rattle.log_lives.proofs.KeptRecords.{IsSureRecord}
-use Rattle.log_lives.proofs.Lives.{KeepsSure, begun_keeps, failed_keeps, none_kept, run_keeps, settled_keeps, uncalled_keeps}
-
--- what follows for the order that a disk was left with follows for its log
-pub with_left : (size sysid : ℕ) (t : Tape) (order : List Entry) (hard : List FoundRecord)
-    (C : List Entry → Type 0) → KeepsSure size sysid t order hard
-    → ((found : List FoundRecord) (left : WasLeft size sysid t found)
-    → All (IsSureRecord size sysid left.order (state_now t)) hard → C left.order) → C order
-with_left size sysid t order hard C k follows =
-    subst C k.left.1 (follows k.found k.left.0
-    (subst (λ (o : List Entry). All (IsSureRecord size sysid o (state_now t)) hard) (sym k.left.1)
-    k.kept))
+use Rattle.log_lives.specs.History.{BeginsLog, EndsSettling, FailsToOpen, GeneratesLog, ContinuesLog, IsCalledOn, IsToldDurable}
+use Rattle.log_lives.proofs.Lives.{begun_keeps, run_keeps}
 
 -- what was told, as the laws of runs say it
 told_as : (size moment : ℕ) (order : List Entry) (lists : List (List Told))
@@ -201,8 +193,8 @@ module _ (options : RunOptions) (outside : Outside) (outcome : Outcome) (t now :
         → LifeEndsAt options.geometry left.order now moment next
         → KeepsSure options.geometry system_id next left.order hard
     early_keeps since early ends =
-        settled_keeps its_opening outside.moment_before outside.moment_after moment t began now next
-        found reopened script lists its_run hard kept since early ends.left ends.no_torn_pass
+        settled_keeps its_opening outside.moment_before moment t began now next found reopened
+        its_run.goes_on hard kept since early ends.left ends.no_torn_pass
 
     pub late_keeps : (more : List FoundRecord) → appended.moment ≤ moment
         → LifeEndsAt options.geometry (appended.headline.found

@@ -1,4 +1,3 @@
-pub mod KeptRecords
 pub mod Lives
 pub mod Calls
 pub mod Receipts

@@ -9,18 +9,15 @@
 -- moment is one whose later calls of the disk and answers nobody saw.)
 use Rattle.std.specs.Prelude.{◌≡◌, ℕ, ◌<◌, ◌≤◌, All, Any, Contains, IsTrue, List, [], ◌∷◌, ◌++◌, length, Some}
 use Rattle.byte_position.specs.Geometry.{is_segment_size}
-use Rattle.segment_disk.specs.DiskImage.{image_as_read}
-use Rattle.segment_disk.specs.Tape.{Tape, state_now}
+use Rattle.segment_disk.specs.Tape.{Tape}
 use Rattle.flush_core.specs.Pages.{HoldsNothing}
 use Rattle.wal_page.specs.Order.{Entry}
 use Rattle.wal_reader.specs.declared.found.FoundRecord.{FoundRecord}
-use Rattle.wal_reader.specs.Pages.{pages_in}
-use Rattle.written_log.specs.Torn.{NoTornPass}
 use Rattle.written_log.specs.Written.{found_of}
 use Rattle.told_lines.specs.declared.told.Told.{Told}
 use Rattle.told_lines.specs.Crash.{SaysDurable}
 use Rattle.told_lines.specs.Told.{order_from}
-use Rattle.reopened_log.specs.Sure.{IsLeftAt}
+use Rattle.reopened_log.specs.Lives.{LifeEndsAt}
 use Rattle.generated_lines.specs.Generated.{generated_script}
 use Rattle.command_words.specs.declared.commands.GenOptions.{GenOptions}
 use Rattle.command_words.specs.declared.commands.RunOptions.{RunOptions}
@@ -38,14 +35,6 @@ pub record IsCalledOn (size : ℕ) (options : RunOptions) (outside : Outside) (t
   pub before : outside.tape_before ≡ Some t
   pub after : outside.tape_after ≡ Some now
   pub counted : outside.moment_before ≡ length t.calls
-
--- a life ends at a moment: its process stops, between two calls of the disk (so it does where the
--- call comes back) or within a write, or its machine crashes; and no torn record of the log passes
--- its CRC, as the disk is read then
-pub record LifeEndsAt (size : ℕ) (order : List Entry) (now : Tape) (moment : ℕ) (next : Tape)
-    : Type 0 where
-  pub left : IsLeftAt now moment next
-  pub no_torn_pass : NoTornPass size (pages_in size (image_as_read (state_now next))) order
 
 -- a record of the log, and by a moment some line was told that all up to its end is durable: so is
 -- that of each commit whose receipt names that moment or an earlier one

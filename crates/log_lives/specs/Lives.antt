@@ -1,6 +1,6 @@
 -- One theorem over all lives of a log: a record that was told durable is in the log for ever,
 -- through any number of runs, crashes, kills, failed disks and restarts.
-use Rattle.std.specs.Prelude.{◌≡◌, ℕ, All, Contains, IsTrue, List, [], ◌∷◌, ◌++◌, take, Some}
+use Rattle.std.specs.Prelude.{ℕ, IsTrue, List, [], ◌∷◌, ◌++◌, Some}
 use Rattle.byte_position.specs.Geometry.{is_segment_size}
 use Rattle.segment_disk.specs.DiskImage.{DiskImage, MayLeave}
 use Rattle.segment_disk.specs.Tape.{Tape, state_now}
@@ -14,19 +14,13 @@ use Rattle.wal_reader.specs.Pages.{pages_in}
 use Rattle.written_log.specs.Torn.{NoTornPass}
 use Rattle.written_log.specs.Written.{found_of}
 use Rattle.told_lines.specs.declared.told.Told.{Told}
+use Rattle.reopened_log.specs.Lives.{IsFrontWith}
 use Rattle.command_words.specs.declared.commands.ScriptRunOptions.{ScriptRunOptions}
 use Rattle.backend_cli.specs.declared.outcome.Outcome.{Outcome}
 use Rattle.backend_cli.specs.declared.outcome.Outcome.TheVariants.{Stopped}
 use Rattle.backend_cli.specs.Appending.{AppendHolds, WasLeftSo}
 use Rattle.backend_cli.specs.Outside.{Outside}
 use Rattle.log_lives.specs.History.{BeginsLog, ContinuesLog, History, IsCalledOn}
-
--- records are a front of the log, each whole, and all of these are among them
-pub record IsFrontWith (size : ℕ) (order : List Entry) (hard records : List FoundRecord)
-    : Type 0 where
-  pub count : ℕ
-  pub front : records ≡ found_of size (take count order)
-  pub has : All (Contains records) hard
 
 pub record KeepsAllHard (size : ℕ) (t : Tape) (order : List Entry) (hard : List FoundRecord)
     : Type 0 where

@@ -9,10 +9,15 @@ pub mod SettlingCalls
 pub mod StoppedSettlings
 pub mod CrashedSettlings
 pub mod StoppedCrashes
+pub mod StoppedLogs
+pub mod WordImages
+pub mod WrittenLogs
 pub mod LeftRuns
 pub mod StoppedRuns
-pub mod WordImages
 pub mod SureDisks
+pub mod KeptRecords
+pub mod KeptFronts
+pub mod KeptLives
 pub mod EmptyDisks
 pub mod OwnRows
 pub mod OwnPages

@@ -1,16 +1,15 @@
 -- What is sure of a log on a disk stays so: while it is settled, and over stops and crashes; and a run makes sure all that was found and all that its lines were told.
-use Rattle.std.proofs.Common.{◌≡◌, ◌⊎◌, ℕ, ◌+◌, ◌*◌, ◌/◌, ◌≤◌, List, length, Option, Some, None, inl, inr, refl, subst, arith}
+use Rattle.std.proofs.Common.{ℕ, ◌+◌, ◌*◌, ◌/◌, ◌≤◌, List, length, Option, Some, None, inl, inr, refl, subst, arith}
 use Rattle.std.proofs.lemmas.Bool.{cases_lt}
 use Rattle.byte_position.specs.Geometry.{IsSegmentSize, pages_of}
-use Rattle.segment_disk.specs.Assured.{DiskImageFits, IsMadeUpto, IsNowhere, SegmentAssures, SegmentFits, StateAssures}
-use Rattle.segment_disk.specs.DiskImage.{DiskImage, ImageSegment, LeftAt, MayLeave, image_as_read}
+use Rattle.segment_disk.specs.Assured.{IsMadeUpto, IsNowhere, SegmentAssures, SegmentFits, StateAssures}
+use Rattle.segment_disk.specs.DiskImage.{DiskImage, ImageSegment, MayLeave, image_as_read}
 use Rattle.segment_disk.specs.Tape.{DiskState, Segment, Tape, state_now}
 use Rattle.flush_core.specs.Lawful.{IsLawful}
-use Rattle.flush_core.specs.Settled.{HaveWholePages, IsAmong, IsOldOrZero, KeepsOld}
+use Rattle.flush_core.specs.Settled.{IsAmong, IsOldOrZero, KeepsOld}
 use Rattle.flush_core.specs.SettledLog.{IsZeroOrLogWord}
 use Rattle.flush_core.proofs.LeftLaws.{ImageFits-left}
 use Rattle.flush_core.proofs.SettledLogs.{stands_fit}
-use Rattle.wal_page.specs.Order.{Entry}
 use Rattle.wal_reader.specs.declared.found.Answer.{Answer}
 use Rattle.wal_reader.specs.declared.found.FoundRecord.{FoundRecord}
 use Rattle.wal_reader.specs.Decodes.{Decodes}
@@ -19,28 +18,22 @@ use Rattle.written_log.specs.FoundLog.{end_behind}
 use Rattle.written_log.specs.LawfulLog.{IsFrontUpto}
 use Rattle.written_log.specs.Torn.{NoTornPass}
 use Rattle.written_log.proofs.LawfulLaws.{lawful_images_decode_to_fronts}
-use Rattle.wal_script.specs.Asked.{AskedLine}
-use Rattle.told_lines.specs.declared.told.Told.{Told}
-use Rattle.told_lines.specs.Crash.{SaysDurable}
-use Rattle.told_lines.specs.Told.{SomeTold}
 use Rattle.wal_core.specs.declared.setup.Setup.{Setup}
-use Rattle.wal_core.specs.Durable.{IsLogBelow}
-use Rattle.wal_core.specs.Suited.{IsSuited}
-use Rattle.wal_core.specs.Words.{Opening, found_end}
+use Rattle.wal_core.specs.Words.{found_end}
 use Rattle.machine_laws.proofs.CrashLaws.{IsLawful-left}
 use Rattle.machine_laws.proofs.DurableGrowth.{IsFirm-lower}
-use Rattle.run_laws.specs.Assured.{IsRunOn, KeepsToldWords, order_told}
+use Rattle.run_laws.specs.Assured.{order_told}
 use Rattle.run_laws.proofs.MachineRuns.{keeps_words}
 use Rattle.reopened_log.specs.Again.{IsLeftByCrash}
-use Rattle.reopened_log.specs.Sure.{IsLeftAt, IsLogUpto, IsSureUpto, ReopenedSettlingsStaySure, RunsMakeSure, StoppedSettlingsStaySure, SureEntriesAreRead, UncalledDisksStaySure}
+use Rattle.reopened_log.specs.Sure.{IsLogUpto, IsSureUpto, ReopenedSettlingsStaySure, RunsMakeSure, StoppedSettlingsStaySure, SureEntriesAreRead, UncalledDisksStaySure}
 use Rattle.reopened_log.specs.WasLeft.{WasLeft}
 use Rattle.reopened_log.proofs.CrashedSettlings.{stopped_stays, uncalled_stays}
 use Rattle.reopened_log.proofs.CutWrites.{left_as_read}
-use Rattle.reopened_log.proofs.LeftRuns.{began_suited}
-use Rattle.reopened_log.proofs.StoppedRuns.{stop_images, stop_loses, stop_whole}
+use Rattle.reopened_log.proofs.LeftRuns.{run_written, whole_then}
 use Rattle.reopened_log.proofs.StoppedSettlings.{old_so, reopened_stops, stopped, stops_uncalled}
 use Rattle.reopened_log.proofs.Surviving.{old}
-use Rattle.reopened_log.proofs.WordImages.{images_assure, quiet_assures}
+use Rattle.reopened_log.proofs.WordImages.{quiet_assures}
+use Rattle.reopened_log.proofs.WrittenLogs.{written_sure}
 
 -- ---- what is read
 
@@ -127,32 +120,14 @@ reopened_settlings_stay_sure opening handed moment t began next found r since is
 
 -- ---- a run
 
-module _ (opening : Opening) (moment last : ℕ) (began now next : Tape) (script : List (List AskedLine)) (lists : List (List Told)) (run : IsRunOn opening (Some began) (Some now) last script lists) (suited : IsSuited opening (state_now began))
-    (whole : HaveWholePages (opening.setup).segment_size (state_now began)) (counted : opening.moment ≡ length began.calls) (since : opening.moment ≤ moment) (upto : ℕ) (asked : (upto ≤ found_end opening) ⊎ SomeTold (SaysDurable moment upto) lists) where
-  abbrev size : ℕ
-  size = (opening.setup).segment_size
-
-  abbrev order : List Entry
-  order = order_told opening script lists
-
-  words : KeepsToldWords opening (order_told opening script lists) lists now
-  words = keeps_words opening now last script lists run.machine (began_suited opening began now run.goes_on counted suited)
-
-  images_fit : (image : DiskImage) → LeftAt now moment image → DiskImageFits size (IsMadeUpto size upto) (IsLogBelow opening.setup order upto) image
-  images_fit image leaves = elim asked [
-    | inl low ↦ (IsFirm-lower opening.setup order upto (found_end opening) opening.moment now low words.found).left moment since image leaves
-    | inr says ↦ (words.told moment upto says).left moment (omega arith) image leaves
-  ]
-
-  makes_sure : IsLeftAt now moment next → IsSureUpto size (opening.setup).sysid order upto (state_now next)
-  makes_sure (inl stops) =
-      images_assure size (IsMadeUpto size upto) (IsLogBelow opening.setup order upto) (state_now next)
-      (stop_whole opening last began now script lists run suited counted whole moment since next stops)
-      (stop_loses opening last began now script lists run suited counted whole moment since next stops)
-      (λ image may. images_fit image (stop_images opening last began now script lists run suited counted whole moment since next stops image may))
-  makes_sure (inr crash) =
-      quiet_assures size (IsMadeUpto size upto) (IsLogBelow opening.setup order upto) (state_now next) crash.quiet (images_fit (image_as_read (state_now next)) crash.leaves)
-
 pub runs_make_sure : RunsMakeSure
 runs_make_sure opening moment last began now next script lists run suited whole counted since is upto asked =
-    makes_sure opening moment last began now next script lists run suited whole counted since upto asked is
+    let order = order_told opening script lists in
+    let w = run_written opening last began now script lists run suited counted in
+    let words = keeps_words opening now last script lists run.machine w.suited in
+    let there = whole_then opening began now run.goes_on counted whole in
+    elim asked [
+      | inl low ↦ written_sure opening order now w there moment since next is upto opening.moment since
+          (IsFirm-lower opening.setup order upto (found_end opening) opening.moment now low words.found)
+      | inr says ↦ written_sure opening order now w there moment since next is upto moment (omega arith) (words.told moment upto says)
+    ]

@@ -91,24 +91,25 @@ module _ (opening : Opening) (handed : ℕ) (t began : Tape) (found : List Found
 
   -- ---- at any moment
 
+  -- before the opening its tape was that of the settling
+  pub early_leaves : (now : Tape) → TapeGoesOn (Some began) (Some now) → (moment : ℕ) (image : DiskImage) → LeftAt now moment image → moment < opening.moment → LeftAt began moment image
+  early_leaves now goes_on moment image leaves early =
+      let is : now ≡ record began { calls = began.calls ++ goes_on.0 } = some_tape now (record began { calls = began.calls ++ goes_on.0 }) goes_on.1 in
+      LeftAt-before began goes_on.0 moment image (omega (arith, early, calls_counted)) (subst (λ (d : Tape). LeftAt d moment image) is leaves)
+
   module _ (now : Tape) (order : List Entry) (script : List (List AskedLine)) (lists : List (List Told)) (last : ℕ) (goes_on : TapeGoesOn (Some began) (Some now)) (rises : EachRises opening.moment script lists last)
       (moment : ℕ) (image : DiskImage) (since : handed ≤ moment) (leaves : LeftAt now moment image) where
-    pub left_before : moment < opening.moment → LeftAt began moment image
-    left_before early =
-        let is : now ≡ record began { calls = began.calls ++ goes_on.0 } = some_tape now (record began { calls = began.calls ++ goes_on.0 }) goes_on.1 in
-        LeftAt-before began goes_on.0 moment image (omega (arith, early, calls_counted)) (subst (λ (d : Tape). LeftAt d moment image) is leaves)
-
     pub early_front : moment < opening.moment → NoTornPass (opening.setup).segment_size (pages_in (opening.setup).segment_size image) r.left.order → (told : List FoundRecord) (answer : Answer)
         → Decodes (opening.setup).segment_size (pages_in (opening.setup).segment_size image) (opening.setup).segment_size None told answer
         → IsFrontWithTold (opening.setup).segment_size moment (opening.found ++ order) lists told × (handed + opening.made ≤ moment → take (length opening.found) told ≡ found_of (opening.setup).segment_size opening.found)
     early_front early none_torn told answer decodes =
-        let front = front_before moment image since (left_before early) none_torn told answer decodes in (
+        let front = front_before moment image since (early_leaves now goes_on moment image leaves early) none_torn told answer decodes in (
           record {
             count = length told;
             front = front_of size opening.found order told front.0 (r.found_is ∙ front.1);
             told = λ n e at says. absurd (none_so_early opening.moment moment _ early script lists last rises says);
           },
-          all_synced moment image since (left_before early) none_torn told answer decodes,
+          all_synced moment image since (early_leaves now goes_on moment image leaves early) none_torn told answer decodes,
         )
 
 pub reopened_logs_survive_crashes : ReopenedLogsSurviveCrashes

@@ -8,3 +8,4 @@ pub mod StopsAt
 pub mod Stopped
 pub mod Own
 pub mod Sure
+pub mod Lives

@@ -27,6 +27,7 @@ use Rattle.closed_log.proofs.Risen.{risen}
 use Rattle.closed_log.proofs.Timeliness.{timely}
 use Rattle.wal_log.specs.declared.closing.Closed.{Closed}
 use Rattle.wal_log.specs.declared.wal.Wal.{Wal}
+use Rattle.wal_log.specs.Closing.{ClosesLog}
 use Rattle.wal_log.specs.Logs.{opening_of_log, setup_of_log, table_of}
 use Rattle.wal_log_laws.specs.Keeping.{IsClosedFrom, KeepsPromises, LeavesOrder, end_of_order}
 
@@ -54,6 +55,49 @@ module _ (opening : Opening) (order : List Entry) (t : Tape) (v : View)
 
 -- ---- what a log leaves
 
+-- a log that was closed, on whatever disk
+module _ {D : Type 0} (tape : D → Option Tape) (moment faults : D → ℕ) (wal : Wal D) (pass : Pass)
+    (closed : Closed D) (closes : ClosesLog tape moment faults wal pass closed) where
+  abbrev ends : ClosesWith tape moment faults (began_of_table tape (table_of wal))
+      (opening_of_log wal) (view_of_pass pass) closes.writer closes.position
+  ends = closes.closes
+
+  pub closed_logs : LogsAreOfOrder (opening_of_log wal) (((closes.closes).sound).order)
+      (view_of_pass pass).reserving
+  closed_logs = risen (opening_of_log wal) (ends.sound).order ends.words ends.views
+      (view_of_pass pass).reserving (ends.closed).accounted
+
+  module _ (t : Tape) (told : tape closed.disk ≡ Some t)
+      (narrow : (setup_of_log wal).sysid < 2 ^ 64) where
+    pub closed_tape : tape (slot_disk closes.writer) ≡ Some t
+    closed_tape = ap tape closes.disk_is ∙ told
+
+    -- the tape that the disk tells is that of the last state's writer
+    own : tape_from (first_on (began_of_table tape (table_of wal)))
+        (slot_plain tape moment closes.writer).calls ≡ Some t
+    own = tape_on_first (first_on (began_of_table tape (table_of wal)))
+        (tape (slot_disk closes.writer)) (ends.of_log).on_first ∙ closed_tape
+
+    pub closed_on : BeganSuited (opening_of_log wal) t
+        → IsClosedOn (opening_of_log wal) (((closes.closes).sound).order) t (view_of_pass pass)
+    closed_on began = told_from (λ (t : Tape). BeganSuited (opening_of_log wal) t
+        → IsClosedOn (opening_of_log wal) (ends.sound).order t (view_of_pass pass))
+        (first_on (began_of_table tape (table_of wal)))
+        (slot_plain tape moment closes.writer).calls t own
+        (λ calls is suited. record {
+          words = ends.words;
+          writer = slot_plain tape moment closes.writer;
+          views = ends.views;
+          id = ends.id;
+          sound = ends.sound;
+          order_is = refl;
+          here = ends.here;
+          closed = ends.closed;
+          narrow = narrow;
+          calls_is = is;
+          began = suited;
+        }) began
+
 module _ {D : Type 0} (tape : D → Option Tape) (moment faults : D → ℕ)
     (counts : (disk : D) → IfSome (tape disk) (λ t. moment disk ≡ length t.calls))
     (setup : Setup) (disk : D) (wal : Wal D) (pass : Pass) (closed : Closed D)
@@ -68,21 +112,24 @@ module _ {D : Type 0} (tape : D → Option Tape) (moment faults : D → ℕ)
   abbrev mine : View
   mine = view_of_pass pass
 
-  abbrev ends : ClosesWith tape moment faults (began_of_table tape (table_of wal))
+  abbrev its_ends : ClosesWith tape moment faults (began_of_table tape (table_of wal))
       (opening_of_log wal) (view_of_pass pass) (run.closes).writer (run.closes).position
-  ends = (run.closes).closes
+  its_ends = (run.closes).closes
 
   abbrev order : List Entry
   order = (((run.closes).closes).sound).order
 
   logs : LogsAreOfOrder (opening_of_log wal) (((run.closes).closes).sound).order
       (view_of_pass pass).reserving
-  logs = risen opening order ends.words ends.views (view_of_pass pass).reserving
-      (ends.closed).accounted
+  logs = closed_logs tape moment faults wal pass closed run.closes
 
   ends_there : closed.end.0 ≡ end_of_order (setup_of_log wal) (((run.closes).closes).sound).order
   ends_there = (run.closes).end_is ∙ ap (λ (n : ℕ). end_form (setup_of_log wal) n)
-      (ends.position_is ∙ ((ends.closed).free).position)
+      (its_ends.position_is ∙ ((its_ends.closed).free).position)
+
+  its_narrow : (setup_of_log wal).sysid < 2 ^ 64
+  its_narrow = subst (λ (n : ℕ). n < 2 ^ 64)
+      (sym (ap (λ (o : Opening). (o.setup).sysid) (run.opened).opening)) narrow
 
   -- the tape at the opening counts up to the moment of the opening
   counted : IfSome (began_of_table tape (table_of wal))
@@ -95,43 +142,21 @@ module _ {D : Type 0} (tape : D → Option Tape) (moment faults : D → ℕ)
       (sym (run.opened).began) now
 
   module _ (nothing : HoldsNothing (tape disk)) (t : Tape) (told : tape closed.disk ≡ Some t) where
-    tape_is : tape (slot_disk (run.closes).writer) ≡ Some t
-    tape_is = ap tape (run.closes).disk_is ∙ told
-
     began_on : BeganSuited (opening_of_log wal) t
-    began_on = at_told (BeganSuited opening) (tape (slot_disk (run.closes).writer)) t tape_is
+    began_on = at_told (BeganSuited opening) (tape (slot_disk (run.closes).writer)) t
+        (closed_tape tape moment faults wal pass closed run.closes t told its_narrow)
         (began_suited opening began (tape (slot_disk (run.closes).writer))
         (ap (λ (o : Opening). o.made) (run.opened).opening)
-        (subst HoldsNothing (sym (run.opened).began) nothing) counted (ends.of_log).on_first
-        (ends.of_log).goes_on)
+        (subst HoldsNothing (sym (run.opened).began) nothing) counted (its_ends.of_log).on_first
+        (its_ends.of_log).goes_on)
 
-    -- the tape that the disk tells is that of the last state's writer
-    own : tape_from (first_on began) (slot_plain tape moment (run.closes).writer).calls ≡ Some t
-    own = tape_on_first (first_on began) (tape (slot_disk (run.closes).writer)) (ends.of_log).on_first
-        ∙ tape_is
-
-    closed_on : IsClosedOn (opening_of_log wal) (((run.closes).closes).sound).order t
+    closed_there : IsClosedOn (opening_of_log wal) (((run.closes).closes).sound).order t
         (view_of_pass pass)
-    closed_on = told_from (λ (t : Tape). BeganSuited opening t → IsClosedOn opening order t mine)
-        (first_on began) (slot_plain tape moment (run.closes).writer).calls t own
-        (λ calls is suited. record {
-          words = ends.words;
-          writer = slot_plain tape moment (run.closes).writer;
-          views = ends.views;
-          id = ends.id;
-          sound = ends.sound;
-          order_is = refl;
-          here = ends.here;
-          closed = ends.closed;
-          narrow = subst (λ (n : ℕ). n < 2 ^ 64)
-              (sym (ap (λ (o : Opening). (o.setup).sysid) (run.opened).opening)) narrow;
-          calls_is = is;
-          began = suited;
-        }) began_on
+    closed_there = closed_on tape moment faults wal pass closed run.closes t told its_narrow began_on
 
     keeps : KeepsPromises (opening_of_log wal) (((run.closes).closes).sound).order t
         (view_of_pass pass)
-    keeps = keeps_promises opening order t mine closed_on logs
+    keeps = keeps_promises opening order t mine closed_there logs
 
   pub leaves_order : (order : List Entry) × LeavesOrder tape disk wal pass closed order
   leaves_order = (order, record { end_is = ends_there; logs = logs; keeps = keeps })

@@ -55,7 +55,7 @@ only_one x e has = elim (Contains-push_cases [] x e has) [
 ]
 
 -- an entry of a front is found in it
-found_there : (size prev : ℕ) (es : List Entry) (e : Entry) → Contains es e
+pub found_there : (size prev : ℕ) (es : List Entry) (e : Entry) → Contains es e
     → (before : ℕ) × Contains (found_from size prev es) (found_entry size before e)
 found_there size prev [] e has = absurd (omega (arith, has.1))
 found_there size prev (x ∷ es) e has = elim (Contains-append_cases (x ∷ []) es e has) [
@@ -94,7 +94,7 @@ log_in_order opening order v logs l (inr its) = (
       (v.reserving).joined its.0 logs.joined its.1,
 )
 
-entry_in_order : (opening : Opening) (order : List Entry) (v : View)
+pub entry_in_order : (opening : Opening) (order : List Entry) (v : View)
     → LogsAreOfOrder opening order v.reserving → (e : Entry) → HasEntry e v → Contains order e
 entry_in_order opening order v logs e has =
     let part = log_in_order opening order v logs has.0 has.1 in

@@ -1,4 +1,5 @@
-use Rattle.reopened_log.proofs.StoppedRuns.{stopped_logs_were_left, stopped_reopened_runs_were_left, stopped_runs_were_left}
+use Rattle.reopened_log.proofs.StoppedLogs.{stopped_logs_were_left}
+use Rattle.reopened_log.proofs.StoppedRuns.{stopped_reopened_runs_were_left, stopped_runs_were_left}
 use Rattle.reopened_log.proofs.laws.stopped_logs_were_left.Goals as goal
 
 pub returns-clause-written : goal.returns-clause-written

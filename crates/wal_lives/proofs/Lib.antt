@@ -1,0 +1,4 @@
+pub mod Closing
+pub mod Lives
+pub mod Theorem
+pub mod Commits

@@ -1,0 +1,119 @@
+-- Over all lives of a log what was promised to be durable is kept.
+use Rattle.std.proofs.Common.{◌≡◌, ℕ, All, List, [], ◌++◌, length, Option, IfSome, ap, subst}
+use Rattle.std.proofs.lemmas.List.Elements.{All-nil}
+use Rattle.segment_disk.specs.DiskImage.{image_as_read}
+use Rattle.segment_disk.specs.Tape.{Tape, state_now}
+use Rattle.wal_page.specs.Order.{Entry}
+use Rattle.wal_reader.specs.declared.found.FoundRecord.{FoundRecord}
+use Rattle.wal_reader.specs.declared.found.Stopped.{Stopped}
+use Rattle.wal_reader.proofs.FindsLaws.{finding_is_decoding}
+use Rattle.written_log.specs.Written.{found_of}
+use Rattle.found_log.specs.Found.{IsFound, RefusesLog}
+use Rattle.found_log.specs.declared.fault.FindFault.TheVariants as finding
+use Rattle.wal_core.specs.declared.setup.Setup.{Setup}
+use Rattle.wal_core.specs.Ordered.{BeginsWith}
+use Rattle.wal_core.specs.Words.{Opening}
+use Rattle.wal_rule.specs.declared.pass.Pass.{Pass}
+use Rattle.wal_log.specs.declared.closing.Closed.{Closed}
+use Rattle.wal_log.specs.declared.opening.OpenFaultKind.TheVariants.{Foreign}
+use Rattle.wal_log.specs.declared.reopening.Found.{Found}
+use Rattle.wal_log.specs.declared.wal.Wal.{Wal}
+use Rattle.wal_log.specs.Closing.{ClosesLog}
+use Rattle.wal_log.specs.Reopening.{IsReopened, TellsReopenFault}
+use Rattle.reopened_log.specs.Lives.{IsFrontWith}
+use Rattle.reopened_log.specs.WasLeft.{WasLeft}
+use Rattle.reopened_log.proofs.EmptyDisks.{empty_disks_were_left}
+use Rattle.reopened_log.proofs.KeptFronts.{sure_crash, sure_reads}
+use Rattle.reopened_log.proofs.KeptLives.{KeepsSure, with_left}
+use Rattle.reopened_log.proofs.KeptRecords.{IsSureRecord}
+use Rattle.reopened_log.proofs.OwnSystem.{left_logs_are_not_foreign}
+use Rattle.wal_lives.specs.History.{WalHistory, IsHandedIn, opens, reopens, ends_reopening, fails_to_reopen, starts_empty, order_of, rests}
+use Rattle.wal_lives.specs.Lives.{KeepsPromised, PromisedRecordsStay, ThreeLivesKeepPromised}
+use Rattle.wal_lives.proofs.Lives.{at_some, begins_keeps, continues_keeps, ends_reopening_keeps, fails_to_reopen_keeps, rests_keeps}
+
+module _ {D : Type 0} (tape : D → Option Tape) (moment faults : D → ℕ)
+    (counts : (disk : D) → IfSome (tape disk) (λ t. moment disk ≡ length t.calls)) where
+  -- ---- from life to life
+
+  keeps : {size sysid : ℕ} {t : Tape} {order : List Entry} {hard : List FoundRecord}
+      → WalHistory tape moment faults size sysid t order hard → KeepsSure size sysid t order hard
+  keeps {size} {sysid} {t} (starts_empty sized known narrow nothing) = record {
+    found = [];
+    left = empty_disks_were_left size sysid t sized known narrow nothing;
+    kept = All-nil (IsSureRecord size sysid [] (state_now t));
+  }
+  keeps {size} {sysid} (opens {t} {next} {before} {order} {hard} {more} history life) =
+      let k = keeps history in
+      begins_keeps tape moment faults counts size sysid t next order more life
+      k.left.0.has_found.may.narrow before hard k
+  keeps {size} {sysid} (reopens {t} {next} {before} {order} {hard} {more} history life) =
+      continues_keeps tape moment faults counts size sysid t next before order hard more life
+      (keeps history)
+  keeps {size} {sysid} (ends_reopening {t} {next} {order} {hard} history life) =
+      ends_reopening_keeps tape moment faults counts size sysid t next order hard life
+      (keeps history)
+  keeps {size} {sysid} (fails_to_reopen {t} {next} {order} {hard} history life) =
+      fails_to_reopen_keeps tape moment faults counts size sysid t next order hard life
+      (keeps history)
+  keeps {size} {sysid} (rests {t} {next} {order} {hard} history ends) =
+      rests_keeps tape moment faults counts size sysid t next order hard ends (keeps history)
+
+  -- ---- how it is gone on with
+
+  module _ (size sysid : ℕ) (t : Tape) (found : List FoundRecord)
+      (left : WasLeft size sysid t found) (hard : List FoundRecord)
+      (kept : All (IsSureRecord size sysid left.order (state_now t)) hard) where
+    refused_at : (setup : Setup) (disk new : D) (stop : Stopped)
+        → IsHandedIn tape moment faults size sysid t setup disk
+        → TellsReopenFault tape moment faults setup disk new (Foreign stop) → ⊥
+    refused_at setup disk new stop handed tells =
+        let refuses = at_some (RefusesLog setup.segment_size setup.sysid setup.cap_segments
+        (finding.Foreign stop)) (tape disk) t handed.before tells.3 in
+        left_logs_are_not_foreign size sysid setup.cap_segments t found stop left
+        (subst (λ (n : ℕ). RefusesLog size n setup.cap_segments (finding.Foreign stop) t)
+        handed.named (subst (λ (n : ℕ). RefusesLog n setup.sysid setup.cap_segments
+        (finding.Foreign stop) t) handed.sized refuses))
+
+    finds_at : (setup : Setup) (disk : D) (wal : Wal D) (first : Pass) (told : Found)
+        → IsHandedIn tape moment faults size sysid t setup disk
+        → (r : IsReopened tape moment faults setup disk wal first told)
+        → IsFrontWith size left.order hard (found_of size r.es)
+    finds_at setup disk wal first told handed r =
+        let is = subst (λ (n : ℕ). IsFound n setup.sysid setup.cap_segments r.es r.made t)
+        handed.sized
+        (at_some (IsFound setup.segment_size setup.sysid setup.cap_segments r.es r.made)
+        (tape disk) t handed.before r.read) in
+        sure_reads size sysid t found left hard kept (found_of size r.es)
+        ((finding_is_decoding size (image_as_read (state_now t)) size left.has_found.may.valid
+        (found_of size r.es)).1 (is.own.answer, is.own.decodes))
+
+    goes_on_at : (setup : Setup) (disk : D) (wal : Wal D) (first pass : Pass) (told : Found)
+        (closed : Closed D) → (r : IsReopened tape moment faults setup disk wal first told)
+        → (c : ClosesLog tape moment faults wal pass closed)
+        → BeginsWith r.es (order_of tape moment faults wal pass closed c)
+    goes_on_at setup disk wal first pass told closed r c =
+        subst (λ (es : List Entry). BeginsWith es
+        (order_of tape moment faults wal pass closed c))
+        (ap (λ (o : Opening). o.found) r.opening) ((c.closes).sound).reserved.found_first
+
+    keeps_hard : KeepsPromised tape moment faults size sysid t left.order hard
+    keeps_hard = record {
+      reads = sure_reads size sysid t found left hard kept;
+      crash = sure_crash size sysid t found left hard kept;
+      not_foreign = refused_at;
+      finds = finds_at;
+      goes_on = goes_on_at;
+    }
+
+  pub promised_records_stay : PromisedRecordsStay tape moment faults
+  promised_records_stay size sysid t order hard history =
+      with_left size sysid t order hard
+      (λ (o : List Entry). KeepsPromised tape moment faults size sysid t o hard) (keeps history)
+      (λ found left kept. keeps_hard size sysid t found left hard kept)
+
+  pub three_lives_keep_promised : ThreeLivesKeepPromised tape moment faults
+  three_lives_keep_promised size sysid a b c d first second third one two three records sized known
+      narrow nothing begun more last finds =
+      (promised_records_stay size sysid d third ((one ++ two) ++ three)
+      (reopens (reopens (opens (starts_empty sized known narrow nothing) begun) more)
+      last)).reads records finds
