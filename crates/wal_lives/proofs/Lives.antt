@@ -101,7 +101,8 @@ module _ {D : Type 0} (tape : D → Option Tape) (moment faults : D → ℕ)
           → LifeEndsAt (setup_of_log life.wal).segment_size
           (order_of tape moment faults life.wal l.pass l.closed l.closes) l.now l.at next
           → All (IsPromisedDurable (setup_of_log life.wal).segment_size l.at
-          (order_of tape moment faults life.wal l.pass l.closed l.closes) (view_of_pass l.pass)) more
+          (order_of tape moment faults life.wal l.pass l.closed l.closes) (view_of_pass l.pass))
+          more
           → KeepsSure (setup_of_log life.wal).segment_size (setup_of_log life.wal).sysid next
           (order_of tape moment faults life.wal l.pass l.closed l.closes) (hard ++ more)
       begun_at hard none ends promised =
@@ -111,7 +112,8 @@ module _ {D : Type 0} (tape : D → Option Tape) (moment faults : D → ℕ)
           begun_keeps opening l.at t l.now next its_order
           (closed_written opening its_order l.now (view_of_pass l.pass) c) on life.empty none_made
           counted its_narrow l.since ends.left ends.no_torn_pass more
-          (promised_firm opening its_order l.now (view_of_pass l.pass) c l.at more promised) hard none
+          (promised_firm opening its_order l.now (view_of_pass l.pass) c l.at more promised) hard
+          none
 
       begun_of : (hard : List FoundRecord) → All (λ (f : FoundRecord). ⊥) hard
           → KeepsSure size sysid next order (hard ++ more)
@@ -249,8 +251,8 @@ module _ {D : Type 0} (tape : D → Option Tape) (moment faults : D → ℕ)
           (calls_counted its_opening (moment life.disk) t began found on)
           (reopened_logs_are_suited its_opening (moment life.disk) t began found on) in
           reopened_keeps its_opening (moment life.disk) lived.at t began lived.now next found on
-          its_order (closed_written its_opening its_order lived.now (view_of_pass lived.pass) c) goes
-          hard kept lived.since ends.left ends.no_torn_pass more
+          its_order (closed_written its_opening its_order lived.now (view_of_pass lived.pass) c)
+          goes hard kept lived.since ends.left ends.no_torn_pass more
           (promised_firm its_opening its_order lived.now (view_of_pass lived.pass) c lived.at more
           promised)
 

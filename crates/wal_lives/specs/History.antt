@@ -4,10 +4,11 @@
 -- what they promise in their clauses, and of those in between what the closing pass has of them:
 -- the promises of flushes, to itself and to each pass that was taken in.
 --
--- `size` is the size of a segment in bytes, `sysid` the log's system id. `t` is the disk's tape when
--- a life begins, `now` the one that the close leaves, `next` what is left for the next life. `order`
--- is the log so far, and `hard` are records of it that were promised to be durable in some life. (A
--- life that is cut short at a moment is one whose later calls of the disk and answers nobody saw.)
+-- `size` is the size of a segment in bytes, `sysid` the log's system id. `t` is the disk's tape
+-- when a life begins, `now` the one that the close leaves, `next` what is left for the next life.
+-- `order` is the log so far, and `hard` are records of it that were promised to be durable in some
+-- life. (A life that is cut short at a moment is one whose later calls of the disk and answers
+-- nobody saw.)
 use Rattle.std.specs.Prelude.{◌≡◌, ℕ, ◌^◌, ◌<◌, ◌≤◌, All, Contains, List, [], ◌++◌, length, Option, Some}
 use Rattle.byte_position.specs.Geometry.{IsSegmentSize}
 use Rattle.segment_disk.specs.Tape.{Tape}

@@ -37,7 +37,8 @@ use Rattle.wal_lives.specs.History.{BeginsWal, ContinuesWal, WalHistory, IsHande
 module _ {D : Type 0} (tape : D → Option Tape) (moment faults : D → ℕ) where
   pub record KeepsPromised (size sysid : ℕ) (t : Tape) (order : List Entry)
       (hard : List FoundRecord) : Type 0 where
-    -- the reader finds a front of the log on the disk, each record whole, with all that was promised,
+    -- the reader finds a front of the log on the disk, each record whole, with all that was
+    -- promised,
     pub reads : (records : List FoundRecord) → FindsRecords size (log_of t size) size records
         → IsFrontWith size order hard records
     -- and on each image that a crash may leave of it, if no torn record passes its CRC there
