@@ -1,5 +1,5 @@
-//! Tests of what backends are told, one alone and several in threads of their own. The crate itself
-//! is empty.
+//! Tests of what backends are told, one alone and several in threads of their own, and of a
+//! `receive` that is sent too many frames. The crate itself is empty.
 #![tactic(auto)]
 
 #[cfg(test)]
@@ -26,3 +26,5 @@ mod reopening;
 mod rows;
 #[cfg(test)]
 mod told;
+#[cfg(test)]
+mod too_many;

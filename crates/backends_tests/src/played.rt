@@ -30,8 +30,8 @@ pub fn disk_of(alloc: Global, segments: u32, fail: &[u64]) -> Result<MemDisk, Fa
     Ok(MemDisk::new(alloc, segments, 500, failing, Vec::new(alloc))?)
 }
 
-// The words of a command line, behind the program's name.
-fn words_of(alloc: Global, words: &[&str]) -> Result<Vec<String>, Fail> {
+/// The words of a command line, behind the program's name.
+pub fn words_of(alloc: Global, words: &[&str]) -> Result<Vec<String>, Fail> {
     let mut given = Vec::new(alloc);
     given.push(String::from_str(alloc, "pgwal")?)?;
     for word in words {

@@ -1,6 +1,6 @@
 -- A record in flight, whose copy is taken up again, ended or given up.
-use Rattle.std.proofs.Common.{◌≡◌, ℕ, List, [], ◌∷◌, Option, Some, None, Result, Ok, Err, inl, refl, sym, ap, ◌∙◌, subst}
-use mathlib.Core.Option.{some, some-injective}
+use Rattle.std.proofs.Common.{◌≡◌, [], ◌∷◌, Option, Some, None, Result, Ok, Err, inl, refl, sym, ap, ◌∙◌, subst}
+use mathlib.Core.Option.{some-injective}
 use Rattle.record_spelling.specs.Spelling.{Assembled}
 use Rattle.wal_types.specs.declared.answers.Receipt.{Receipt}
 use Rattle.wal_types.specs.declared.lsn.Lsn.{Lsn}
@@ -16,7 +16,7 @@ use Rattle.wal_log.specs.declared.in_flight.Inflight.{Inflight}
 use Rattle.wal_log.specs.declared.wal.Wal.{Wal}
 use Rattle.wal_log.specs.Beginning.{IsPlaceBegun, TellsBeginTry}
 use Rattle.wal_log.specs.Flights.{Finishes, GivesUpCopy, IsHandedBack, IsInFlightOf, KeepsLog, StaysInFlight, view_of_flight}
-use Rattle.wal_log.specs.Standing.{KeepsPass, entry_in_flight}
+use Rattle.wal_log.specs.Standing.{KeepsPass}
 use Rattle.wal_log.specs.Whole.{CopiesWhole}
 use Rattle.wal_log.proofs.InsertLaws.{ends_there, reserved_still}
 use Rattle.wal_log.proofs.Keeping.{further_pass, same_pass}
@@ -24,7 +24,7 @@ use Rattle.wal_log.proofs.WholeLaws.{copied_since}
 use Rattle.embedded_log.specs.declared.appending.AppendErr.{AppendErr}
 use Rattle.embedded_log.specs.declared.appending.AppendErr.TheVariants.{Busy, Full, Down, GivenUp, Spent}
 use Rattle.embedded_log.specs.declared.appending.Appended.{Appended}
-use Rattle.embedded_log.specs.Appending.{AnswersAppend, IsAppended, IsLeft, append_err_of_try}
+use Rattle.embedded_log.specs.Appending.{AnswersAppend, append_err_of_try}
 use Rattle.embedded_log.specs.Copies.{EndsCopy, EndsWhole, HasGivenUp, IsStillOf, StepsCopy}
 
 further_log : (a b c : View) → KeepsLog a b → KeepsLog b c → KeepsLog a c

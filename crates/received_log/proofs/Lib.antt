@@ -2,4 +2,3 @@ pub mod FetchLaws
 pub mod TakeLaws
 pub mod HardenLaws
 pub mod SentLaws
-pub mod CrashedLaws

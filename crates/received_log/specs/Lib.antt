@@ -3,4 +3,3 @@ pub mod Answered
 pub mod Receiving
 pub mod Steps
 pub mod Sent
-pub mod Crashed

@@ -1,12 +1,10 @@
 //! Laws of the definitions, each proved by a function that does nothing.
 
 ghost use Rattle.std.specs.Prelude.{ℕ, List};
-ghost use Rattle.segment_disk.specs.DiskImage.{DiskImage};
 ghost use Rattle.wal_page.specs.Order.{Entry};
 ghost use Rattle.wal_stream.specs.Following.{FollowsLog, KeepsLogUpto};
 ghost use Rattle.wal_stream.specs.Standby.{standby_disk};
 ghost use Rattle.wal_stream.specs.declared.standby.Standby.{Standby};
-ghost use Rattle.received_log.specs.Crashed.{DecodesToReceived, IsCrashedBehind};
 ghost use Rattle.received_log.specs.Fetched.{SourceState};
 ghost use Rattle.received_log.specs.Receiving.{IsHardened, Receives};
 ghost use Rattle.received_log.specs.Sent.{Diverges, HandsOutLog, IsSentRun};
@@ -19,10 +17,7 @@ use segment_disk::Disk;
 /// each crash from now on leaves the log up to where it is told to be; and it never ends with
 /// another log's frame.
 ///
-/// It is a run of the steps that wal_stream's laws speak of, with its one promise (`run`). So
-/// whatever a crash leaves of its disk decodes to a front of the log, which, where it was hardened
-/// by then, holds each record that ends at or below where it is told to be; if no torn record
-/// passes its CRC there.
+/// It is a run of the steps that wal_stream's laws speak of, with its one promise (`run`).
 pub fn received_frames_are_sent_steps<D: Disk>()
     ensures run { (sysid hardened : ℕ) (es : List Entry) (before after : SourceState)
         (old new : Standby D) (received : Received)
@@ -45,10 +40,4 @@ pub fn received_frames_are_sent_steps<D: Disk>()
         → Receives D.tape D.moment D.faults before after old new received
         → HandsOutLog old.geometry sysid es hardened before after
         → FollowsLog D.tape sysid es since old → Diverges received.ended → ⊥ }
-    ensures decodes { (sysid since hardened at : ℕ) (es : List Entry) (before after : SourceState)
-        (old new : Standby D) (received : Received) (image : DiskImage)
-        → Receives D.tape D.moment D.faults before after old new received
-        → HandsOutLog old.geometry sysid es hardened before after
-        → IsCrashedBehind D.tape sysid es since old new at image
-        → DecodesToReceived old.geometry es (D.moment (standby_disk new)) at received image }
 {}

@@ -1,40 +1,22 @@
--- What a crash leaves of a standby's disk that follows a log.
+-- What was promised is left by a crash of a standby's disk.
 use Rattle.std.proofs.Common.{◌≡◌, ℕ, ◌+◌, ◌-◌, ◌*◌, ◌/◌, ◌%◌, ◌<◌, ◌≤◌, inl, inr, List, ap, subst, ◌∙◌, arith}
 use Rattle.std.proofs.lemmas.Bool.{cases_lt}
 use Rattle.std.proofs.lemmas.Nat.{le-div}
 use Rattle.std.proofs.Math.Nat.{div-mul-le_self}
 use Rattle.byte_position.specs.Geometry.{IsSegmentSize, pages_of}
 use Rattle.byte_position.proofs.SegmentSizes.{segment_size_in_pages}
-use Rattle.segment_disk.specs.Assured.{DiskImageFits, IsMadeUpto, IsNowhere, SegmentFits}
+use Rattle.segment_disk.specs.Assured.{DiskImageFits, IsMadeUpto, SegmentFits}
 use Rattle.segment_disk.specs.DiskImage.{DiskImage}
-use Rattle.segment_disk.specs.ImageWords.{HasPageAt, image_word, segment_word}
+use Rattle.segment_disk.specs.ImageWords.{HasPageAt, image_word}
 use Rattle.flush_core.specs.Lawful.{IsLawful}
-use Rattle.flush_core.specs.Left.{IsKeptWord, IsWordPut, PutHistory}
+use Rattle.flush_core.specs.Left.{IsKeptWord}
 use Rattle.flush_core.specs.Pages.{PutPages}
-use Rattle.flush_core.specs.SettledLog.{IsZeroOrLogWord}
 use Rattle.flush_core.proofs.LawfulLaws.{no_owner_before, no_word_before, word_fits, word_stands_at}
 use Rattle.wal_page.specs.Order.{Entry, IsChained}
 use Rattle.wal_page.specs.Log.{IsLawfulWord, log_word_bytes}
 use Rattle.wal_stream.specs.Following.{HaveLogBelow}
 
 module _ (size sysid : ℕ) (valid : IsSegmentSize size) (es : List Entry) (chained : IsChained size es) (image : DiskImage) where
-  -- ---- nothing is left but words of the log and zeros
-
-  pub only_log_words : (puts : PutHistory) → ((page word : ℕ) (bytes : List ℕ) → word < 1024 → IsWordPut puts page word bytes → IsZeroOrLogWord size sysid es page word bytes) → DiskImageFits size IsNowhere (IsWordPut puts) image
-      → (k : ℕ) → IsLawfulWord size sysid es (8 * k) (image_word size image (8 * k))
-  only_log_words puts log fits k =
-      let segment = 8 * k / size in
-      let offset = 8 * k % size in
-      let at = word_stands_at size valid k in
-      elim (word_fits size IsNowhere (IsWordPut puts) segment offset (image segment) at.within at.low (fits segment)) [
-        | inl none ↦ inl none.1
-        | inr there ↦
-            subst (λ (a : ℕ). IsLawfulWord size sysid es a (segment_word (image segment) offset)) at.at
-            (log (segment * pages_of size + offset / 8192) (offset % 8192 / 8) (segment_word (image segment) offset) at.low there.1)
-      ]
-
-  -- ---- all that was promised is left
-
   module _ (upto : ℕ) (whole : upto % 8 ≡ 0) (pages : PutPages) (log : HaveLogBelow size sysid es upto pages) (fits : DiskImageFits size (IsMadeUpto size upto) (IsKeptWord upto pages) image) where
     -- the segment of a word below the address
     segment_made : (k : ℕ) → 8 * k < upto → size ≤ 8 * k → IsMadeUpto size upto (8 * k / size)

@@ -1,12 +1,10 @@
 //! Laws of the definitions, each proved by a function that does nothing.
 
 ghost use Rattle.std.specs.Prelude.{ℕ, All, List};
-ghost use Rattle.segment_disk.specs.DiskImage.{DiskImage};
-ghost use Rattle.wal_page.specs.Order.{Entry, IsChained};
-ghost use Rattle.wal_stream.specs.FollowedLog.{DecodesToPromised, IsCrashedStandby, IsOpenedEmpty};
+ghost use Rattle.wal_page.specs.Order.{Entry};
 ghost use Rattle.wal_stream.specs.Following.{AreSentSteps, ComesOfLog, FollowsLog, KeepsLogUpto, SentStep, promises_of, standby_behind};
 ghost use Rattle.wal_stream.specs.Frame.{FramesOfLogPagesAreOfLog};
-ghost use Rattle.wal_stream.specs.Standby.{AnswersDiverged, standby_disk};
+ghost use Rattle.wal_stream.specs.Standby.{AnswersDiverged};
 ghost use Rattle.wal_stream.specs.declared.standby.Standby.{Standby};
 
 use segment_disk::Disk;
@@ -34,17 +32,4 @@ pub fn standbys_follow_the_log<D: Disk>()
         (bytes : List ℕ) (at : ℕ) → FollowsLog D.tape sysid es since old
         → ComesOfLog old.geometry sysid es hardened bytes
         → AnswersDiverged old new bytes at → ⊥ }
-{}
-
-/// A law: whatever a crash leaves at whatever moment of the disk of such a standby decodes to a
-/// front of the log, which holds each record that ends at or below what `harden` told by then; if
-/// no torn record passes its CRC there. A standby that was opened on an empty disk is one.
-pub fn crashed_standbys_hold_what_they_promised<D: Disk>()
-    ensures decodes { (sysid since hardened at : ℕ) (es : List Entry) (first : Standby D)
-        (steps : List (SentStep × Standby D)) (image : DiskImage)
-        → IsCrashedStandby D.tape D.moment D.faults sysid es since hardened first steps at image
-        → DecodesToPromised D.moment first.geometry es steps at image }
-    ensures from_empty { (sysid size cap : ℕ) (es : List Entry) (disk : D) (s : Standby D)
-        → IsOpenedEmpty D.tape D.moment D.faults size sysid cap disk s → IsChained size es
-        → FollowsLog D.tape sysid es (D.moment (standby_disk s)) s }
 {}

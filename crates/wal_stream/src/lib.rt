@@ -8,8 +8,5 @@ mod standby;
 
 pub use answers::{Accepted, StandbyErr};
 pub use framing::{FRAME_SIZE, FramedPage, frame};
-pub use laws::{
-    crashed_standbys_hold_what_they_promised, frames_of_log_pages_are_of_log,
-    standbys_follow_the_log,
-};
+pub use laws::{frames_of_log_pages_are_of_log, standbys_follow_the_log};
 pub use standby::{Standby, StandbyFault};

@@ -1,5 +1,4 @@
 -- Each frame is one step, and the harden the last.
-use Rattle.received_log.proofs.CrashedLaws.{decodes_to_received}
 use Rattle.received_log.proofs.SentLaws.{ends_of_log, follows_still, is_sent_run, keeps_upto}
 use Rattle.received_log.proofs.laws.received_frames_are_sent_steps.Goals as goal
 
@@ -18,7 +17,3 @@ returns-clause-keeps g c = λ sysid since hardened es before after old new recei
 pub returns-clause-never_diverges : goal.returns-clause-never_diverges
 returns-clause-never_diverges g c = λ sysid since hardened es before after old new received receives sent follows is.
     ends_of_log g.D.Disk.tape g.D.Disk.moment g.D.Disk.faults sysid es hardened since before after old new received.counts sent follows received.ended receives.ends is
-
-pub returns-clause-decodes : goal.returns-clause-decodes
-returns-clause-decodes g c = λ sysid since hardened at es before after old new received image receives sent crashed.
-    decodes_to_received g.D.Disk.tape g.D.Disk.moment g.D.Disk.faults sysid es hardened since before after old new received receives sent at image crashed
