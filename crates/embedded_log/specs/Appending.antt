@@ -28,7 +28,7 @@ pub record IsAppended (setup : Setup) (body : Assembled) (old new : View) (recei
   pub end_is : receipt.end.0 ≡ finish_of setup.segment_size entry
 
 -- it was reserved, and its copy was given up: the pass knows of a failed disk
-pub record IsLeft (setup : Setup) (body : Assembled) (old new : View) : Type 0 where
+pub record IsCopyLeft (setup : Setup) (body : Assembled) (old new : View) : Type 0 where
   pub entry : Entry
   pub reserved : HasReserved setup body old new entry
   pub faults : ℕ
@@ -49,7 +49,7 @@ AnswersAppend setup body old (Err (Full free)) None = ⊥
 AnswersAppend setup body old (Err (Down faults)) (Some pass) =
     MeetsDown faults old (view_of_pass pass) × (log_of_pass (view_of_pass pass) ≡ log_of_pass old)
 AnswersAppend setup body old (Err (Down faults)) None = ⊥
-AnswersAppend setup body old (Err GivenUp) (Some pass) = IsLeft setup body old (view_of_pass pass)
+AnswersAppend setup body old (Err GivenUp) (Some pass) = IsCopyLeft setup body old (view_of_pass pass)
 AnswersAppend setup body old (Err GivenUp) None = ⊥
 AnswersAppend setup body old (Err Spent) pass = pass ≡ None
 

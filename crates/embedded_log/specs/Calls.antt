@@ -19,7 +19,7 @@ AnswersSessionFlush asked None None new = new ≡ None
 
 -- all that is reserved was made durable: an address above all others was asked for, or the log's
 -- end, as a look met it
-pub record HasFlushedAll (old : View) (hard : Hard) (new : View) : Type 0 where
+pub record FlushesWholeLog (old : View) (hard : Hard) (new : View) : Type 0 where
   pub asked : ℕ
   pub mid : View
   pub all : ((asked ≡ 18446744073709551615) × (mid ≡ old))

@@ -44,7 +44,7 @@ impl<D: Disk + Drop> Log<D> {
     ghost use Rattle.std.specs.Prelude.{◌≡◌, IfOk, IfSome};
     ghost use Rattle.wal_rule.specs.Passes.{view_of_pass};
     ghost use Rattle.wal_log.specs.Reopening.{IsReopened};
-    ghost use Rattle.embedded_log.specs.Calls.{HasFlushedAll};
+    ghost use Rattle.embedded_log.specs.Calls.{FlushesWholeLog};
 
     /// Opens the log on a disk, whatever a crash left of it, or begins one where there is none.
     pub fn on_disk(alloc: Global, disk: D, setup: Setup) -> Result<(Log<D>, Found), OpenFaultKind>
@@ -79,7 +79,7 @@ impl<D: Disk + Drop> Log<D> {
     pub fn flush_all(&mut self) -> Result<Hard, TryFlushErr>
         // It is told up to an address that is no less than the log's end, which was looked at.
         ensures all { IfOk result (λ hard.
-            HasFlushedAll (view_of_pass self.old.pass) hard (view_of_pass self.new.pass)) }
+            FlushesWholeLog (view_of_pass self.old.pass) hard (view_of_pass self.new.pass)) }
         ensures wal { self.new.wal ≡ self.old.wal }
     {
         match self.wal.try_flush(&mut self.pass, ABOVE_ALL) {
@@ -92,7 +92,7 @@ impl<D: Disk + Drop> Log<D> {
     /// session is, and where not all could be made durable.
     pub fn close(mut self) -> Result<Hard, (CloseErr, Log<D>)>
         ensures { IfOk result (λ hard.
-            (new : _) × HasFlushedAll (view_of_pass self.pass) hard new) }
+            (new : _) × FlushesWholeLog (view_of_pass self.pass) hard new) }
     {
         let handles = Arc::strong_count(&self.wal);
         if handles > 1 {

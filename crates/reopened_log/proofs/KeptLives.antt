@@ -112,7 +112,7 @@ module _ (opening : Opening) (handed moment : ℕ) (t began now next : Tape)
     (found : List FoundRecord) (r : IsReopenedOn opening handed t began found)
     (goes_on : TapeGoesOn (Some began) (Some now)) (hard : List FoundRecord)
     (kept : All (IsSureRecord (opening.setup).segment_size (opening.setup).sysid (r.left).order
-        (state_now t)) hard)
+    (state_now t)) hard)
     (since : handed ≤ moment) (early : moment < opening.moment) where
   left_early : IsLeftAt now moment next → IsLeftAt began moment next
   left_early (inl stops) = inl (stops_before opening began now goes_on
@@ -126,9 +126,12 @@ module _ (opening : Opening) (handed moment : ℕ) (t began now next : Tape)
   settled_again : IsLeftAt began moment next → NoneTorn (opening.setup).segment_size (r.left).order
       next
       → (records : List FoundRecord) × WasLeftOf (opening.setup).segment_size (opening.setup).sysid
-          (r.left).order next records
-  settled_again (inl stops) none_torn = (found, reopened_settlings_were_left opening handed moment t
-      began next found r since stops none_torn)
+      (r.left).order next records
+  settled_again (inl stops) none_torn = (
+    found,
+    reopened_settlings_were_left opening handed moment t
+        began next found r since stops none_torn,
+  )
   settled_again (inr crash) none_torn = crashed_reopened_settlings_were_left opening handed moment t
       began next found r since crash none_torn
 
@@ -138,7 +141,7 @@ module _ (opening : Opening) (handed moment : ℕ) (t began now next : Tape)
   settled_keeps is none_torn = keeps_all (opening.setup).segment_size (opening.setup).sysid t next
       found r.left hard kept (settled_again (left_early is) none_torn)
       (reopened_settlings_stay_sure opening handed moment t began next found r since
-          (left_early is))
+      (left_early is))
 
 -- ---- a log that is written
 
@@ -149,33 +152,36 @@ IsFirmRecord opening order t moment f = Contains (found_of (opening.setup).segme
 
 module _ (opening : Opening) (order : List Entry) (now : Tape) (w : IsWrittenLog opening order now)
     (only : AreOnly opening.made (state_at now opening.moment))
-        (few : opening.made ≤ (opening.setup).cap_segments)
-            (narrow : (opening.setup).sysid < 2 ^ 64)
+    (few : opening.made ≤ (opening.setup).cap_segments)
+    (narrow : (opening.setup).sysid < 2 ^ 64)
     (whole : HaveWholePages (opening.setup).segment_size (state_at now opening.moment)) (moment : ℕ)
-        (since : opening.moment ≤ moment)
+    (since : opening.moment ≤ moment)
     (next : Tape) (is : IsLeftAt now moment next) (none_torn : NoneTorn (opening.setup).segment_size
-        order next) where
+    order next) where
   written_keeps : (hard : List FoundRecord) → All (IsFirmRecord opening order now moment) hard
       → KeepsSure (opening.setup).segment_size (opening.setup).sysid next order hard
   written_keeps hard firm =
       let again = written_left opening order now w only few narrow whole moment since next is
-          none_torn in
+      none_torn in
       record {
         found = again.0;
         left = again.1;
         kept = All-weaker (IsFirmRecord opening order now moment)
             (IsSureRecord (opening.setup).segment_size (opening.setup).sysid order (state_now next))
-            (λ f k. (k.0, written_sure opening order now w whole moment since next is f.end.0 k.1
-                k.2 k.3)) hard firm;
+            (λ f k. (
+              k.0,
+              written_sure opening order now w whole moment since next is f.end.0 k.1
+                  k.2 k.3,
+            )) hard firm;
       }
 
 -- that was gone on with
 module _ (opening : Opening) (handed moment : ℕ) (t began now next : Tape)
     (found : List FoundRecord) (r : IsReopenedOn opening handed t began found)
     (order : List Entry) (w : IsWrittenLog opening order now)
-        (goes_on : TapeGoesOn (Some began) (Some now)) (hard : List FoundRecord)
+    (goes_on : TapeGoesOn (Some began) (Some now)) (hard : List FoundRecord)
     (kept : All (IsSureRecord (opening.setup).segment_size (opening.setup).sysid (r.left).order
-        (state_now t)) hard)
+    (state_now t)) hard)
     (since : opening.moment ≤ moment) where
   -- what was kept is found, and comes first
   still_firm : (f : FoundRecord) → IsSureRecord (opening.setup).segment_size (opening.setup).sysid
@@ -186,14 +192,18 @@ module _ (opening : Opening) (handed moment : ℕ) (t began now next : Tape)
       let sysid = (opening.setup).sysid in
       let first = written_begins opening order now w in
       let longer = contains_longer size opening.found first.0 f
-          (subst (λ (l : List FoundRecord). Contains l f) (sym r.found_is)
-              (kept_found size sysid t found r.left f k)) in (
+      (subst (λ (l : List FoundRecord). Contains l f) (sym r.found_is)
+      (kept_found size sysid t found r.left f k)) in (
         subst (λ (es : List Entry). Contains (found_of size es) f) (sym first.1) longer,
         opening.moment,
         since,
         IsFirm-lower opening.setup order f.end.0 (found_end opening) opening.moment now
-            (omega (arith, kept_low size sysid t found r.left f k, end_is opening handed t began
-                found r)) (found_firm opening order now w),
+            (omega (
+              arith,
+              kept_low size sysid t found r.left f k,
+              end_is opening handed t began
+                  found r,
+            )) (found_firm opening order now w),
       )
 
   pub reopened_keeps : IsLeftAt now moment next → NoneTorn (opening.setup).segment_size order next
@@ -202,13 +212,13 @@ module _ (opening : Opening) (handed moment : ℕ) (t began now next : Tape)
   reopened_keeps is none_torn more told =
       let counted = calls_counted opening handed t began found r in
       written_keeps opening order now w (only_then opening began now goes_on counted
-          (only_began opening handed t began found r)) (r.openable).made_within
-              r.left.has_found.may.narrow
+      (only_began opening handed t began found r)) (r.openable).made_within
+      r.left.has_found.may.narrow
       (whole_then opening began now goes_on counted (began_whole opening handed t began found r))
-          moment since next is none_torn (hard ++ more)
+      moment since next is none_torn (hard ++ more)
       (All-append (IsFirmRecord opening order now moment) hard more
       (All-weaker (IsSureRecord (opening.setup).segment_size (opening.setup).sysid (r.left).order
-          (state_now t)) (IsFirmRecord opening order now moment) still_firm hard kept) told)
+      (state_now t)) (IsFirmRecord opening order now moment) still_firm hard kept) told)
 
 -- ---- a log that begins
 
@@ -245,9 +255,9 @@ module _ (opening : Opening) (moment : ℕ) (t now next : Tape) (order : List En
       → KeepsSure (opening.setup).segment_size (opening.setup).sysid next order (hard ++ more)
   begun_keeps none_torn more told hard none =
       written_keeps opening order now w (only_then opening t now goes_on counted none_there)
-          (omega (arith, none_made)) narrow
+      (omega (arith, none_made)) narrow
       (whole_then opening t now goes_on counted empty_whole) moment since next is none_torn
-          (hard ++ more)
+      (hard ++ more)
       (All-append (IsFirmRecord opening order now moment) hard more
       (All-weaker (λ (f : FoundRecord). ⊥) (IsFirmRecord opening order now moment)
-          (λ f no. absurd no) hard none) told)
+      (λ f no. absurd no) hard none) told)

@@ -67,8 +67,17 @@ ends_low setup is position within =
     let most = (segment_size_tests size is.size).2 in
     let whole = ap (λ (n : ℕ). setup.cap_segments * n) (first_position-usable size is.size) in
     let few : setup.cap_segments * first ≤ 4096 * first = mul-le-mul_right first is.cap_high in
-    omega (arith, within, below, most, whole, few, end_address_of-le_address_of size is.size
-        position, address_of-bound size is.size position)
+    omega (
+      arith,
+      within,
+      below,
+      most,
+      whole,
+      few,
+      end_address_of-le_address_of size is.size
+          position,
+      address_of-bound size is.size position,
+    )
 
 -- so do the segments that are made
 made_low : (setup : Setup) → IsSetup setup → (position made last written : ℕ)
@@ -91,8 +100,11 @@ made_low setup is position made last written within few low reached =
     omega (arith, counted)
 
 some_id : (n : ℕ) → n ≢ 0 → 0 < n
-some_id n other = elim (cases_lt 0 n) [ inl lt ↦ lt | inr nothing ↦ absurd
-    (other (omega (arith, nothing))) ]
+some_id n other = elim (cases_lt 0 n) [
+  | inl lt ↦ lt
+  | inr nothing ↦ absurd
+      (other (omega (arith, nothing)))
+]
 
 told_calls : (P : List Call → Type 0) (first : DiskState) (o : Option (List Call)) (t : Tape)
     → tape_from first o ≡ Some t → IfSome o P → P t.calls
@@ -111,178 +123,181 @@ page_there size segment IsThere Fits (Some s) positive assures there =
 -- ---- what it says of the tape
 
 module _ (opening : Opening) (order : List Entry) (t : Tape) (w : IsWrittenLog opening order t)
-    where
-  abbrev size : ℕ
-  size = (opening.setup).segment_size
+  where
+    abbrev size : ℕ
+    size = (opening.setup).segment_size
 
-  abbrev sysid : ℕ
-  sysid = (opening.setup).sysid
+    abbrev sysid : ℕ
+    sysid = (opening.setup).sysid
 
-  -- what the invariant says of the writer's tape holds of this one
-  pub written_holds : (P : Tape → Type 0) → IfSuited w.first opening (w.sound).writer P → P t
-  written_holds P holds = at_suited w.first opening (w.sound).writer P t w.tape_is w.suited holds
+    -- what the invariant says of the writer's tape holds of this one
+    pub written_holds : (P : Tape → Type 0) → IfSuited w.first opening (w.sound).writer P → P t
+    written_holds P holds = at_suited w.first opening (w.sound).writer P t w.tape_is w.suited holds
 
-  setup_is : IsSetup opening.setup
-  setup_is = (w.sound).setup_is
+    setup_is : IsSetup opening.setup
+    setup_is = (w.sound).setup_is
 
-  pub written_begins : BeginsWith opening.found order
-  written_begins = subst (BeginsWith opening.found) w.order_is ((w.sound).reserved).found_first
+    pub written_begins : BeginsWith opening.found order
+    written_begins = subst (BeginsWith opening.found) w.order_is ((w.sound).reserved).found_first
 
-  bounded : end_address_of (opening.setup).segment_size
-      (end_position (opening.setup).segment_size order) ≤ 2 ^ 60
-  bounded = subst (λ (es : List Entry). end_address_of size (end_position size es) ≤ 2 ^ 60)
-      w.order_is (omega (arith, ends_low opening.setup setup_is (end_position size (w.sound).order)
-          ((w.sound).reserved).within))
+    bounded : end_address_of (opening.setup).segment_size
+        (end_position (opening.setup).segment_size order) ≤ 2 ^ 60
+    bounded = subst (λ (es : List Entry). end_address_of size (end_position size es) ≤ 2 ^ 60)
+        w.order_is (omega (
+          arith,
+          ends_low opening.setup setup_is (end_position size (w.sound).order)
+              ((w.sound).reserved).within,
+        ))
 
-  gapless : IsChained (opening.setup).segment_size order
-  gapless = subst (IsChained size) w.order_is ((w.sound).reserved).chained
+    gapless : IsChained (opening.setup).segment_size order
+    gapless = subst (IsChained size) w.order_is ((w.sound).reserved).chained
 
-  assures : TapeAssures (opening.setup).segment_size IsNowhere
-      (IsZeroOrLogWord (opening.setup).segment_size (opening.setup).sysid order) opening.moment t
-  assures = subst (λ (es : List Entry). TapeAssures size IsNowhere (IsZeroOrLogWord size sysid es)
-      opening.moment t) w.order_is
-      (written_holds (TapeAssures size IsNowhere (IsLawfulAt opening.setup (w.sound).order)
-          opening.moment) ((w.sound).durable).lawful)
+    assures : TapeAssures (opening.setup).segment_size IsNowhere
+        (IsZeroOrLogWord (opening.setup).segment_size (opening.setup).sysid order) opening.moment t
+    assures = subst (λ (es : List Entry). TapeAssures size IsNowhere (IsZeroOrLogWord size sysid es)
+        opening.moment t) w.order_is
+        (written_holds (TapeAssures size IsNowhere (IsLawfulAt opening.setup (w.sound).order)
+        opening.moment) ((w.sound).durable).lawful)
 
-  pub found_firm : IsFirm opening.setup order (found_end opening) opening.moment t
-  found_firm = subst (λ (es : List Entry). IsFirm opening.setup es (found_end opening)
-      opening.moment t) w.order_is
-      (written_holds (IsFirm opening.setup (w.sound).order (found_end opening) opening.moment)
-          ((w.sound).durable).found)
+    pub found_firm : IsFirm opening.setup order (found_end opening) opening.moment t
+    found_firm = subst (λ (es : List Entry). IsFirm opening.setup es (found_end opening)
+        opening.moment t) w.order_is
+        (written_holds (IsFirm opening.setup (w.sound).order (found_end opening) opening.moment)
+        ((w.sound).durable).found)
 
-  loses : LosesOnlySince (opening.setup).segment_size opening.moment t
-  loses = written_holds (LosesOnlySince (opening.setup).segment_size opening.moment)
-      (logs_lose_only opening w.words w.home w.views w.sound)
+    loses : LosesOnlySince (opening.setup).segment_size opening.moment t
+    loses = written_holds (LosesOnlySince (opening.setup).segment_size opening.moment)
+        (logs_lose_only opening w.words w.home w.views w.sound)
 
-  stays_whole : StaysWholeSince (opening.setup).segment_size opening.moment t
-  stays_whole = written_holds (StaysWholeSince (opening.setup).segment_size opening.moment)
-      (logs_stay_whole opening w.words w.home w.views w.sound)
+    stays_whole : StaysWholeSince (opening.setup).segment_size opening.moment t
+    stays_whole = written_holds (StaysWholeSince (opening.setup).segment_size opening.moment)
+        (logs_stay_whole opening w.words w.home w.views w.sound)
 
-  adds : OnlyAddsSince (opening.setup).segment_size opening.moment t
-  adds = written_holds (OnlyAddsSince (opening.setup).segment_size opening.moment)
-      ((w.sound).reading).adds
+    adds : OnlyAddsSince (opening.setup).segment_size opening.moment t
+    adds = written_holds (OnlyAddsSince (opening.setup).segment_size opening.moment)
+        ((w.sound).reading).adds
 
-  -- ---- segments are made one behind another
+    -- ---- segments are made one behind another
 
-  made : IsMadeInTurn opening (w.sound).writer t.calls
-  made = told_calls (IsMadeInTurn opening (w.sound).writer) w.first ((w.sound).writer).calls t
-      w.tape_is ((w.sound).durable).made
+    made : IsMadeInTurn opening (w.sound).writer t.calls
+    made = told_calls (IsMadeInTurn opening (w.sound).writer) w.first ((w.sound).writer).calls t
+        w.tape_is ((w.sound).durable).made
 
-  positive : 0 < pages_of (opening.setup).segment_size
-  positive = omega (arith, (segment_size_in_pages size setup_is.size).1)
+    positive : 0 < pages_of (opening.setup).segment_size
+    positive = omega (arith, (segment_size_in_pages size setup_is.size).1)
 
-  there : AreThere (state_at t opening.moment) opening.made
-  there segment among = page_there (opening.setup).segment_size segment
-      (λ (n : ℕ). (1 ≤ n) × (n ≤ opening.made)) (IsLogAt opening.setup opening.found)
-          (state_at t opening.moment segment) positive (w.suited segment) among
+    there : AreThere (state_at t opening.moment) opening.made
+    there segment among = page_there (opening.setup).segment_size segment
+        (λ (n : ℕ). (1 ≤ n) × (n ≤ opening.made)) (IsLogAt opening.setup opening.found)
+        (state_at t opening.moment segment) positive (w.suited segment) among
 
-  module _ (only : AreOnly opening.made (state_at t opening.moment))
-      (few : opening.made ≤ (opening.setup).cap_segments) where
-    made_in_turn : HasMadeInTurn (opening.setup).segment_size opening.moment t
-    made_in_turn = record {
-      first = opening.made;
-      there = there;
-      only = only;
-      last = made.last;
-      in_turn = made.in_turn;
-      low = made_low opening.setup setup_is (end_position size (w.sound).order) opening.made
-          made.last ((w.sound).writer).written ((w.sound).reserved).within few
-              ((w.sound).positions).reserved made.low;
-    }
+    module _ (only : AreOnly opening.made (state_at t opening.moment))
+        (few : opening.made ≤ (opening.setup).cap_segments) where
+      made_in_turn : HasMadeInTurn (opening.setup).segment_size opening.moment t
+      made_in_turn = record {
+        first = opening.made;
+        there = there;
+        only = only;
+        last = made.last;
+        in_turn = made.in_turn;
+        low = made_low opening.setup setup_is (end_position size (w.sound).order) opening.made
+            made.last ((w.sound).writer).written ((w.sound).reserved).within few
+            ((w.sound).positions).reserved made.low;
+      }
 
-    -- ---- what is left of it was left by this program
+      -- ---- what is left of it was left by this program
 
-    module _ (narrow : (opening.setup).sysid < 2 ^ 64) where
-      pub crashed_written : (moment : ℕ) → opening.moment ≤ moment → (crashed : Tape)
-          → IsLeftByCrash t moment crashed
-          → NoTornPass (opening.setup).segment_size
-              (pages_in (opening.setup).segment_size (image_as_read (state_now crashed))) order
-          → (found : List FoundRecord) × WasLeftOf (opening.setup).segment_size
-              (opening.setup).sysid order crashed found
-      crashed_written moment since crashed crash none_torn =
-          crashed_logs_were_left size sysid opening.moment moment order t crashed setup_is.size
-              (some_id sysid setup_is.named) narrow gapless bounded assures made_in_turn since crash
-                  none_torn
+      module _ (narrow : (opening.setup).sysid < 2 ^ 64) where
+        pub crashed_written : (moment : ℕ) → opening.moment ≤ moment → (crashed : Tape)
+            → IsLeftByCrash t moment crashed
+            → NoTornPass (opening.setup).segment_size
+            (pages_in (opening.setup).segment_size (image_as_read (state_now crashed))) order
+            → (found : List FoundRecord) × WasLeftOf (opening.setup).segment_size
+            (opening.setup).sysid order crashed found
+        crashed_written moment since crashed crash none_torn =
+            crashed_logs_were_left size sysid opening.moment moment order t crashed setup_is.size
+            (some_id sysid setup_is.named) narrow gapless bounded assures made_in_turn since crash
+            none_torn
 
-  module _ (whole : HaveWholePages (opening.setup).segment_size (state_at t opening.moment))
-      (moment : ℕ) (since : opening.moment ≤ moment) where
-    whole_at : HaveWholePages (opening.setup).segment_size (state_at t moment)
-    whole_at = stays_whole whole moment since
+    module _ (whole : HaveWholePages (opening.setup).segment_size (state_at t opening.moment))
+        (moment : ℕ) (since : opening.moment ≤ moment) where
+      whole_at : HaveWholePages (opening.setup).segment_size (state_at t moment)
+      whole_at = stays_whole whole moment since
 
-    module _ (stopped : Tape) (stops : StopsAt t moment stopped) where
-      stop_leaves : LeftAt t moment (image_as_read (state_now stopped))
-      stop_leaves = elim stops [
-        | inl same ↦ subst (λ (d : Tape). LeftAt t moment (image_as_read (state_now d))) (sym same)
-            (inl (left_as_read (opening.setup).segment_size (state_at t moment) whole_at))
-        | inr c ↦ cut_leaves t moment stopped c (opening.setup).segment_size whole_at
-      ]
+      module _ (stopped : Tape) (stops : StopsAt t moment stopped) where
+        stop_leaves : LeftAt t moment (image_as_read (state_now stopped))
+        stop_leaves = elim stops [
+          | inl same ↦ subst (λ (d : Tape). LeftAt t moment (image_as_read (state_now d))) (sym same)
+              (inl (left_as_read (opening.setup).segment_size (state_at t moment) whole_at))
+          | inr c ↦ cut_leaves t moment stopped c (opening.setup).segment_size whole_at
+        ]
 
-      stop_loses : LosesOnly (opening.setup).segment_size (state_now stopped)
-      stop_loses = elim stops [
-        | inl same ↦ subst (λ (d : Tape). LosesOnly (opening.setup).segment_size (state_now d))
-            (sym same) (loses moment since)
-        | inr c ↦ cut_loses t moment stopped c (opening.setup).segment_size opening.moment since
-            adds (loses moment since)
-      ]
+        stop_loses : LosesOnly (opening.setup).segment_size (state_now stopped)
+        stop_loses = elim stops [
+          | inl same ↦ subst (λ (d : Tape). LosesOnly (opening.setup).segment_size (state_now d))
+              (sym same) (loses moment since)
+          | inr c ↦ cut_loses t moment stopped c (opening.setup).segment_size opening.moment since
+              adds (loses moment since)
+        ]
 
-      stop_whole : HaveWholePages (opening.setup).segment_size (state_now stopped)
-      stop_whole = elim stops [
-        | inl same ↦ subst (λ (d : Tape). HaveWholePages (opening.setup).segment_size (state_now d))
-            (sym same) whole_at
-        | inr c ↦ cut_whole t moment stopped c (opening.setup).segment_size opening.moment since
-            adds whole_at
-      ]
+        stop_whole : HaveWholePages (opening.setup).segment_size (state_now stopped)
+        stop_whole = elim stops [
+          | inl same ↦ subst (λ (d : Tape). HaveWholePages (opening.setup).segment_size (state_now d))
+              (sym same) whole_at
+          | inr c ↦ cut_whole t moment stopped c (opening.setup).segment_size opening.moment since
+              adds whole_at
+        ]
 
-      -- whatever a crash may leave of it then, it might have left at this moment
-      stop_images : (image : DiskImage) → MayLeave (state_now stopped) image → LeftAt t moment image
-      stop_images image may = elim stops [
-        | inl same ↦ inl (subst (λ (d : Tape). MayLeave (state_now d) image) same may)
-        | inr c ↦ cut_images t moment stopped c image may
-      ]
+        -- whatever a crash may leave of it then, it might have left at this moment
+        stop_images : (image : DiskImage) → MayLeave (state_now stopped) image → LeftAt t moment image
+        stop_images image may = elim stops [
+          | inl same ↦ inl (subst (λ (d : Tape). MayLeave (state_now d) image) same may)
+          | inr c ↦ cut_images t moment stopped c image may
+        ]
 
-    -- ---- what is firm is sure of what is left
+      -- ---- what is firm is sure of what is left
 
-    -- all below an address is firm from this moment on or an earlier one
-    module _ (next : Tape) (is : IsLeftAt t moment next) (upto from : ℕ) (by : from ≤ moment)
-        (firm : IsFirm opening.setup order upto from t) where
-      pub written_sure : IsSureUpto (opening.setup).segment_size (opening.setup).sysid order upto
-          (state_now next)
-      written_sure = elim is [
-        | inl stops ↦ images_assure size (IsMadeUpto size upto)
-            (IsLogBelow opening.setup order upto) (state_now next) (stop_whole next stops)
-                (stop_loses next stops)
-            (λ image may. firm.left moment by image (stop_images next stops image may))
-        | inr crash ↦ quiet_assures size (IsMadeUpto size upto)
-            (IsLogBelow opening.setup order upto) (state_now next) crash.quiet
-                (firm.left moment by (image_as_read (state_now next)) crash.leaves)
-      ]
+      -- all below an address is firm from this moment on or an earlier one
+      module _ (next : Tape) (is : IsLeftAt t moment next) (upto from : ℕ) (by : from ≤ moment)
+          (firm : IsFirm opening.setup order upto from t) where
+        pub written_sure : IsSureUpto (opening.setup).segment_size (opening.setup).sysid order upto
+            (state_now next)
+        written_sure = elim is [
+          | inl stops ↦ images_assure size (IsMadeUpto size upto)
+              (IsLogBelow opening.setup order upto) (state_now next) (stop_whole next stops)
+              (stop_loses next stops)
+              (λ image may. firm.left moment by image (stop_images next stops image may))
+          | inr crash ↦ quiet_assures size (IsMadeUpto size upto)
+              (IsLogBelow opening.setup order upto) (state_now next) crash.quiet
+              (firm.left moment by (image_as_read (state_now next)) crash.leaves)
+        ]
 
 module _ (opening : Opening) (order : List Entry) (t : Tape) (w : IsWrittenLog opening order t)
     (only : AreOnly opening.made (state_at t opening.moment))
-        (few : opening.made ≤ (opening.setup).cap_segments)
-            (narrow : (opening.setup).sysid < 2 ^ 64)
+    (few : opening.made ≤ (opening.setup).cap_segments)
+    (narrow : (opening.setup).sysid < 2 ^ 64)
     (whole : HaveWholePages (opening.setup).segment_size (state_at t opening.moment)) (moment : ℕ)
-        (since : opening.moment ≤ moment) where
+    (since : opening.moment ≤ moment) where
   pub stopped_written : (stopped : Tape) → StopsAt t moment stopped
       → NoTornPass (opening.setup).segment_size (pages_in (opening.setup).segment_size
-          (image_as_read (state_now stopped))) order
+      (image_as_read (state_now stopped))) order
       → (found : List FoundRecord) × WasLeftOf (opening.setup).segment_size (opening.setup).sysid
-          order stopped found
+      order stopped found
   stopped_written stopped stops none_torn =
       stopped_logs_were_left (opening.setup).segment_size (opening.setup).sysid opening.moment
-          moment order t stopped (setup_is opening order t w).size
-              (some_id (opening.setup).sysid (setup_is opening order t w).named) narrow
-                  (gapless opening order t w) (bounded opening order t w)
-                      (assures opening order t w) (made_in_turn opening order t w only few) since
+      moment order t stopped (setup_is opening order t w).size
+      (some_id (opening.setup).sysid (setup_is opening order t w).named) narrow
+      (gapless opening order t w) (bounded opening order t w)
+      (assures opening order t w) (made_in_turn opening order t w only few) since
       (stop_leaves opening order t w whole moment since stopped stops)
-          (stop_loses opening order t w whole moment since stopped stops)
-              (stop_whole opening order t w whole moment since stopped stops) none_torn
+      (stop_loses opening order t w whole moment since stopped stops)
+      (stop_whole opening order t w whole moment since stopped stops) none_torn
 
   pub written_left : (next : Tape) → IsLeftAt t moment next
       → NoTornPass (opening.setup).segment_size (pages_in (opening.setup).segment_size
-          (image_as_read (state_now next))) order
+      (image_as_read (state_now next))) order
       → (found : List FoundRecord) × WasLeftOf (opening.setup).segment_size (opening.setup).sysid
-          order next found
+      order next found
   written_left next (inl stops) none_torn = stopped_written next stops none_torn
   written_left next (inr crash) none_torn = crashed_written opening order t w only few narrow moment
       since next crash none_torn

@@ -1,7 +1,7 @@
 use Rattle.std.proofs.Common.{IfOk, ap, subst}
 use Rattle.wal_core.specs.Views.{View}
 use Rattle.wal_rule.specs.Passes.{view_of_pass}
-use Rattle.embedded_log.specs.Calls.{HasFlushedAll}
+use Rattle.embedded_log.specs.Calls.{FlushesWholeLog}
 use Rattle.embedded_log.specs.Holding.{LogView}
 use Rattle.embedded_log.proofs.Flushed.{flushed_all}
 use Rattle.embedded_log.proofs.log.Log.flush_all.Goals as goal
@@ -14,5 +14,5 @@ returns-in-Err-Unreserved-clause-all g c =
     c.in-Err-Unreserved.field-0-is c.in-Err-Unreserved.ensures.tries.0
     c.try_flush-in-Err-Unreserved.ensures.tries in
     subst (λ (v : View). IfOk c.try_flush-in-Err-Unreserved.result
-    (λ hard. HasFlushedAll v hard new)) (ap (λ (s : LogView _). view_of_pass s.pass) c.self.view_is)
+    (λ hard. FlushesWholeLog v hard new)) (ap (λ (s : LogView _). view_of_pass s.pass) c.self.view_is)
     told
