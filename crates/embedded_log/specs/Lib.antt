@@ -1,4 +1,0 @@
-pub mod Calls
-pub mod Appending
-pub mod Copies
-pub mod Holding
