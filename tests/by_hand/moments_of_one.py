@@ -10,9 +10,10 @@ made to end about the borders of pages, of what the ring has mapped, of segments
 In some trials a folder has the name of a segment, which so cannot be made: the line that meets it
 is told so, and each behind it.
 
-Usage: tests/moments_of_one.py PGWAL [TRIALS [SEED]] (200 trials), by hand, outside `rt ci`
-       tests/moments_of_one.py --calls RING <SCRIPT (what the model tells, with the calls)
+Usage: tests/by_hand/moments_of_one.py [--program PROGRAM] [TRIALS [SEED]] (200 trials), by hand, outside `rt ci`
+       tests/by_hand/moments_of_one.py --calls RING <SCRIPT (what the model tells, with the calls)
 """
+import argparse
 import itertools
 import os
 import random
@@ -20,6 +21,8 @@ import subprocess
 import sys
 import tempfile
 
+TOP = os.path.abspath(os.path.join(os.path.dirname(__file__), "..", ".."))
+PROGRAM = os.path.join(TOP, "crates", "pgwal", "out", "pgwal")
 PAGE = 8192
 SEGMENT = 1 << 20
 PAGES = SEGMENT // PAGE
@@ -346,19 +349,23 @@ def tell_calls(ring, cap=64):
 
 
 def main():
-    if sys.argv[1:2] == ["--calls"]:
-        return tell_calls(int(sys.argv[2]))
-    program = os.path.abspath(sys.argv[1])
-    trials = int(sys.argv[2]) if len(sys.argv) > 2 else 200
-    seed = int(sys.argv[3]) if len(sys.argv) > 3 else random.randrange(1 << 32)
-    print(f"seed {seed}", flush=True)
+    words = argparse.ArgumentParser(description="compares what one backend is told with a model of the rules")
+    words.add_argument("--program", default=PROGRAM, help="another build")
+    words.add_argument("--calls", type=int, metavar="RING", help="tells what the model makes of a script")
+    words.add_argument("trials", nargs="?", type=int, default=200)
+    words.add_argument("seed", nargs="?", type=int, default=random.randrange(1 << 32))
+    asked = words.parse_args()
+    if asked.calls is not None:
+        return tell_calls(asked.calls)
+    program = os.path.realpath(asked.program)
+    print(f"seed {asked.seed}", flush=True)
     failed = 0
-    for number in range(trials):
-        said = trial(program, random.Random(f"{seed} {number}"))
+    for number in range(asked.trials):
+        said = trial(program, random.Random(f"{asked.seed} {number}"))
         if said:
             failed += 1
-            print(f"trial {number} of seed {seed}: {said}", flush=True)
-    print(f"{trials - failed} passed, {failed} failed")
+            print(f"trial {number} of seed {asked.seed}: {said}", flush=True)
+    print(f"{asked.trials - failed} passed, {failed} failed")
     sys.exit(1 if failed else 0)
 
 

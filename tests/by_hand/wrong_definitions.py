@@ -1,8 +1,8 @@
 #!/usr/bin/env python3
 """Tries the machine's own conditions: each wrong step of a list has to be refused by the laws.
 
-    tests/wrong_definitions.py          tries all
-    tests/wrong_definitions.py WORD..   tries those with one of these words in their name
+    tests/by_hand/wrong_definitions.py          tries all
+    tests/by_hand/wrong_definitions.py WORD..   tries those with one of these words in their name
 
 An edit in must-fail/ changes the code of the crate in which it stands, and what a step may rest on
 is a definition of wal_core, of which the laws stand in machine_laws. So these are tried by hand,
@@ -17,7 +17,7 @@ import subprocess
 import sys
 import tempfile
 
-TOP = pathlib.Path(__file__).resolve().parent.parent
+TOP = pathlib.Path(__file__).resolve().parents[2]
 STEPS, MOVES = "Steps.antt", "Moves.antt"
 # the name of each, the file of wal_core's specs, the text that stands once in it, and what it becomes
 WRONG = [

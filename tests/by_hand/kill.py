@@ -13,8 +13,9 @@ A killed process leaves what it handed to the system: this tries the program and
 crash of the disk leaves is tried over the disk in memory, by the tests. Told lines are printed at a run's end only, so a
 killed run tells no receipt that could be compared.
 
-Usage: tests/kill.py [--append] [TRIALS [SEED]] (1,000 trials)
+Usage: tests/by_hand/kill.py [--append] [--program PROGRAM] [TRIALS [SEED]] (1,000 trials), by hand, outside `rt ci`
 """
+import argparse
 import collections
 import os
 import random
@@ -24,7 +25,7 @@ import sys
 import tempfile
 import time
 
-TOP = os.path.dirname(os.path.dirname(os.path.abspath(__file__)))
+TOP = os.path.abspath(os.path.join(os.path.dirname(__file__), "..", ".."))
 PROGRAM = os.path.join(TOP, "crates", "pgwal", "out", "pgwal")
 SEGMENT = "1048576"
 
@@ -152,15 +153,18 @@ def trials_behind_each_other(top, trials, chance):
 
 
 def main():
-    words = sys.argv[1:]
-    goes_on = words[:1] == ["--append"]
-    words = words[1:] if goes_on else words
-    trials = int(words[0]) if words else 1000
-    seed = int(words[1]) if len(words) > 1 else int(time.time())
-    print(f"{trials} runs, seed {seed}", flush=True)
+    global PROGRAM
+    words = argparse.ArgumentParser(description="kills runs at random moments, and looks at what they leave")
+    words.add_argument("--append", action="store_true", help="the runs go on in one log, behind each other")
+    words.add_argument("--program", default=PROGRAM, help="another build")
+    words.add_argument("trials", nargs="?", type=int, default=1000)
+    words.add_argument("seed", nargs="?", type=int, default=int(time.time()))
+    asked = words.parse_args()
+    PROGRAM = os.path.realpath(asked.program)
+    print(f"{asked.trials} runs, seed {asked.seed}", flush=True)
     with tempfile.TemporaryDirectory() as top:
-        play = trials_behind_each_other if goes_on else trials_apart
-        found = play(top, trials, random.Random(seed))
+        play = trials_behind_each_other if asked.append else trials_apart
+        found = play(top, asked.trials, random.Random(asked.seed))
     print(", ".join(f"{name} {count}" for name, count in sorted(found.items())))
 
 

@@ -3,15 +3,15 @@
 # ends with status 1 and says why. A run prints nothing then and leaves no folder, a listing or a replay
 # prints a front of its lines, a redo and statistics print nothing, and a log that is there stays as it is.
 #
-#     tests/refused_memory.sh            tries the program that the launcher ./pgwal built
-#     tests/refused_memory.sh PROGRAM    tries another build
+#     tests/by_hand/refused_memory.sh            tries the program that the launcher ./pgwal built
+#     tests/by_hand/refused_memory.sh PROGRAM    tries another build
 #
 # It is run by hand, outside `rt ci`. It asks for a C compiler (cc) and for Linux: refused_memory.c is
 # loaded in front of the C library. All is done in a temporary folder, which is removed. Prints a line
 # for each check that failed, and at the end 'N passed, M failed'; its status is 1 where one failed.
 source "$(dirname "${BASH_SOURCE[0]}")/checks.sh" || exit 1
 program=$(realpath -e "${1:-$top/crates/pgwal/out/pgwal}") || exit 1
-cc -O1 -shared -fPIC -o "$base/refused_memory.so" "$top/tests/refused_memory.c" -ldl || exit 1
+cc -O1 -shared -fPIC -o "$base/refused_memory.so" "$top/tests/by_hand/refused_memory.c" -ldl || exit 1
 cd "$base" || exit 1
 
 # The log in this folder, if there is one: its files, and a sum of each.

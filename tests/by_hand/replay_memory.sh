@@ -3,8 +3,8 @@
 # `rt ci` cannot ask for: the call ends with status 0. A replay's disk has room for all calls that
 # it may get, which goes by its lines and pages.
 #
-#     tests/replay_memory.sh            tries the program that the launcher ./pgwal built
-#     tests/replay_memory.sh PROGRAM    tries another build
+#     tests/by_hand/replay_memory.sh            tries the program that the launcher ./pgwal built
+#     tests/by_hand/replay_memory.sh PROGRAM    tries another build
 #
 # It is run by hand, outside `rt ci`. All is done in a temporary folder, which is removed. Prints a line for
 # each check that failed, and at the end 'N passed, M failed'; its status is 1 where one failed.

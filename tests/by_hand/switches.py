@@ -6,8 +6,9 @@ commits, inserts, and switches, which may have data, end on their segment's last
 switch its segment is zeros, as PostgreSQL leaves it, or noise, which is not to be read. Then the last segment is taken away:
 what stands before it is listed, and the status is 0, or 6 where a record goes on in it.
 
-Usage: tests/switches.py [TRIALS [SEED]] (100 trials), by hand, outside `rt ci`
+Usage: tests/by_hand/switches.py [--program PROGRAM] [TRIALS [SEED]] (100 trials), by hand, outside `rt ci`
 """
+import argparse
 import os
 import random
 import struct
@@ -15,7 +16,7 @@ import subprocess
 import sys
 import tempfile
 
-TOP = os.path.dirname(os.path.dirname(os.path.abspath(__file__)))
+TOP = os.path.abspath(os.path.join(os.path.dirname(__file__), "..", ".."))
 PROGRAM = os.path.join(TOP, "crates", "pgwal", "out", "pgwal")
 SEGMENT = 1 << 20
 PAGE = 8192
@@ -206,16 +207,21 @@ def trial(chance):
 
 
 def main():
-    trials = int(sys.argv[1]) if len(sys.argv) > 1 else 100
-    seed = int(sys.argv[2]) if len(sys.argv) > 2 else random.randrange(1 << 32)
-    print(f"seed {seed}", flush=True)
+    global PROGRAM
+    words = argparse.ArgumentParser(description="compares what the built program lists of logs with segment switches")
+    words.add_argument("--program", default=PROGRAM, help="another build")
+    words.add_argument("trials", nargs="?", type=int, default=100)
+    words.add_argument("seed", nargs="?", type=int, default=random.randrange(1 << 32))
+    asked = words.parse_args()
+    PROGRAM = os.path.realpath(asked.program)
+    print(f"seed {asked.seed}", flush=True)
     failed = 0
-    for number in range(trials):
-        said = trial(random.Random(f"{seed} {number}"))
+    for number in range(asked.trials):
+        said = trial(random.Random(f"{asked.seed} {number}"))
         if said:
             failed += 1
-            print(f"trial {number} of seed {seed}: {said}")
-    print(f"{trials - failed} passed, {failed} failed")
+            print(f"trial {number} of seed {asked.seed}: {said}")
+    print(f"{asked.trials - failed} passed, {failed} failed")
     sys.exit(1 if failed else 0)
 
 

@@ -6,8 +6,9 @@ log is that of the one. Two `run --append`s, where the program knows the word: e
 there, then what those with 0 wrote, one behind the other. A `dump` beside them lists a front of what is there at the end. A
 writer that is stopped keeps its lock: another one ends with 4 and changes nothing. One that is killed leaves no lock.
 
-Usage: tests/two_writers.py [TRIALS [PROGRAM]] (200 trials of each pair)
+Usage: tests/by_hand/two_writers.py [--program PROGRAM] [TRIALS [SEED]] (200 trials of each pair), by hand, outside `rt ci`
 """
+import argparse
 import collections
 import hashlib
 import os
@@ -19,7 +20,7 @@ import sys
 import tempfile
 import time
 
-TOP = os.path.dirname(os.path.dirname(os.path.abspath(__file__)))
+TOP = os.path.abspath(os.path.join(os.path.dirname(__file__), "..", ".."))
 PROGRAM = os.path.join(TOP, "crates", "pgwal", "out", "pgwal")
 SIZE = ["--seg", "1048576"]
 FIRST = "000000010000000000000001"
@@ -166,9 +167,14 @@ def stopped_and_killed(top, knows_append):
 
 def main():
     global PROGRAM
-    trials = int(sys.argv[1]) if len(sys.argv) > 1 else 200
-    PROGRAM = os.path.realpath(sys.argv[2]) if len(sys.argv) > 2 else PROGRAM
-    chance = random.Random(29)
+    words = argparse.ArgumentParser(description="lets two writers go on at once in one folder")
+    words.add_argument("--program", default=PROGRAM, help="another build")
+    words.add_argument("trials", nargs="?", type=int, default=200)
+    words.add_argument("seed", nargs="?", type=int, default=29)
+    asked = words.parse_args()
+    PROGRAM = os.path.realpath(asked.program)
+    trials = asked.trials
+    chance = random.Random(asked.seed)
     with tempfile.TemporaryDirectory() as top:
         with tempfile.TemporaryDirectory(dir=top) as folder:
             knows_append = call(folder, "run", "--append")[0] != 2

@@ -1,7 +1,7 @@
 # Sourced by the scripts beside it: a temporary folder, which is removed at the end, and checks that are
 # counted. `top` is the repository's folder, `base` the temporary one, `size` a segment's size in bytes.
 set -u
-top=$(cd "$(dirname "${BASH_SOURCE[0]}")/.." && pwd) || exit 1
+top=$(cd "$(dirname "${BASH_SOURCE[0]}")/../.." && pwd) || exit 1
 base=$(mktemp -d) || exit 1
 trap 'rm -rf "$base"' EXIT
 passed=0

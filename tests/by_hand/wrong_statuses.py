@@ -1,8 +1,8 @@
 #!/usr/bin/env python3
 """Tries the status: a program that always ends with the same one has to be refused.
 
-    tests/wrong_statuses.py            tries the statuses from 2 to 9
-    tests/wrong_statuses.py NUMBER..   tries these
+    tests/by_hand/wrong_statuses.py            tries the statuses from 2 to 9
+    tests/by_hand/wrong_statuses.py NUMBER..   tries these
 
 That the status is always 0 is a must-fail edit of backend_cli, where each edit takes as long as the
 proof: so the others are tried by hand, outside `rt ci`. In a copy of the repository the topmost call
@@ -18,7 +18,7 @@ import shutil
 import subprocess
 import tempfile
 
-TOP = pathlib.Path(__file__).resolve().parent.parent
+TOP = pathlib.Path(__file__).resolve().parents[2]
 FILE = "crates/backend_cli/src/program.rt"
 TEXT = "status: outcome.status(),"
 CALL = "pgwal"

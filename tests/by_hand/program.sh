@@ -3,8 +3,8 @@
 # side in one folder, names that are in the way, segments that were lost or cut or cannot be opened,
 # what a run leaves in its folder, and little memory.
 #
-#     tests/program.sh            tries what the launcher ./pgwal starts
-#     tests/program.sh PROGRAM    tries another build
+#     tests/by_hand/program.sh            tries what the launcher ./pgwal starts
+#     tests/by_hand/program.sh PROGRAM    tries another build
 #
 # It is run by hand, outside `rt ci`. Each check has a folder of its own below a temporary one,
 # which is removed. Prints a line for each check that failed, and at the end 'N passed, M failed';

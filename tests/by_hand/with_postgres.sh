@@ -3,9 +3,9 @@
 # transactions, addresses and block references, line by line. The log has inserts, an update of an index, a checkpoint,
 # segment switches and logical messages.
 #
-#     tests/with_postgres.sh [PROGRAM]                    with PostgreSQL 16
-#     tests/with_postgres.sh --other-version [PROGRAM]    with another one: a copy is listed, whose pages have version 16's
-#                                                         magic number
+#     tests/by_hand/with_postgres.sh [PROGRAM]                    with PostgreSQL 16
+#     tests/by_hand/with_postgres.sh --other-version [PROGRAM]    with another one: a copy is listed,
+#                                                                 whose pages have version 16's magic number
 #
 # It tries what the launcher ./pgwal starts, or another build, and is run by hand, outside `rt ci`. The programs of PostgreSQL
 # are those beside the `pg_config` that is found; as root they run as the user postgres. Folders are temporary ones. Prints
