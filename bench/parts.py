@@ -25,7 +25,7 @@ PARTS = (
     ("memory", r"malloc|\bfree$|_int_free|unlink_chunk|arena|rattle_alloc|rattle_dealloc|realloc"
      r"|Vec::drop|\bbytes::"),
     ("copies and clearing by the C library", r"memmove|memcpy|memset"),
-    ("the script's text", r"\bwal_script::|\btext_parts::|\bdecimal_numbers::"),
+    ("the script's text", r"\bwal_script::|\btext_parts::"),
     ("assembling", r"record_spelling::(body::Body::assemble|assembly|blocks|refusing)"),
     ("the insert", r"wal_log::(inserting|copying)|\breserve_lock::|\binsert_locks::|word_ring::copying"
      r"|\bwal_page::|\brecord_spelling::"),

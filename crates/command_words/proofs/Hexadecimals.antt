@@ -3,7 +3,7 @@ use Rattle.std.proofs.Common.{◌≡◌, ℕ, ◌+◌, ◌*◌, ◌^◌, ◌<◌
 use Rattle.std.specs.List.{list_all}
 use Rattle.std.specs.Int.Digits.{number_from_digits, number_from_digits_after}
 use Rattle.std.proofs.Math.Nat.{pow-le-pow_right, pow-suc}
-use Rattle.decimal_numbers.specs.Hexadecimal.{hexadecimal_digit, is_hexadecimal_digit}
+use Rattle.text_parts.specs.Hexadecimal.{hexadecimal_digit, is_hexadecimal_digit}
 
 -- the value so far and the digits that are left make the number
 pub record IsReadTo (digits : List ℕ) (i value : ℕ) : Type 0 where

@@ -6,8 +6,8 @@ use Rattle.std.specs.Str.{bytes_eq}
 use Rattle.byte_position.specs.Geometry.{is_segment_size}
 use Rattle.command_words.specs.declared.commands.CrashPick.{CrashPick}
 use Rattle.command_words.specs.declared.commands.CrashPick.TheVariants.{Old, New, Odd}
-use Rattle.decimal_numbers.specs.Hexadecimal.{hexadecimal_digit, is_hexadecimal_digit}
-use Rattle.decimal_numbers.specs.Numbers.{number_of}
+use Rattle.text_parts.specs.Hexadecimal.{hexadecimal_digit, is_hexadecimal_digit}
+use Rattle.text_parts.specs.Numbers.{number_of}
 use Rattle.listing_filter.specs.Names.{is_same_name, own_manager_of}
 use Rattle.wal_types.specs.declared.lsn.Lsn.{Lsn}
 use Rattle.wal_types.specs.declared.record.Rel.{Rel}

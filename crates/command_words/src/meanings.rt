@@ -6,7 +6,7 @@ ghost use Rattle.command_words.specs.Meanings.{block_number_of, cap_segments_of,
 
 use crate::commands::CrashPick;
 use byte_position::Geometry;
-use decimal_numbers::{hexadecimal_digit, number};
+use text_parts::{hexadecimal_digit, number};
 use wal_types::{Lsn, MAX_BLOCK_NUMBER, Rel, Xid};
 
 const MIN_RING_PAGES: u64 = 4;

@@ -7,7 +7,7 @@ use Rattle.std.proofs.lemmas.List.{length-append, length-replicate}
 use Rattle.std.proofs.lemmas.List.Concat.{flat_map-append}
 use Rattle.std.proofs.lemmas.List.Elements.{All-nil, All-cons, All-append, All-replicate}
 use Rattle.std.proofs.lemmas.List.Sums.{sum_by-cons, sum_by_push}
-use Rattle.decimal_numbers.specs.Numbers.{number_of}
+use Rattle.text_parts.specs.Numbers.{number_of}
 use Rattle.replay_schedule.specs.declared.item.Item.{Item}
 use Rattle.replay_schedule.specs.Items.{IsPlayable, item_from, item_with, item_of}
 use Rattle.replay_schedule.specs.Meaning.{◌>>=◌, after_item, after_word, after_words, after_line, after_lines, schedule_of}

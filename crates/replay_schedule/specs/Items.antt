@@ -1,7 +1,7 @@
 -- What one item of a schedule spells: a backend, or a backend and how many turns it has.
 use Rattle.std.specs.Prelude.{ℕ, ◌-◌, ◌^◌, ◌<◌, ◌&&◌, List, [], ◌∷◌, Option, Some, None, ◌==◌, nat_lt, if◌then◌else◌}
 use Rattle.std.specs.List.{slice_split}
-use Rattle.decimal_numbers.specs.Numbers.{number_of}
+use Rattle.text_parts.specs.Numbers.{number_of}
 use Rattle.replay_schedule.specs.declared.item.Item.{Item}
 
 -- an item with a turn, of a backend that is there, among so many

@@ -1,8 +1,7 @@
 ghost use Rattle.std.specs.Prelude.{◌≡◌};
 ghost use Rattle.replay_schedule.specs.Items.{item_of};
 
-use decimal_numbers::number;
-use text_parts::Parts;
+use text_parts::{Parts, number};
 
 // How many turns one item may have.
 const MOST_IN_ITEM: u64 = 1_000_000;

@@ -4,7 +4,7 @@ use command_words::{
     Command, CrashPick, GivenWords, RunOptions, block_number, cap_segments, crash, fork, limit,
     line_count, lsn, manager, relation, ring_pages, segment_size, writer_lines, xid,
 };
-use decimal_numbers::{hexadecimal_digit, number, time};
+use text_parts::{hexadecimal_digit, number, time};
 use wal_types::{Lsn, Rel, Xid};
 
 // The words of a command line with a command's name, and maybe a word behind it.

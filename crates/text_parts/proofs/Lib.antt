@@ -1,2 +1,3 @@
 mod Blocks
 pub mod Cuts
+pub mod Decimals

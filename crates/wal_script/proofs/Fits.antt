@@ -4,8 +4,8 @@ use Rattle.std.specs.Prelude.{codes, replicate, if◌then◌else◌}
 use Rattle.std.proofs.lemmas.Bool.{cases_Bool, and_parts}
 use Rattle.std.proofs.lemmas.List.Elements.{All-nil, All-cons, All-replicate}
 use Rattle.wal_script.specs.Text.{is_text}
-use Rattle.decimal_numbers.specs.Numbers.{is_decimal, decimal_value, number_of}
-use Rattle.decimal_numbers.specs.Hexadecimal.{hexadecimal_value}
+use Rattle.text_parts.specs.Numbers.{is_decimal, decimal_value, number_of}
+use Rattle.text_parts.specs.Hexadecimal.{hexadecimal_value}
 use Rattle.wal_script.specs.Hexadecimal.{pair_of, byte_spelled, onto, bytes_of, above_zero, copies, repeated_of, has_star, data_of}
 
 abbrev IsByte : ℕ → Type 0

@@ -9,7 +9,7 @@ use Rattle.record_spelling.specs.declared.fault.BodyErr.TheVariants as refusals
 use Rattle.record_spelling.specs.Record.{plain_record}
 use Rattle.record_spelling.specs.Refusal.{RefusesToAssemble, refusal_of}
 use Rattle.record_spelling.specs.Spelling.{Assembled}
-use Rattle.decimal_numbers.specs.Numbers.{number_of}
+use Rattle.text_parts.specs.Numbers.{number_of}
 use Rattle.wal_types.specs.declared.record.Record.{Record}
 use Rattle.wal_script.specs.declared.line.Action.TheVariants as actions
 use Rattle.wal_script.specs.declared.line.Line.{Line}

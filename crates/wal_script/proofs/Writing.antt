@@ -18,7 +18,7 @@ use Rattle.wal_script.specs.declared.line.Refusal.{Refusal}
 use Rattle.wal_script.specs.declared.line.ScriptFault.{ScriptFault}
 use Rattle.wal_script.specs.declared.line.ScriptFault.TheVariants as faults
 use Rattle.wal_script.specs.Text.{is_text, lines_of, fields_of}
-use Rattle.decimal_numbers.specs.Numbers.{number_of, time_of}
+use Rattle.text_parts.specs.Numbers.{number_of, time_of}
 use Rattle.wal_script.specs.Hexadecimal.{byte_spelled, data_of}
 use Rattle.wal_script.specs.Blocks.{references_from}
 use Rattle.wal_script.specs.Meaning.{LineMeaning, passes, asks, refuses, assembly_fault, unless, accepted, record_spelled, insert_of, commit_record, commit_of, alone_asks, asks_as, line_with, line_of, then_line, lines_meaning, script_limit, backend_meaning}

@@ -1,7 +1,7 @@
 -- Bytes as scripts spell them.
 use Rattle.std.specs.Prelude.{ℕ, ◌+◌, ◌-◌, ◌*◌, Bool, ◌&&◌, List, [], ◌∷◌, length, take, drop, replicate, slice_index, Option, Some, None, codes, ◌==◌, nat_le, if◌then◌else◌}
-use Rattle.decimal_numbers.specs.Hexadecimal.{hexadecimal_value}
-use Rattle.decimal_numbers.specs.Numbers.{number_of}
+use Rattle.text_parts.specs.Hexadecimal.{hexadecimal_value}
+use Rattle.text_parts.specs.Numbers.{number_of}
 use Rattle.wal_script.specs.Text.{is_text}
 
 -- a byte by the values of its two digits

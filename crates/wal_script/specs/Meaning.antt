@@ -12,7 +12,7 @@ use Rattle.wal_script.specs.declared.line.ScriptFault.{ScriptFault}
 use Rattle.wal_script.specs.declared.line.ScriptFault.TheVariants as faults
 use Rattle.wal_script.specs.Asked.{Asked, AskedLine, Insert, Commit, Flush, CommitAsync, WriteBehind, Switch}
 use Rattle.wal_script.specs.Text.{is_text, lines_of, fields_of}
-use Rattle.decimal_numbers.specs.Numbers.{number_of, time_of}
+use Rattle.text_parts.specs.Numbers.{number_of, time_of}
 use Rattle.wal_script.specs.Hexadecimal.{byte_spelled, data_of}
 use Rattle.wal_script.specs.Blocks.{references_from}
 use Rattle.wal_script.specs.Fields.{◌>>=◌, next_as, no_more}

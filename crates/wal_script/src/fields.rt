@@ -3,15 +3,14 @@
 ghost use Rattle.std.specs.Prelude.{◌≡◌, ◌-◌, ◌^◌, ◌≤◌, IfOk};
 ghost use Rattle.wal_script.specs.Fields.{next_as, no_more};
 ghost use Rattle.wal_script.specs.Hexadecimal.{byte_spelled};
-ghost use Rattle.decimal_numbers.specs.Numbers.{number_of, time_of};
+ghost use Rattle.text_parts.specs.Numbers.{number_of, time_of};
 ghost use Rattle.wal_script.specs.Reading.{Judges, JudgesAs};
 ghost use Rattle.wal_script.specs.declared.line.ScriptFault.TheVariants as faults;
 
 use crate::hexadecimal::byte;
 use crate::line::ScriptFault;
 use crate::line_error::LineError;
-use decimal_numbers::{number, time};
-use text_parts::Parts;
+use text_parts::{Parts, number, time};
 
 // The next field as a number of at most `most`.
 #[inline(always)]

@@ -2,14 +2,14 @@
 
 ghost use Rattle.std.specs.Prelude.{◌≡◌, [], ◌∷◌};
 ghost use Rattle.std.specs.Option.{ok_or};
-ghost use Rattle.decimal_numbers.specs.Hexadecimal.{hexadecimal_value};
+ghost use Rattle.text_parts.specs.Hexadecimal.{hexadecimal_value};
 ghost use Rattle.wal_script.specs.Hexadecimal.{byte_spelled, bytes_of, data_of, pair_of, repeated_of};
 ghost use Rattle.wal_script.specs.Reading.{Appends, Judges};
 ghost use Rattle.wal_script.specs.declared.line.ScriptFault.TheVariants as faults;
 
 use crate::line::ScriptFault;
 use crate::line_error::LineError;
-use decimal_numbers::{hexadecimal_digit, number};
+use text_parts::{hexadecimal_digit, number};
 use std::alloc::Global;
 use wal_types::Bytes;
 

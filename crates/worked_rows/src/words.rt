@@ -2,7 +2,7 @@
 
 use crate::halt::Halt;
 use command_words::lsn;
-use decimal_numbers::hexadecimal_digit;
+use text_parts::hexadecimal_digit;
 use std::alloc::{AllocError, Global};
 
 /// What stands before the first blank, and what behind it.

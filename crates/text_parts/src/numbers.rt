@@ -1,5 +1,5 @@
 ghost use Rattle.std.specs.Prelude.{◌≡◌, ◌<◌, IfSome};
-ghost use Rattle.decimal_numbers.specs.Numbers.{digit_of, number_of, time_of};
+ghost use Rattle.text_parts.specs.Numbers.{digit_of, number_of, time_of};
 
 // As many digits as the largest number of 64 bits has.
 const MOST_DIGITS: usize = 20;

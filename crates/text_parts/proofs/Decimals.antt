@@ -6,7 +6,7 @@ use Rattle.std.proofs.lemmas.Int.Digits.{number_after_ge}
 use Rattle.std.proofs.Math.Bool.{and-false}
 use Rattle.std.proofs.lemmas.Bool.{lt-leb}
 use Rattle.std.proofs.lemmas.List.{drop_more}
-use Rattle.decimal_numbers.specs.Numbers.{is_digit, decimal_value, number_of}
+use Rattle.text_parts.specs.Numbers.{is_digit, decimal_value, number_of}
 
 -- the value so far and the digits that are left make the field's number
 pub record IsReadTo (field : List ℕ) (i value : ℕ) : Type 0 where

@@ -1,5 +1,5 @@
 ghost use Rattle.std.specs.Prelude.{◌≡◌, ◌<◌, IfSome};
-ghost use Rattle.decimal_numbers.specs.Hexadecimal.{hexadecimal_value};
+ghost use Rattle.text_parts.specs.Hexadecimal.{hexadecimal_value};
 
 /// The value of a hexadecimal digit, in either case.
 #[inline(always)]

@@ -1,6 +1,6 @@
 use Rattle.std.proofs.Common.{sym, arith}
-use Rattle.decimal_numbers.proofs.Decimals.{number_of_too_large}
-use Rattle.decimal_numbers.proofs.numbers.any_number.Goals as goal
+use Rattle.text_parts.proofs.Decimals.{number_of_too_large}
+use Rattle.text_parts.proofs.numbers.any_number.Goals as goal
 
 pub returns-in_err-checked_mul : goal.returns-in_err-checked_mul
 returns-in_err-checked_mul c =

@@ -1,2 +1,0 @@
-pub mod Hexadecimal
-pub mod Numbers
