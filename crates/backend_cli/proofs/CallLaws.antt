@@ -4,7 +4,7 @@ use Rattle.std.proofs.lemmas.List.{append_cancel_left}
 use Rattle.wal_script.specs.Asked.{AskedLine}
 use Rattle.wal_script.specs.Run.{run_meaning}
 use Rattle.wal_script.specs.declared.line.Refusal.{Refusal}
-use Rattle.generated_lines.specs.Generated.{generated_script}
+use Rattle.wal_script.specs.Generated.{generated_script}
 use Rattle.told_lines.specs.declared.told.Told.{Told}
 use Rattle.command_words.specs.declared.commands.GenOptions.{GenOptions}
 use Rattle.command_words.specs.declared.commands.ScriptRunOptions.{ScriptRunOptions}

@@ -28,7 +28,7 @@ use Rattle.wal_script.specs.Run.{run_meaning}
 use Rattle.wal_script.specs.declared.line.Refusal.{Refusal}
 use Rattle.told_lines.specs.declared.told.Told.{Told}
 use Rattle.told_lines.specs.Rooms.{all_rooms_asked, capacity_of}
-use Rattle.generated_lines.specs.Generated.{generated_script}
+use Rattle.wal_script.specs.Generated.{generated_script}
 use Rattle.command_words.specs.declared.commands.RunOptions.{RunOptions}
 use Rattle.command_words.specs.declared.commands.ScriptRunOptions.{ScriptRunOptions}
 use Rattle.backend_cli.specs.Appending.{EndsUnappended, HoldsAppended, WasLeftSo}

@@ -4,8 +4,8 @@ use Rattle.std.proofs.lemmas.List.{drop_more}
 use Rattle.std.proofs.lemmas.List.Concat.{flat_map-cons}
 use mathlib.Core.Option.{none, some}
 use lib.ListN.{get_elem?}
-use Rattle.replay_schedule.specs.declared.item.Item.{Item}
-use Rattle.replay_schedule.specs.Turns.{backends_in_turn}
+use Rattle.wal_script.specs.declared.item.Item.{Item}
+use Rattle.wal_script.specs.Turns.{backends_in_turn}
 use Rattle.wal_core.specs.Views.{View}
 use Rattle.wal_core.specs.Words.{down_word}
 use Rattle.wal_core.specs.Moves.{is_done}

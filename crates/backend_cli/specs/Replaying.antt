@@ -18,7 +18,7 @@ use Rattle.wal_turns.specs.Begun.{first_machine}
 use Rattle.wal_turns.specs.Doing.{Ask, Backend, Commits, Flushes, Inserts, Machine}
 use Rattle.wal_turns.specs.Turned.{machine_behind}
 use Rattle.machine_core.specs.Cores.{HasWriter, first_opening}
-use Rattle.replay_schedule.specs.Turns.{backends_in_turn}
+use Rattle.wal_script.specs.Turns.{backends_in_turn}
 use Rattle.wal_script.specs.Asked.{Asked, AskedLine, Commit, CommitAsync, Flush, Insert, Switch, WriteBehind}
 use Rattle.wal_script.specs.Replay.{ReplayMeaning, replay_meaning}
 use Rattle.waldump_text.specs.Dump.{IsDump}

@@ -15,7 +15,7 @@ use Rattle.told_lines.specs.Rooms.{all_rooms_asked, capacity_of}
 use Rattle.command_words.specs.declared.commands.GenOptions.{GenOptions}
 use Rattle.command_words.specs.declared.commands.RunOptions.{RunOptions}
 use Rattle.command_words.specs.declared.commands.ScriptRunOptions.{ScriptRunOptions}
-use Rattle.generated_lines.specs.Generated.{generated_script}
+use Rattle.wal_script.specs.Generated.{generated_script}
 use Rattle.told_lines.specs.Whole.{IsWhole}
 use Rattle.wal_page.specs.Order.{rooms_of}
 use Rattle.wal_core.specs.Words.{Opening}

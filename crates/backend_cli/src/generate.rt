@@ -1,6 +1,6 @@
 ghost use Rattle.std.specs.Prelude.{◌≡◌, ◌≤◌, IfOk};
 ghost use Rattle.command_words.specs.Given.{IsShapeInRange};
-ghost use Rattle.generated_lines.specs.Generated.{generated_script};
+ghost use Rattle.wal_script.specs.Generated.{generated_script};
 ghost use Rattle.backend_cli.specs.Outside.{SourceView, outside_of};
 ghost use Rattle.backend_cli.specs.Prepared.{IsPreparedFor};
 ghost use Rattle.backend_cli.specs.Run.{GenHolds};
@@ -10,8 +10,8 @@ use crate::run::{Finished, run_prepared};
 use crate::told::ToldLists;
 use backend_lanes::{Gate, Room};
 use command_words::GenOptions;
-use generated_lines::generate;
-use generated_lines::laws::four_backends_have_as_many_lines;
+use wal_script::generate;
+use wal_script::generated_laws::four_backends_have_as_many_lines;
 use segment_disk::{Disk, Sink};
 use std::alloc::{AllocError, Global};
 use std::sync::Wait;

@@ -30,7 +30,7 @@ use Rattle.reopened_log.proofs.FirstEntries.{left_logs_are_read}
 use Rattle.reopened_log.proofs.KeptLives.{KeepsSure, failed_keeps, none_kept, settled_keeps, uncalled_keeps, with_left}
 use Rattle.reopened_log.proofs.KeptRecords.{IsSureRecord}
 use Rattle.reopened_log.proofs.Surviving.{some_tape}
-use Rattle.generated_lines.specs.Generated.{generated_script}
+use Rattle.wal_script.specs.Generated.{generated_script}
 use Rattle.command_words.specs.declared.commands.RunOptions.{RunOptions}
 use Rattle.command_words.specs.declared.commands.ScriptRunOptions.{ScriptRunOptions}
 use Rattle.backend_cli.specs.declared.outcome.Outcome.{Outcome}

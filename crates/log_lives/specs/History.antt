@@ -18,7 +18,7 @@ use Rattle.told_lines.specs.declared.told.Told.{Told}
 use Rattle.told_lines.specs.Crash.{SaysDurable}
 use Rattle.told_lines.specs.Told.{order_from}
 use Rattle.reopened_log.specs.Lives.{LifeEndsAt}
-use Rattle.generated_lines.specs.Generated.{generated_script}
+use Rattle.wal_script.specs.Generated.{generated_script}
 use Rattle.command_words.specs.declared.commands.GenOptions.{GenOptions}
 use Rattle.command_words.specs.declared.commands.RunOptions.{RunOptions}
 use Rattle.command_words.specs.declared.commands.ScriptRunOptions.{ScriptRunOptions}

@@ -1,10 +1,9 @@
 //! What is read of scripts: of one backend, of a run, of a replay, and of a schedule alone.
 
 use bumpalo::Bump;
-use replay_schedule::Item;
+use wal_script::{Action, Item, Line, ParseError, Refusal, ScriptFault, parse, parse_replay, parse_run, parse_schedule};
 use std::process::Abort;
 use std::test::Fail;
-use wal_script::{Action, Line, ParseError, Refusal, ScriptFault, parse, parse_replay, parse_run};
 
 // The letter of the line that asks for an action.
 fn letter(action: &Action) -> u8 {
@@ -97,7 +96,7 @@ fn the_script_of_a_replay_is_read(rt: HostRuntime) -> Result<(), Fail> {
 fn ten_million_turns_are_taken(rt: HostRuntime) {
     let text = b"0*1000000 0*1000000 0*1000000 0*1000000 0*1000000\n\
         1*1000000 1*1000000 1*1000000 1*1000000 1*1000000";
-    let Ok(schedule) = replay_schedule::parse(rt.alloc(), text, 7, 2) else {
+    let Ok(schedule) = parse_schedule(rt.alloc(), text, 7, 2) else {
         panic!(rt; "refused");
     };
     assert_eq!(rt; schedule.items().len(), 10);

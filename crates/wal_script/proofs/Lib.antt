@@ -2,6 +2,8 @@ pub mod BlockLists
 pub mod Cuts
 pub mod Fits
 pub mod FittingBlocks
+pub mod GeneratedScripts
+pub mod GeneratedWriting
 pub mod Inserts
 pub mod Pairs
 pub mod ReplayLaws
@@ -11,5 +13,6 @@ pub mod Runs
 pub mod Scripts
 pub mod SeveralBackends
 pub mod Steps
+pub mod Turns
 pub mod Words
 pub mod Writing

@@ -3,10 +3,10 @@ use Rattle.std.proofs.Common.{◌≡◌, ℕ, ◌+◌, ◌<◌, ◌≤◌, List,
 use Rattle.std.specs.Prelude.{◌||◌, IfOk, if◌then◌else◌}
 use Rattle.std.proofs.lemmas.Bool.{cond_both, or_parts}
 use Rattle.std.proofs.lemmas.List.Elements.{All-nil, All-cons, All-append}
-use Rattle.replay_schedule.specs.declared.item.Item.{Item}
-use Rattle.replay_schedule.specs.Meaning.{after_lines}
-use Rattle.replay_schedule.specs.Turns.{backends_in_turn, most_turns}
-use Rattle.replay_schedule.proofs.Turns.{lines_are_of_backends, lines_are_within}
+use Rattle.wal_script.specs.declared.item.Item.{Item}
+use Rattle.wal_script.specs.ScheduleMeaning.{after_lines}
+use Rattle.wal_script.specs.Turns.{backends_in_turn, most_turns}
+use Rattle.wal_script.proofs.Turns.{lines_are_of_backends, lines_are_within}
 use Rattle.wal_script.specs.declared.line.Refusal.{Refusal}
 use Rattle.wal_script.specs.declared.line.ScriptFault.TheVariants as faults
 use Rattle.wal_script.specs.Asked.{Asked, AskedLine, Insert, Commit}

@@ -1,7 +1,7 @@
 -- What a replay's script means, by its backends and its schedule.
 use Rattle.std.proofs.Common.{◌≡◌, ℕ, ◌≤◌, List, length, [], true, Result, Ok, Err, ltb, refl, ap, ◌∙◌, le-ltb}
 use Rattle.std.specs.Prelude.{if◌then◌else◌}
-use Rattle.replay_schedule.specs.declared.item.Item.{Item}
+use Rattle.wal_script.specs.declared.item.Item.{Item}
 use Rattle.wal_script.specs.declared.backends.Backends.{Backends}
 use Rattle.wal_script.specs.declared.line.Refusal.{Refusal}
 use Rattle.wal_script.specs.declared.parser.ParseError.{ParseError}

@@ -12,3 +12,8 @@ pub mod ReplayReading
 pub mod Run
 pub mod RunReading
 pub mod Writable
+pub mod Items
+pub mod ScheduleMeaning
+pub mod ScheduleReading
+pub mod Turns
+pub mod Generated

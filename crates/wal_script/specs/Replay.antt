@@ -1,7 +1,7 @@
 -- What the script of a replay means: lines for each of several backends, and a schedule.
 use Rattle.std.specs.Prelude.{ℕ, ◌+◌, Bool, true, false, ◌&&◌, ◌||◌, List, [], ◌∷◌, ◌++◌, length, Option, Some, None, Result, Ok, Err, codes, ◌==◌, nat_lt, if◌then◌else◌}
-use Rattle.replay_schedule.specs.declared.item.Item.{Item}
-use Rattle.replay_schedule.specs.Meaning.{after_lines}
+use Rattle.wal_script.specs.declared.item.Item.{Item}
+use Rattle.wal_script.specs.ScheduleMeaning.{after_lines}
 use Rattle.wal_script.specs.declared.line.Refusal.{Refusal}
 use Rattle.wal_script.specs.declared.line.ScriptFault.{ScriptFault}
 use Rattle.wal_script.specs.declared.line.ScriptFault.TheVariants as faults

@@ -2,9 +2,9 @@
 -- part of the meaning.
 use Rattle.std.specs.Prelude.{◌≡◌, ℕ, ◌+◌, ◌<◌, ◌≤◌, IfSome, length, List, [], ◌∷◌, Option, Some, None, Result, Ok, Err}
 use Rattle.std.specs.Global.{Vec}
-use Rattle.replay_schedule.specs.declared.item.Item.{Item}
-use Rattle.replay_schedule.specs.declared.schedule.ScheduleError.{ScheduleError}
-use Rattle.replay_schedule.specs.declared.schedule.ScheduleError.TheVariants as schedule_errors
+use Rattle.wal_script.specs.declared.item.Item.{Item}
+use Rattle.wal_script.specs.declared.schedule.ScheduleError.{ScheduleError}
+use Rattle.wal_script.specs.declared.schedule.ScheduleError.TheVariants as schedule_errors
 use Rattle.text_parts.specs.Parts.{bytes_left, parts_left}
 use Rattle.wal_script.specs.declared.backends.Backends.{Backends}
 use Rattle.wal_script.specs.declared.backends.ScheduleText.{ScheduleText}

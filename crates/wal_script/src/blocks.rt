@@ -8,8 +8,8 @@ use crate::hexadecimal::data;
 use crate::images::image;
 use crate::line::ScriptFault;
 use crate::line_error::LineError;
-use text_parts::{Parts, number};
 use std::alloc::Global;
+use text_parts::{Parts, number};
 use wal_types::{Block, BlockList, MAX_BLOCK_NUMBER, Rel};
 
 /// A relation's fork, and whether redo makes the page anew.

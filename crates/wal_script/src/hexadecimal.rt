@@ -9,8 +9,8 @@ ghost use Rattle.wal_script.specs.declared.line.ScriptFault.TheVariants as fault
 
 use crate::line::ScriptFault;
 use crate::line_error::LineError;
-use text_parts::{hexadecimal_digit, number};
 use std::alloc::Global;
+use text_parts::{hexadecimal_digit, number};
 use wal_types::Bytes;
 
 // How many bytes `COUNT*hh` may spell.

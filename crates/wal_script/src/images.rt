@@ -8,9 +8,9 @@ use crate::hexadecimal::byte;
 use crate::line::ScriptFault;
 use crate::line_error::LineError;
 use crate::text::is_dash;
-use text_parts::{Parts, number};
 use record_spelling::layout::PAGE_LEN;
 use std::alloc::Global;
+use text_parts::{Parts, number};
 use wal_types::{Bytes, Image};
 
 /// The byte that an image has outside its hole, and whether redo applies the image.

@@ -1,7 +1,7 @@
 //! What holds of each script that is read. The functions do nothing: their contracts are the laws.
 
 ghost use Rattle.std.specs.Prelude.{◌≡◌, ℕ, ◌<◌, ◌≤◌, All, IfOk, List, Option, length};
-ghost use Rattle.replay_schedule.specs.Turns.{backends_in_turn, most_turns};
+ghost use Rattle.wal_script.specs.Turns.{backends_in_turn, most_turns};
 ghost use Rattle.wal_script.specs.Meaning.{backend_meaning, meaning_of};
 ghost use Rattle.wal_script.specs.Replay.{IsOfReplay, most_backends, replay_meaning};
 ghost use Rattle.wal_script.specs.Run.{StaysInBackend, backends_meaning, run_meaning};

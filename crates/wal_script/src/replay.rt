@@ -8,7 +8,8 @@ ghost use Rattle.wal_script.specs.ReplayReading.{GivesReplay, GivesSchedule, sch
 use crate::backends::{ScheduleText, read_backends};
 use crate::line::{Line, Refusal, ScriptFault};
 use crate::parser::{ParseError, SCRIPT_LIMIT, within_limit};
-use replay_schedule::{Schedule, ScheduleError};
+use crate::schedule::{Schedule, ScheduleError};
+use crate::schedule_parser::parse_schedule;
 use std::alloc::Global;
 
 /// What a replay does.
@@ -71,7 +72,7 @@ fn read_schedule(
                 number,
                 text: Some(text),
             },
-        ) => Ok(replay_schedule::parse(alloc, text, number + 1, backends)?),
+        ) => Ok(parse_schedule(alloc, text, number + 1, backends)?),
         _ => Ok(Schedule::empty(alloc)),
     }
 }

@@ -1,7 +1,7 @@
 use Rattle.std.proofs.Common.{◌≡◌, ◌≤◌, List, length, sym, subst, ap, ◌∙◌}
 use Rattle.std.proofs.lemmas.List.{drop_all}
-use Rattle.replay_schedule.specs.declared.item.Item.{Item}
-use Rattle.replay_schedule.specs.Turns.{backends_in_turn}
+use Rattle.wal_script.specs.declared.item.Item.{Item}
+use Rattle.wal_script.specs.Turns.{backends_in_turn}
 use Rattle.wal_turns.specs.Turned.{machine_behind}
 use Rattle.machine_core.specs.Cores.{core_of}
 use Rattle.machine_core.specs.Playing.{PlaysMachine}

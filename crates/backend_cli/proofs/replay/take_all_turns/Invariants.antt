@@ -1,5 +1,5 @@
 use Rattle.std.proofs.Common.{◌≡◌, drop}
-use Rattle.replay_schedule.specs.Turns.{backends_in_turn}
+use Rattle.wal_script.specs.Turns.{backends_in_turn}
 use Rattle.wal_turns.specs.Doing.{Machine}
 use Rattle.wal_turns.specs.Turned.{machine_behind}
 use Rattle.machine_core.specs.Cores.{IsPlayed, core_of}

@@ -1,4 +1,4 @@
-use Rattle.std.proofs.Common.{◌≡◌, ℕ, None, Some, ap, ◌∙◌, subst}
+use Rattle.std.proofs.Common.{ℕ, None, Some, ap, ◌∙◌, subst}
 use Rattle.wal_script.specs.Run.{run_meaning, with_log_writer}
 use Rattle.wal_script.specs.RunReading.{GivesRun}
 use Rattle.wal_script.proofs.Runs.{run_means}

@@ -1,4 +1,0 @@
-pub mod Items
-pub mod Meaning
-pub mod Reading
-pub mod Turns
