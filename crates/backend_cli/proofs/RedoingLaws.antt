@@ -6,7 +6,7 @@ use Rattle.wal_reader.specs.declared.standing.ReadErr.TheVariants.{Memory, Disk,
 use Rattle.waldump_text.specs.declared.dumping.DumpErr.{DumpErr}
 use Rattle.waldump_text.specs.declared.dumping.DumpErr.TheVariants.{Read, Sink}
 use Rattle.waldump_text.specs.Dump.{HasDumpCause}
-use Rattle.redo_text.specs.RedoListing.{IsRedoListing}
+use Rattle.wal_redo.specs.RedoListing.{IsRedoListing}
 use Rattle.command_words.specs.declared.commands.RedoOptions.{RedoOptions}
 use Rattle.backend_cli.specs.Outside.{Outside}
 use Rattle.backend_cli.specs.declared.outcome.Outcome.{Outcome}

@@ -2,7 +2,7 @@
 use Rattle.std.specs.Prelude.{◌≡◌, ℕ, List, [], IfSome}
 use Rattle.segment_disk.specs.Tape.{IsNotMade, Tape}
 use Rattle.wal_reader.specs.declared.found.Stopped.{Stopped as LogStop}
-use Rattle.redo_text.specs.RedoListing.{ListsNoRedo, ListsRedo, ListsRedoFront}
+use Rattle.wal_redo.specs.RedoListing.{ListsNoRedo, ListsRedo, ListsRedoFront}
 use Rattle.command_words.specs.declared.commands.RedoOptions.{RedoOptions}
 use Rattle.backend_cli.specs.declared.outcome.Outcome.{Outcome}
 use Rattle.backend_cli.specs.declared.outcome.Outcome.TheVariants.{Done, OutOfMemory, DiskFault, Stopped, SinkFault}

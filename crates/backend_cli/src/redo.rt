@@ -6,7 +6,7 @@ use crate::dump::outcome_of;
 use crate::run::Finished;
 use crate::told::ToldLists;
 use command_words::RedoOptions;
-use redo_text::list_redo;
+use wal_redo::list_redo;
 use segment_disk::{Disk, Sink};
 use std::alloc::Global;
 use wal_types::Lsn;

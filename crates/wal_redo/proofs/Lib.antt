@@ -5,3 +5,5 @@ mod ListedImages
 mod StoreLaws
 mod ImageLaws
 mod CountLaws
+mod LineLaws
+mod ListingLaws

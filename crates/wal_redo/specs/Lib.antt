@@ -4,3 +4,5 @@ pub mod Images
 pub mod Redo
 pub mod MemBlocks
 pub mod Again
+pub mod RedoText
+pub mod RedoListing

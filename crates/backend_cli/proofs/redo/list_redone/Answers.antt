@@ -1,6 +1,6 @@
 use Rattle.std.proofs.Common.{ℕ, refl, subst}
 use Rattle.std.specs.Prelude.{IfSome}
-use Rattle.redo_text.specs.RedoListing.{IsRedoListing}
+use Rattle.wal_redo.specs.RedoListing.{IsRedoListing}
 use Rattle.backend_cli.proofs.RedoingLaws.{redo_holds}
 use Rattle.backend_cli.proofs.redo.list_redone.Goals as goal
 

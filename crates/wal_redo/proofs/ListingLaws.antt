@@ -13,8 +13,8 @@ use Rattle.wal_redo.specs.BlockOrder.{block_order, is_block}
 use Rattle.wal_redo.specs.Images.{puts_in}
 use Rattle.wal_redo.specs.Redo.{IsRedo}
 use Rattle.wal_redo.proofs.BlockMapLaws.{or_else-none}
-use Rattle.redo_text.specs.RedoText.{redo_text}
-use Rattle.redo_text.specs.RedoListing.{IsRedoListing, IsRedoText, ListsBlocks}
+use Rattle.wal_redo.specs.RedoText.{redo_text}
+use Rattle.wal_redo.specs.RedoListing.{IsRedoListing, IsRedoText, ListsBlocks}
 
 -- what a store tells that has these entries
 abbrev pub told_of : List (BlockId × List ℕ) → Option BlockMap

@@ -1,5 +1,5 @@
 use Rattle.std.proofs.Common.{◌≡◌, ◌==◌, not, count_by, take}
-use Rattle.redo_text.proofs.lines.nonzero_in_piece.Given as goal
+use Rattle.wal_redo.proofs.lines.nonzero_in_piece.Given as goal
 
 -- the bytes so far are counted
 abbrev pub invariant-loop-byte : goal.invariant-loop-byte

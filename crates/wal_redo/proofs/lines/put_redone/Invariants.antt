@@ -2,8 +2,8 @@ use Rattle.std.proofs.Common.{◌++◌, length}
 use Rattle.std.specs.List.{flat_map}
 use Rattle.waldump_text.specs.Put.{HasPut}
 use Rattle.wal_redo.specs.MemBlocks.{stored_pages}
-use Rattle.redo_text.specs.RedoText.{block_line, counts_line, redo_text}
-use Rattle.redo_text.proofs.lines.put_redone.Given as goal
+use Rattle.wal_redo.specs.RedoText.{block_line, counts_line, redo_text}
+use Rattle.wal_redo.proofs.lines.put_redone.Given as goal
 
 -- the lines of the blocks that are left are still to be put
 abbrev pub invariant-loop-block : goal.invariant-loop-block

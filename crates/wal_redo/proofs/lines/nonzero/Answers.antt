@@ -1,6 +1,6 @@
 use Rattle.std.proofs.Common.{◌-◌, ◌==◌, not, count_by, length, ap, ◌∙◌, arith}
-use Rattle.redo_text.proofs.LineLaws.{counted_more}
-use Rattle.redo_text.proofs.lines.nonzero.Goals as goal
+use Rattle.wal_redo.proofs.LineLaws.{counted_more}
+use Rattle.wal_redo.proofs.lines.nonzero.Goals as goal
 
 pub loop-piece-init : goal.loop-piece-init
 loop-piece-init c = record {

@@ -5,12 +5,13 @@ ghost use Rattle.std.specs.Map.{keys_of};
 ghost use Rattle.waldump_text.specs.Put.{Puts, joined};
 ghost use Rattle.wal_redo.specs.BlockOrder.{block_order};
 ghost use Rattle.wal_redo.specs.MemBlocks.{stored_pages};
-ghost use Rattle.redo_text.specs.RedoText.{block_line, counts_line, redo_text};
+ghost use Rattle.wal_redo.specs.RedoText.{block_line, counts_line, redo_text};
 
+use crate::block_id::BlockId;
+use crate::mem_blocks::MemBlocks;
 use itoa::Buffer;
 use listing_filter::fork_name;
 use segment_disk::Sink;
-use wal_redo::{BlockId, MemBlocks};
 use waldump_text::{SinkFault, put_all};
 
 // How many bytes of a piece are not 0. The count fits a byte, so sixteen bytes are counted at once.

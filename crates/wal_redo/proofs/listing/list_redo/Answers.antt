@@ -2,8 +2,8 @@ use Rattle.std.proofs.Common.{◌≡◌, [], subst}
 use Rattle.std.specs.Prelude.{IfOk}
 use Rattle.std.proofs.lemmas.Result.{err_from_is_err_and}
 use Rattle.wal_redo.specs.MemBlocks.{stored_pages}
-use Rattle.redo_text.proofs.ListingLaws.{listed_all, listed_front}
-use Rattle.redo_text.proofs.listing.list_redo.Goals as goal
+use Rattle.wal_redo.proofs.ListingLaws.{listed_all, listed_front}
+use Rattle.wal_redo.proofs.listing.list_redo.Goals as goal
 
 pub returns-in_err-put_redone-in-Ok-clause-listed : goal.returns-in_err-put_redone-in-Ok-clause-listed
 returns-in_err-put_redone-in-Ok-clause-listed g c =

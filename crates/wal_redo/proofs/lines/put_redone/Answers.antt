@@ -5,9 +5,9 @@ use Rattle.std.specs.List.{flat_map}
 use Rattle.std.specs.Map.Iter.{deref_pair}
 use Rattle.wal_redo.specs.MemBlocks.{stored_pages}
 use Rattle.waldump_text.proofs.SinkLaws.{HasPut-more, HasPut-none, HasPut-same, Puts-failed, Puts-last}
-use Rattle.redo_text.specs.RedoText.{block_line, counts_line}
-use Rattle.redo_text.proofs.LineLaws.{lines_of, lines_of-next, lines_of-told}
-use Rattle.redo_text.proofs.lines.put_redone.Goals as goal
+use Rattle.wal_redo.specs.RedoText.{block_line, counts_line}
+use Rattle.wal_redo.proofs.LineLaws.{lines_of, lines_of-next, lines_of-told}
+use Rattle.wal_redo.proofs.lines.put_redone.Goals as goal
 
 pub loop-block-init : goal.loop-block-init
 loop-block-init g c =

@@ -19,7 +19,7 @@ use Rattle.wal_redo.specs.declared.redoing.RedoErr.TheVariants as redoing
 use Rattle.wal_redo.specs.BlockMap.{BlockMap, last_put}
 use Rattle.wal_redo.specs.BlockOrder.{block_order, is_block}
 use Rattle.wal_redo.specs.Images.{puts_in}
-use Rattle.redo_text.specs.RedoText.{redo_text}
+use Rattle.wal_redo.specs.RedoText.{redo_text}
 
 -- these are the blocks that have a page, in their order, and their pages
 pub record ListsBlocks (pages : BlockMap) (entries : List (BlockId × List ℕ)) : Type 0 where

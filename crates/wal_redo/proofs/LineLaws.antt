@@ -5,7 +5,7 @@ use Rattle.std.specs.Map.Iter.{TakesFirst, deref_pair}
 use Rattle.std.proofs.lemmas.List.Sums.{sum_by-take-drop}
 use Rattle.std.proofs.lemmas.Map.Iter.{rest_more}
 use Rattle.wal_redo.specs.declared.block_id.BlockId.{BlockId}
-use Rattle.redo_text.specs.RedoText.{block_line}
+use Rattle.wal_redo.specs.RedoText.{block_line}
 
 module _ {X : Type 0} (page : X → List ℕ) where
   -- the lines of entries of a map

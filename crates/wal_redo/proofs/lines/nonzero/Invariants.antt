@@ -1,5 +1,5 @@
 use Rattle.std.proofs.Common.{◌≡◌, ◌+◌, ◌*◌, ◌==◌, ℕ, length, not, count_by}
-use Rattle.redo_text.proofs.lines.nonzero.Given as goal
+use Rattle.wal_redo.proofs.lines.nonzero.Given as goal
 
 -- the bytes before the rest are counted, and the rest has whole pieces
 abbrev pub invariant-loop-piece : goal.invariant-loop-piece

@@ -2,14 +2,15 @@ ghost use Rattle.std.specs.Prelude.{◌≡◌, Err, IfSome};
 ghost use Rattle.segment_disk.specs.Tape.{IsUncalled};
 ghost use Rattle.waldump_text.specs.Dump.{HasDumpCause};
 ghost use Rattle.wal_redo.specs.Redo.{NoPutFailed};
-ghost use Rattle.redo_text.specs.RedoListing.{IsRedoListing, unlisted};
+ghost use Rattle.wal_redo.specs.RedoListing.{IsRedoListing, unlisted};
 
 use crate::lines::put_redone;
+use crate::mem_blocks::MemBlocks;
+use crate::redoing::{RedoErr, redo};
 use byte_position::Geometry;
 use segment_disk::{Disk, Sink};
 use std::alloc::Global;
 use wal_reader::ReadErr;
-use wal_redo::{MemBlocks, RedoErr, redo};
 use wal_types::Lsn;
 use waldump_text::DumpErr;
 

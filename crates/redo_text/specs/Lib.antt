@@ -1,2 +1,0 @@
-pub mod RedoText
-pub mod RedoListing
