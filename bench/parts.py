@@ -30,7 +30,7 @@ PARTS = (
     ("the insert", r"wal_log::(inserting|copying)|\breserve_lock::|\binsert_locks::|word_ring::copying"
      r"|\bwal_page::|\brecord_spelling::"),
     ("pages mapped and written", r"wal_log::|page_writing::|word_ring::|flush_core::"),
-    ("the listing's text", r"\bwaldump_text::|\bwal_types::|\bcommit_times::"),
+    ("the listing's text", r"\bwaldump_text::|\bwal_types::"),
     ("reading records", r"\bwal_reader::|\bbyte_position::"),
     ("decoding", r"\brecord_decode::"),
 )

@@ -14,3 +14,6 @@ pub mod TallyLaws
 pub mod CountingLaws
 pub mod StatisticsDump
 pub mod QuietLaws
+mod DayCounts
+mod Pushing
+mod TimeLaws

@@ -1,4 +1,6 @@
+pub mod Calendar
 pub mod Counting
+pub mod Digits
 pub mod Dump
 pub mod Everything
 pub mod Listing
@@ -8,4 +10,5 @@ pub mod Sifting
 pub mod Statistics
 pub mod Sums
 pub mod Tally
+pub mod TimeText
 pub mod Weights

@@ -9,7 +9,7 @@ use Rattle.wal_types.specs.declared.record.Block.{Block}
 use Rattle.wal_types.specs.declared.record.Image.{Image}
 use Rattle.wal_types.specs.declared.record.Record.{Record}
 use Rattle.wal_types.specs.declared.record.Rel.{Rel}
-use Rattle.commit_times.specs.TimeText.{time_text}
+use Rattle.waldump_text.specs.TimeText.{time_text}
 use Rattle.record_spelling.specs.Record.{is_free_manager}
 use Rattle.wal_reader.specs.declared.found.FoundRecord.{FoundRecord}
 use Rattle.wal_reader.specs.declared.standing.Step.{Step}

@@ -2,6 +2,7 @@
 #![tactic(auto)]
 
 mod block_refs;
+mod calendar;
 mod counting;
 mod digits;
 mod dumping;
@@ -15,9 +16,12 @@ mod sifting;
 mod statistics;
 mod steps;
 mod sums;
+mod time_digits;
+mod time_laws;
+mod times;
 mod weighing;
 
-pub use commit_times::{TimeText, time_text};
+pub use calendar::Day;
 pub use dumping::{DumpErr, dump};
 pub use laws::{decoding_is_settled, everything_is_listed};
 pub use lines::line;
@@ -26,3 +30,5 @@ pub use names::{ManagerName, RecordWord, manager_name, record_word};
 pub use putting::{SinkFault, padding, put, put_all};
 pub use statistics::stats;
 pub use sums::Sums;
+pub use time_laws::days_are_counted_from_2000;
+pub use times::{TimeText, time_text};

@@ -9,7 +9,7 @@ use crate::digits::push_digits;
 use crate::line_buffer::LineBuffer;
 use crate::names::{manager_name, record_word};
 use crate::putting::SinkFault;
-use commit_times::time_text;
+use crate::times::time_text;
 use listing_filter::Listed;
 use segment_disk::Sink;
 use wal_types::Record;

@@ -1,6 +1,6 @@
 use Rattle.std.proofs.Common.{◌≡◌, ℕ, List, [], ◌++◌, ap, subst, to_z-of_z, ◌∙◌}
 use Rattle.std.specs.Option.{option_map_or}
-use Rattle.commit_times.specs.TimeText.{time_text}
+use Rattle.waldump_text.specs.TimeText.{time_text}
 use Rattle.waldump_text.specs.Listing.{commit_time_of}
 use Rattle.waldump_text.specs.Put.{PutsBut}
 use Rattle.waldump_text.proofs.lines.put_commit_time.Goals as goal

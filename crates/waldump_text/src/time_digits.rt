@@ -1,5 +1,5 @@
 ghost use Rattle.std.specs.Prelude.{◌≡◌, ◌<◌};
-ghost use Rattle.commit_times.specs.Digits.{four_digits, six_digits, two_digits};
+ghost use Rattle.waldump_text.specs.Digits.{four_digits, six_digits, two_digits};
 
 /// A number below 100 in two digits.
 pub(crate) fn two_digits(n: u8) -> [u8; 2]

@@ -1,9 +1,9 @@
 use Rattle.std.proofs.Common.{◌≡◌, pos, w16, to_z, of_z, refl, arith, ◌∙◌}
 use Rattle.jiff_core.proofs.SignedLemmas.{back_small}
-use Rattle.commit_times.specs.Calendar.{days_after, first_day}
-use Rattle.commit_times.proofs.DayCounts.{IsDayOf, days_after-date}
-use Rattle.commit_times.proofs.calendar.day_of.Goals as goal
-use Rattle.commit_times.proofs.calendar.day_of.Goals.{After-from_days_since_min-date}
+use Rattle.waldump_text.specs.Calendar.{days_after, first_day}
+use Rattle.waldump_text.proofs.DayCounts.{IsDayOf, days_after-date}
+use Rattle.waldump_text.proofs.calendar.day_of.Goals as goal
+use Rattle.waldump_text.proofs.calendar.day_of.Goals.{After-from_days_since_min-date}
 
 -- the date that the library answers is the day
 is_day : (c : After-from_days_since_min-date) → IsDayOf c.from_days_since_min-date.result (days_after c.args.days first_day)

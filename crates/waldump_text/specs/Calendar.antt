@@ -1,6 +1,6 @@
 -- The days of the Gregorian calendar, one after another, also before it came into use.
 use Rattle.std.specs.Prelude.{ℕ, zero, suc, ◌+◌, ◌-◌, ◌%◌, ℤ, pos, negsuc, Bool, not, ◌&&◌, ◌||◌, ◌==◌, nat_lt, if◌then◌else◌}
-use Rattle.commit_times.specs.declared.calendar.Day.{Day}
+use Rattle.waldump_text.specs.declared.calendar.Day.{Day}
 
 -- every fourth year, but of the centuries only every fourth
 abbrev pub is_leap_year : ℕ → Bool

@@ -8,8 +8,8 @@ use Rattle.jiff_core.proofs.SignedLemmas.{signed_arith}
 use Rattle.jiff_core.proofs.CalendarLemmas.{days_from_civil-day_count, days_in_month_bounds, day_count-day, day_count-next_month, day_count-next_year, day_count-last_of_year, day_count-end}
 use Rattle.jiff_core.proofs.DateLemmas.{epoch_day_injective}
 use Rattle.jiff_core.proofs.MarchLemmas.{day_count-early}
-use Rattle.commit_times.specs.Calendar.{dated_days, day_after, day_before, day_from_2000, days_after, days_before, days_from_2000, days_in_month, days_to_2000, first_day, first_day_of_2000, first_day_of_9999}
-use Rattle.commit_times.specs.declared.calendar.Day.{Day}
+use Rattle.waldump_text.specs.Calendar.{dated_days, day_after, day_before, day_from_2000, days_after, days_before, days_from_2000, days_in_month, days_to_2000, first_day, first_day_of_2000, first_day_of_9999}
+use Rattle.waldump_text.specs.declared.calendar.Day.{Day}
 
 -- a day that the calendar has, so many days after 1 January of the year -10000
 record IsDayAt (d : Day) (n : ℕ) : Type 0 where

@@ -1,5 +1,5 @@
 ghost use Rattle.std.specs.Prelude.{◌≡◌, ℕ, ◌+◌, ◌≤◌};
-ghost use Rattle.commit_times.specs.Calendar.{dated_days, days_after, days_before, days_from_2000, days_to_2000, first_day, first_day_of_2000, first_day_of_9999};
+ghost use Rattle.waldump_text.specs.Calendar.{dated_days, days_after, days_before, days_from_2000, days_to_2000, first_day, first_day_of_2000, first_day_of_9999};
 
 /// A law: the years 1 to 9998 lie about 2000-01-01 as the definition of a date takes them to; and
 /// in these, to count days forth undoes what it is to count them back.

@@ -1,10 +1,10 @@
 ghost use Rattle.std.specs.Prelude.{◌≡◌, ◌+◌, ◌*◌, ◌/◌, ◌%◌, ◌<◌, ◌≤◌, ◌++◌, length};
-ghost use Rattle.commit_times.specs.Calendar.{dated_days, days_after, first_day};
-ghost use Rattle.commit_times.specs.TimeText.{date_text, day_length, day_text, microseconds_text, time_of_day_text, time_text};
-ghost use Rattle.commit_times.specs.declared.text.TheConstants.{ROOM};
+ghost use Rattle.waldump_text.specs.Calendar.{dated_days, days_after, first_day};
+ghost use Rattle.waldump_text.specs.TimeText.{date_text, day_length, day_text, microseconds_text, time_of_day_text, time_text};
+ghost use Rattle.waldump_text.specs.declared.times.TheConstants.{ROOM};
 
 use crate::calendar::{Day, day_of};
-use crate::digits::{four_digits, six_digits, two_digits};
+use crate::time_digits::{four_digits, six_digits, two_digits};
 use itoa::Buffer;
 use std::marker::Model;
 
@@ -29,7 +29,7 @@ pub struct TimeText {
 
 impl Model for TimeText {
     ghost use Rattle.std.specs.Prelude.{ℕ, ◌≤◌, List, take};
-    ghost use Rattle.commit_times.specs.declared.text.TheConstants.{ROOM};
+    ghost use Rattle.waldump_text.specs.declared.times.TheConstants.{ROOM};
 
     ghost Value = { List ℕ };
 

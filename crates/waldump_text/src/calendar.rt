@@ -1,5 +1,5 @@
 ghost use Rattle.std.specs.Prelude.{◌≡◌, ◌<◌, ◌≤◌};
-ghost use Rattle.commit_times.specs.Calendar.{dated_days, days_after, first_day};
+ghost use Rattle.waldump_text.specs.Calendar.{dated_days, days_after, first_day};
 
 use jiff_core::civil::Date;
 

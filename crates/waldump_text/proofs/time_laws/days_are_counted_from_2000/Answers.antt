@@ -1,7 +1,7 @@
 use Rattle.std.proofs.Common.{refl}
-use Rattle.commit_times.proofs.DayCounts.{days_before-after, days_to_9999, first_days_before}
-use Rattle.commit_times.specs.Calendar.{days_from_2000, days_to_2000}
-use Rattle.commit_times.proofs.laws.days_are_counted_from_2000.Goals as goal
+use Rattle.waldump_text.proofs.DayCounts.{days_before-after, days_to_9999, first_days_before}
+use Rattle.waldump_text.specs.Calendar.{days_from_2000, days_to_2000}
+use Rattle.waldump_text.proofs.time_laws.days_are_counted_from_2000.Goals as goal
 
 pub returns-clause-first : goal.returns-clause-first
 returns-clause-first c = first_days_before days_to_2000 refl

@@ -2,9 +2,9 @@
 use Rattle.std.specs.Prelude.{ℕ, ◌-◌, ◌*◌, ◌/◌, ◌%◌, ◌&&◌, List, ◌++◌, codes, ℤ, pos, neg_ℤ, int_le, unsigned_abs, if◌then◌else◌}
 use Rattle.std.specs.Fmt.{signed_decimal}
 use Rattle.std.specs.Int.{int_div_euclid, int_rem_euclid}
-use Rattle.commit_times.specs.Calendar.{day_from_2000, days_from_2000, days_to_2000}
-use Rattle.commit_times.specs.Digits.{four_digits, six_digits, two_digits}
-use Rattle.commit_times.specs.declared.calendar.Day.{Day}
+use Rattle.waldump_text.specs.Calendar.{day_from_2000, days_from_2000, days_to_2000}
+use Rattle.waldump_text.specs.Digits.{four_digits, six_digits, two_digits}
+use Rattle.waldump_text.specs.declared.calendar.Day.{Day}
 
 -- the microseconds of a day
 abbrev pub day_length : ℕ

@@ -2,10 +2,10 @@
 use Rattle.std.proofs.Common.{◌≡◌, ℕ, ◌*◌, ◌/◌, ◌%◌, true, ℤ, pos, ◌+ℤ◌, int_le, unsigned_abs, refl, ap, sym, ◌∙◌, arith}
 use Rattle.std.specs.Int.{int_div_euclid, int_rem_euclid}
 use Rattle.jiff_core.proofs.SignedLemmas.{int_div_euclid-parts, int_rem_euclid-parts, signed_arith}
-use Rattle.commit_times.specs.Calendar.{day_from_2000, days_after, days_to_2000, first_day}
-use Rattle.commit_times.specs.TimeText.{date_text, day_length, first_time, last_time, time_text}
-use Rattle.commit_times.specs.declared.calendar.Day.{Day}
-use Rattle.commit_times.proofs.DayCounts.{days_after-from_2000}
+use Rattle.waldump_text.specs.Calendar.{day_from_2000, days_after, days_to_2000, first_day}
+use Rattle.waldump_text.specs.TimeText.{date_text, day_length, first_time, last_time, time_text}
+use Rattle.waldump_text.specs.declared.calendar.Day.{Day}
+use Rattle.waldump_text.proofs.DayCounts.{days_after-from_2000}
 
 module _ (time : ℤ) (since : ℕ) (is : pos since ≡ time +ℤ pos (days_to_2000 * day_length)) (low : int_le first_time time ≡ true) (high : int_le time last_time ≡ true) where
   day_is : days_after (since / day_length) first_day ≡ day_from_2000 (int_div_euclid time (pos day_length))

@@ -1,7 +1,7 @@
 use Rattle.std.proofs.Common.{◌/◌, ◌%◌, [], ◌∷◌, codes}
-use Rattle.commit_times.specs.Digits.{six_digits, two_digits}
-use Rattle.commit_times.proofs.Pushing.{pushed-behind}
-use Rattle.commit_times.proofs.text.push_time_of_day.Goals as goal
+use Rattle.waldump_text.specs.Digits.{six_digits, two_digits}
+use Rattle.waldump_text.proofs.Pushing.{pushed-behind}
+use Rattle.waldump_text.proofs.times.push_time_of_day.Goals as goal
 
 pub returns-clause-text : goal.returns-clause-text
 returns-clause-text c =

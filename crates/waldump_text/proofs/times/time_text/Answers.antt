@@ -1,8 +1,8 @@
 use Rattle.std.proofs.Common.{int_le, to_z-of_z, ap, sym, ◌∙◌, arith}
 use Rattle.jiff_core.proofs.SignedLemmas.{signed_casts}
-use Rattle.commit_times.specs.TimeText.{first_time, last_time}
-use Rattle.commit_times.proofs.TimeLaws.{date_since-is_time}
-use Rattle.commit_times.proofs.text.time_text.Goals as goal
+use Rattle.waldump_text.specs.TimeText.{first_time, last_time}
+use Rattle.waldump_text.proofs.TimeLaws.{date_since-is_time}
+use Rattle.waldump_text.proofs.times.time_text.Goals as goal
 
 pub returns-then-time-le-LAST : goal.returns-then-time-le-LAST
 returns-then-time-le-LAST c =

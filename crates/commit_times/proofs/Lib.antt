@@ -1,3 +1,0 @@
-mod DayCounts
-mod Pushing
-mod TimeLaws
