@@ -1,5 +1,5 @@
 //! Tests of a log's values, records, positions and pages, of its reader, of logs that
-//! are found, of a listing, and of redo.
+//! are found, of a listing, and of redo; of scripts, schedules and command lines.
 #![tactic(auto)]
 
 #[cfg(test)]
@@ -21,6 +21,10 @@ mod redoing;
 #[cfg(test)]
 mod rows;
 #[cfg(test)]
+mod scripts;
+#[cfg(test)]
 mod spelling;
 #[cfg(test)]
 mod values;
+#[cfg(test)]
+mod words;

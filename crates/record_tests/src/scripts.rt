@@ -1,9 +1,12 @@
 //! What is read of scripts: of one backend, of a run, of a replay, and of a schedule alone.
 
 use bumpalo::Bump;
-use wal_script::{Action, Item, Line, ParseError, Refusal, ScriptFault, parse, parse_replay, parse_run, parse_schedule};
 use std::process::Abort;
 use std::test::Fail;
+use wal_script::{
+    Action, Item, Line, ParseError, Refusal, ScriptFault, parse, parse_replay, parse_run,
+    parse_schedule,
+};
 
 // The letter of the line that asks for an action.
 fn letter(action: &Action) -> u8 {
