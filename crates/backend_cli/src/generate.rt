@@ -10,12 +10,12 @@ use crate::run::{Finished, run_prepared};
 use crate::told::ToldLists;
 use backend_lanes::{Gate, Room};
 use command_words::GenOptions;
-use wal_script::generate;
-use wal_script::generated_laws::four_backends_have_as_many_lines;
 use segment_disk::{Disk, Sink};
 use std::alloc::{AllocError, Global};
 use std::sync::Wait;
 use std::thread::Threads;
+use wal_script::generate;
+use wal_script::generated_laws::four_backends_have_as_many_lines;
 
 // Makes the lines, and takes all room that their backends need.
 fn room_for(alloc: Global, lines: u32) -> Result<Room<'static>, AllocError>

@@ -6,9 +6,9 @@ use crate::dump::outcome_of;
 use crate::run::Finished;
 use crate::told::ToldLists;
 use command_words::RedoOptions;
-use wal_redo::list_redo;
 use segment_disk::{Disk, Sink};
 use std::alloc::Global;
+use wal_redo::list_redo;
 use wal_types::Lsn;
 
 /// Redoes the log's page images in memory, and lists the blocks that they fill.

@@ -25,10 +25,10 @@ use crate::told::ToldLists;
 use byte_position::Geometry;
 use command_words::{CrashPick, ReplayOptions};
 use machine_core::{Core, CoreErr, PlainLine, Script};
-use wal_script::{Action, Item, Line, Replay, Schedule, parse_replay};
 use segment_disk::{Disk, MemDisk, Pick, Sink, Source};
 use std::alloc::{AllocError, Global};
 use wal_reader::ReadErr;
+use wal_script::{Action, Item, Line, Replay, Schedule, parse_replay};
 use wal_types::Lsn;
 use waldump_text::{DumpErr, Filter, SinkFault, dump, put_all};
 

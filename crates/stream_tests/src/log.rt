@@ -4,11 +4,11 @@ ghost use Rattle.std.specs.Prelude.{◌≡◌};
 
 use bumpalo::Bump;
 use byte_position::Geometry;
-use wal_script::{Action, Line, generate, parse_run};
 use record_spelling::Body;
 use std::alloc::Global;
 use std::test::Fail;
 use wal_page::Placed;
+use wal_script::{Action, Line, generate, parse_run};
 use wal_stream::{FRAME_SIZE, frame};
 use wal_types::Lsn;
 

@@ -2,8 +2,8 @@
 
 use crate::halt::Halt;
 use command_words::lsn;
-use text_parts::hexadecimal_digit;
 use std::alloc::{AllocError, Global};
+use text_parts::hexadecimal_digit;
 
 /// What stands before the first blank, and what behind it.
 pub fn parted(text: &str) -> Result<(&str, &str), Halt> {
