@@ -1,5 +1,6 @@
 pub mod BlockMapLaws
 pub mod PutLaws
+pub mod CallLaws
 pub mod RedoLaws
 mod ListedImages
 mod StoreLaws

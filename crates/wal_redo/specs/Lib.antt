@@ -2,6 +2,7 @@ pub mod BlockOrder
 pub mod BlockMap
 pub mod Images
 pub mod Redo
+pub mod Calls
 pub mod MemBlocks
 pub mod Again
 pub mod RedoText

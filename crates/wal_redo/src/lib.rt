@@ -10,6 +10,7 @@ mod lines;
 mod listing;
 mod mem_blocks;
 mod page_images;
+mod put_calls;
 mod redoing;
 
 pub use block_id::BlockId;
@@ -17,4 +18,5 @@ pub use blocks::{Blocks, PutErr};
 pub use laws::{redo_again_changes_nothing, redo_goes_on_behind_a_refusal};
 pub use listing::list_redo;
 pub use mem_blocks::MemBlocks;
+pub use put_calls::PutCalls;
 pub use redoing::{RedoErr, redo};

@@ -6,6 +6,7 @@ ghost use Rattle.segment_disk.specs.Failing.{after_next, fails_next};
 
 use crate::block_id::BlockId;
 use crate::blocks::{Blocks, PutErr};
+use crate::put_calls::PutCalls;
 use segment_disk::{Memory, count_fault};
 use std::alloc::Global;
 use std::collections::BTreeMap;
@@ -19,6 +20,8 @@ pub struct MemBlocks {
     fail: Vec<u64>,
     /// How many puts were asked for.
     called: u64,
+    /// These puts, for clauses alone.
+    calls: PutCalls,
     faults: u64,
 }
 
@@ -27,13 +30,16 @@ impl MemBlocks {
     ghost use Rattle.std.specs.List.Sorted.{IsStrictlySortedBy};
     ghost use Rattle.std.specs.Map.{keys_of};
     ghost use Rattle.wal_redo.specs.BlockOrder.{block_order};
-    ghost use Rattle.wal_redo.specs.MemBlocks.{stored_pages, puts_failing};
+    ghost use Rattle.wal_redo.specs.BlockMap.{told_with};
+    ghost use Rattle.wal_redo.specs.MemBlocks.{pages_told, stored_pages, puts_failing};
+    ghost use Rattle.wal_redo.specs.Redo.{HasPutCause, is_failed};
 
     /// A store without a page, which fails at the puts that are listed by their numbers, from 1. It
     /// takes no memory yet.
     pub fn new(alloc: Global, fail: Vec<u64>) -> Result<MemBlocks, Memory>
         ensures made { IsOk result }
         ensures empty { IfOk result (λ store. stored_pages store ≡ []) }
+        ensures uncalled { IfOk result (λ store. ⟦<MemBlocks as Blocks>⟧.calls store ≡ []) }
         ensures faults { IfOk result (λ store. ⟦<MemBlocks as Blocks>⟧.faults store ≡ 0) }
         ensures failing { IfOk result
             (λ store. puts_failing store ≡ record { numbers = fail.items; made = 0 }) }
@@ -42,6 +48,7 @@ impl MemBlocks {
             pages: BTreeMap::new(alloc),
             fail,
             called: 0,
+            calls: PutCalls::none(),
             faults: 0,
         })
     }
@@ -71,31 +78,21 @@ impl MemBlocks {
     {
         self.pages.iter()
     }
-}
 
-impl Blocks for MemBlocks {
-    ghost use Rattle.wal_redo.specs.BlockMap.{BlockMap, told_with};
-    ghost use Rattle.wal_redo.specs.MemBlocks.{lists_none, pages_told, pages_told-finite, puts_failing};
-    ghost use Rattle.wal_redo.specs.Redo.{HasPutCause, is_failed};
-
-    ghost pages = { pages_told };
-
-    ghost faults = { λ store. store.faults };
-
-    ghost never_fails = { lists_none };
-
-    fn put(&mut self, alloc: Global, block: BlockId, page: &[u8; 8192]) -> Result<(), PutErr>
+    // A put that is not noted yet.
+    fn put_unnoted(
+        &mut self,
+        alloc: Global,
+        block: BlockId,
+        page: &[u8; 8192],
+    ) -> Result<(), PutErr>
         ensures put { OnOk result
             (pages_told self.new ≡ told_with (pages_told self.old) block page.now) }
         ensures refused { OnErr result (pages_told self.new ≡ pages_told self.old) }
         ensures cause { HasPutCause self.old.faults self.new.faults result }
-
-        ensures never { IsTrue (lists_none self.old)
-            → (is_failed result ≡ false) × IsTrue (lists_none self.new) }
-
-        // It fails at just the listed puts.
         ensures fails { is_failed result ≡ fails_next (puts_failing self.old) }
         ensures failing { puts_failing self.new ≡ after_next (puts_failing self.old) }
+        ensures unnoted { self.new.calls ≡ self.old.calls }
     {
         self.called = self.called.saturating_add(1);
         if self.fail.contains(&self.called) {
@@ -109,6 +106,40 @@ impl Blocks for MemBlocks {
             Ok(_) => Ok(()),
             Err(_) => Err(PutErr::Memory),
         }
+    }
+}
+
+impl Blocks for MemBlocks {
+    ghost use Rattle.wal_redo.specs.BlockMap.{BlockMap, told_with};
+    ghost use Rattle.wal_redo.specs.Calls.{with_put};
+    ghost use Rattle.wal_redo.specs.MemBlocks.{lists_none, pages_told, pages_told-finite, puts_failing};
+    ghost use Rattle.wal_redo.specs.Redo.{HasPutCause, is_failed};
+
+    ghost pages = { pages_told };
+
+    ghost calls = { λ store. store.calls.calls };
+
+    ghost faults = { λ store. store.faults };
+
+    ghost never_fails = { lists_none };
+
+    fn put(&mut self, alloc: Global, block: BlockId, page: &[u8; 8192]) -> Result<(), PutErr>
+        ensures put { OnOk result
+            (pages_told self.new ≡ told_with (pages_told self.old) block page.now) }
+        ensures refused { OnErr result (pages_told self.new ≡ pages_told self.old) }
+        ensures called { self.new.calls.calls
+            ≡ with_put self.old.calls.calls block page.now result }
+        ensures cause { HasPutCause self.old.faults self.new.faults result }
+        ensures never { IsTrue (lists_none self.old)
+            → (is_failed result ≡ false) × IsTrue (lists_none self.new) }
+
+        // It fails at just the listed puts.
+        ensures fails { is_failed result ≡ fails_next (puts_failing self.old) }
+        ensures failing { puts_failing self.new ≡ after_next (puts_failing self.old) }
+    {
+        let answer = self.put_unnoted(alloc, block, page);
+        self.calls = self.calls.with(block, page, answer);
+        answer
     }
 
     fn faults(&self) -> u64 {

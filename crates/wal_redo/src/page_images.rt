@@ -2,6 +2,7 @@
 // bytes, which are put as they lie in the record. If there is a hole, the page is made first.
 ghost use Rattle.std.specs.Prelude.{◌≡◌, ◌↔◌, ◌≤◌, [], ◌∷◌, length, All, IfOk, IfSome, IsSome, IsTrue};
 ghost use Rattle.wal_redo.specs.Images.{IsRedoable, MakesPage, block_named, page_of, put_of, puts_of};
+ghost use Rattle.wal_redo.specs.Calls.{CallsPuts};
 ghost use Rattle.wal_redo.specs.Redo.{HasStoreCause, NoPutFailed, EndsPuts};
 
 use crate::block_id::BlockId;
@@ -42,6 +43,8 @@ fn put_page<B: Blocks>(
 ) -> Result<u64, RedoErr>
     ensures puts { EndsPuts (B.pages blocks.old) (B.pages blocks.new)
         (record { block = block; page = page.now } ∷ []) result }
+    ensures called { CallsPuts (B.calls blocks.old) (B.calls blocks.new)
+        (record { block = block; page = page.now } ∷ []) result }
     ensures cause { HasStoreCause (B.faults blocks.old) (B.faults blocks.new) result }
     ensures never { IsTrue (B.never_fails blocks.old)
         → NoPutFailed result × IsTrue (B.never_fails blocks.new) }
@@ -66,6 +69,8 @@ fn put_image<B: Blocks>(
 ) -> Result<u64, RedoErr>
     requires makes { IfSome image.now MakesPage }
     ensures puts { EndsPuts (B.pages blocks.old) (B.pages blocks.new) (put_of block image.now)
+        result }
+    ensures called { CallsPuts (B.calls blocks.old) (B.calls blocks.new) (put_of block image.now)
         result }
     ensures few { IfOk result (λ count. count ≤ 1) }
     ensures cause { HasStoreCause (B.faults blocks.old) (B.faults blocks.new) result }
@@ -94,6 +99,8 @@ pub(crate) fn put_images<B: Blocks>(
 ) -> Result<u64, RedoErr>
     requires { All IsRedoable references.now }
     ensures puts { EndsPuts (B.pages blocks.old) (B.pages blocks.new) (puts_of references.now)
+        result }
+    ensures called { CallsPuts (B.calls blocks.old) (B.calls blocks.new) (puts_of references.now)
         result }
     ensures few { IfOk result (λ count. count ≤ length references.now) }
     ensures cause { HasStoreCause (B.faults blocks.old) (B.faults blocks.new) result }

@@ -1,5 +1,6 @@
 ghost use Rattle.std.specs.Prelude.{◌≡◌, IfSome, IsTrue};
 ghost use Rattle.segment_disk.specs.Tape.{IsUncalled};
+ghost use Rattle.wal_redo.specs.Calls.{IsCalled};
 ghost use Rattle.wal_redo.specs.Redo.{HasRedoCause, IsRedo, NoPutFailed};
 
 use crate::blocks::Blocks;
@@ -55,6 +56,9 @@ pub fn redo<D: Disk, B: Blocks>(
     // a front of that.
     ensures redone { IfSome (D.tape disk.old)
         (IsRedo geometry start.0 (B.pages blocks.old) (B.pages blocks.new) result) }
+    // The store's puts were called once for each image, in the log's order, and no other.
+    ensures called { IfSome (D.tape disk.old)
+        (IsCalled geometry start.0 (B.calls blocks.old) (B.calls blocks.new) result) }
     ensures uncalled { IsUncalled D.tape D.moment disk.old disk.new }
     ensures cause { HasRedoCause (D.faults disk.old) (D.faults disk.new) (B.faults blocks.old)
         (B.faults blocks.new) result }

@@ -7,13 +7,15 @@ use Rattle.wal_reader.specs.Spelled.{GivesSpelled, IsSpelled}
 use Rattle.wal_reader.specs.Standings.{found_as, given_as}
 use Rattle.wal_reader.specs.declared.found.FoundRecord.{FoundRecord}
 use Rattle.wal_reader.specs.declared.standing.Step.{Step}
+use Rattle.wal_reader.specs.declared.standing.Step.TheVariants.{End}
+use Rattle.wal_redo.specs.Calls.{CallsAll, CallsPuts}
 use Rattle.wal_redo.specs.Images.{IsRedoable, puts_of}
 use Rattle.wal_redo.specs.Redo.{PutsAll, PutsSome}
 use Rattle.wal_redo.proofs.CountLaws.{bounded_more, word_further}
 use Rattle.wal_redo.proofs.ImageLaws.{few_spelled, redoable_spelled}
-use Rattle.wal_redo.proofs.RedoLaws.{RedoesLog-more, RedoesLog-none, Steps, redo_refused, redo_unread, unread_from}
+use Rattle.wal_redo.proofs.RedoLaws.{CallsLog-more, CallsLog-none, RedoesLog-more, RedoesLog-none, Steps, calls_ended, calls_refused, calls_unread, redo_ended, redo_refused, redo_unread, unread_from}
 use Rattle.wal_redo.proofs.redoing.redo.Goals as goal
-use Rattle.wal_redo.proofs.redoing.redo.Goals.{In-Record}
+use Rattle.wal_redo.proofs.redoing.redo.Goals.{In-End, In-Record}
 
 pub records-init : goal.records-init
 records-init g c =
@@ -22,6 +24,7 @@ records-init g c =
     record {
       sized = ap (λ (s : ReaderState). s.size) state;
       redoes = RedoesLog-none c.args.geometry c.args.start.0 valid _ (g.D.Disk.tape c.args.disk.now) c.new-reader.result state c.new-reader.ensures.knows;
+      calls = CallsLog-none c.args.geometry c.args.start.0 valid _ (g.D.Disk.tape c.args.disk.now) c.new-reader.result state c.new-reader.ensures.knows;
       bounded = subst (λ (s : ReaderState). 8 * 0 + 33 * left_of s ≤ 33 * 2 ^ 60) (sym state) (omega arith);
       tape = refl;
       moment = refl;
@@ -36,7 +39,33 @@ returns-in_err-value-clause-redone g c =
     let p = err_from_is_err_and c.from_residual.result c.from_residual.ensures.1 in
     let before = c.records.invariant in
     let steps = subst (λ (tape : Option Tape). Steps tape c.records.reader c.next.new.self (Err c.in_err-value.field-0.0)) before.tape c.in_err-value.ensures.gives in
-    rw (p.1, p.2) (redo_unread c.args.geometry c.args.start.0 valid _ c.records.reader before.sized _ c.records.count _ c.next.new.self _ before.redoes steps)
+    rw (p.1, p.2) (redo_unread c.args.geometry c.args.start.0 valid c.records.reader before.sized _ _ c.records.count _ c.next.new.self _ before.redoes steps)
+
+pub returns-in_err-value-clause-called : goal.returns-in_err-value-clause-called
+returns-in_err-value-clause-called g c =
+    let valid = rw c.segment_size-size.ensures.value at c.segment_size-size.ensures.valid in
+    let p = err_from_is_err_and c.from_residual.result c.from_residual.ensures.1 in
+    let before = c.records.invariant in
+    let steps = subst (λ (tape : Option Tape). Steps tape c.records.reader c.next.new.self (Err c.in_err-value.field-0.0)) before.tape c.in_err-value.ensures.gives in
+    rw (p.1, p.2) (calls_unread c.args.geometry c.args.start.0 valid c.records.reader before.sized _ _ _ c.next.new.self _ before.calls steps)
+
+-- the step to the end
+steps_end : (g : _) (c : In-End g) → Steps (g.D.Disk.tape c.args.disk.now) c.records.reader c.next.new.self (Ok (End c.in-End.at))
+steps_end g c =
+    let gives = subst (λ (step : Step). Steps (g.D.Disk.tape c.records.disk) c.records.reader c.next.new.self (Ok step)) c.in-End.is c.in_ok-value.ensures.gives in
+    subst (λ (tape : Option Tape). Steps tape c.records.reader c.next.new.self (Ok (End c.in-End.at))) c.records.invariant.tape gives
+
+pub returns-in-End-clause-redone : goal.returns-in-End-clause-redone
+returns-in-End-clause-redone g c =
+    let valid = rw c.segment_size-size.ensures.value at c.segment_size-size.ensures.valid in
+    let before = c.records.invariant in
+    redo_ended c.args.geometry c.args.start.0 valid c.records.reader before.sized _ _ c.records.count _ c.next.new.self c.in-End.at before.redoes (steps_end g (goal.at.returns-in-End-clause-redone g c).In-End)
+
+pub returns-in-End-clause-called : goal.returns-in-End-clause-called
+returns-in-End-clause-called g c =
+    let valid = rw c.segment_size-size.ensures.value at c.segment_size-size.ensures.valid in
+    let before = c.records.invariant in
+    calls_ended c.args.geometry c.args.start.0 valid c.records.reader before.sized _ _ c.records.count _ c.next.new.self c.in-End.at before.calls (steps_end g (goal.at.returns-in-End-clause-called g c).In-End)
 
 -- the record that is read
 abbrev found : (g : _) → In-Record g → FoundRecord
@@ -70,7 +99,17 @@ returns-in_err-count-in-Record-clause-redone g c =
     let before = c.records.invariant in
     let refused = c.in_err-count-in-Record.ensures in
     let cut = subst (λ (blocks : List Block). PutsSome (g.B.Blocks.pages c.records.blocks) (g.B.Blocks.pages c.put_images.new.blocks) (puts_of blocks)) c.as_slice.ensures refused.puts in
-    rw (p.1, p.2) (redo_refused c.args.geometry c.args.start.0 valid _ c.records.reader c.next.new.self before.sized (sized_on g step) _ _ c.records.count _ (found g step) _ _ _ before.redoes (steps_on g step) cut refused.cause)
+    rw (p.1, p.2) (redo_refused c.args.geometry c.args.start.0 valid c.records.reader c.next.new.self before.sized (sized_on g step) _ _ _ c.records.count _ (found g step) _ _ _ before.redoes (steps_on g step) cut refused.cause)
+
+pub returns-in_err-count-in-Record-clause-called : goal.returns-in_err-count-in-Record-clause-called
+returns-in_err-count-in-Record-clause-called g c =
+    let valid = rw c.segment_size-size.ensures.value at c.segment_size-size.ensures.valid in
+    let step = (goal.at.returns-in_err-count-in-Record-clause-called g c).In-Record in
+    let p = err_from_is_err_and c.from_residual-in_err-count-in-Record.result c.from_residual-in_err-count-in-Record.ensures.1 in
+    let before = c.records.invariant in
+    let e = c.in_err-count-in-Record.field-0.0 in
+    let cut = subst (λ (blocks : List Block). CallsPuts (g.B.Blocks.calls c.records.blocks) (g.B.Blocks.calls c.put_images.new.blocks) (puts_of blocks) (Err e)) c.as_slice.ensures c.in_err-count-in-Record.ensures.called in
+    rw (p.1, p.2) (calls_refused c.args.geometry c.args.start.0 valid c.records.reader c.next.new.self before.sized (sized_on g step) _ _ _ _ (found g step) e before.calls (steps_on g step) cut)
 
 pub records-preserved : goal.records-preserved
 records-preserved g c =
@@ -85,9 +124,11 @@ records-preserved g c =
     let blocks_few = few_spelled f (spelled_on g step) in
     let few : c.in_ok-count-in-Record.field-0 ≤ 33 = omega (arith, put.few, ap length c.as_slice.ensures, blocks_few) in
     let puts = subst (λ (blocks : List Block). PutsAll (g.B.Blocks.pages c.records.blocks) (g.B.Blocks.pages c.put_images.new.blocks) (puts_of blocks) c.in_ok-count-in-Record.field-0) c.as_slice.ensures put.puts in
+    let called = subst (λ (blocks : List Block). CallsAll (g.B.Blocks.calls c.records.blocks) (g.B.Blocks.calls c.put_images.new.blocks) (puts_of blocks)) c.as_slice.ensures put.called in
     record {
       sized = sized_on g step;
-      redoes = RedoesLog-more c.args.geometry c.args.start.0 valid _ c.records.reader before.sized _ c.records.count _ c.next.new.self f _ c.in_ok-count-in-Record.field-0 before.redoes (steps_on g step) puts;
+      redoes = RedoesLog-more c.args.geometry c.args.start.0 valid c.records.reader before.sized _ _ c.records.count _ c.next.new.self f _ c.in_ok-count-in-Record.field-0 before.redoes (steps_on g step) puts;
+      calls = CallsLog-more c.args.geometry c.args.start.0 valid c.records.reader before.sized _ _ _ c.next.new.self f _ before.calls (steps_on g step) called;
       bounded = bounded_more c.records.count c.in_ok-count-in-Record.field-0 (left_of (reader_state c.records.reader)) (left_of (reader_state c.next.new.self)) before.bounded few further;
       tape = read.uncalled.same_tape ∙ before.tape;
       moment = read.uncalled.same_moment ∙ before.moment;

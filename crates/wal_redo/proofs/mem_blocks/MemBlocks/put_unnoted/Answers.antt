@@ -1,6 +1,6 @@
 use Rattle.std.proofs.Common.{Some, ap}
 use Rattle.wal_redo.proofs.StoreLaws.{told_after}
-use Rattle.wal_redo.proofs.mem_blocks.MemBlocksBlocks.put.Goals as goal
+use Rattle.wal_redo.proofs.mem_blocks.MemBlocks.put_unnoted.Goals as goal
 
 pub returns-in-Ok-insert-clause-put : goal.returns-in-Ok-insert-clause-put
 returns-in-Ok-insert-clause-put c =
