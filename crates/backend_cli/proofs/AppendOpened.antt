@@ -23,6 +23,7 @@ use Rattle.found_log.specs.Found.{IsFound}
 use Rattle.wal_core.specs.Opened.{IsOpenable}
 use Rattle.wal_core.specs.Sound.{IsSetup}
 use Rattle.wal_core.specs.Words.{Opening, found_end, found_position}
+use Rattle.machine_laws.specs.WholeOrders.{LiesBehind}
 use Rattle.wal_rule.specs.Founded.{found_log_opening}
 use Rattle.wal_rule.specs.Tables.{began_of_table}
 use Rattle.wal_rule.specs.declared.pass.Pass.{Pass}
@@ -114,9 +115,16 @@ module _ {D : Type 0} (tape : D → Option Tape) (moment faults : D → ℕ) (di
   abbrev opening : Opening
   opening = found_log_opening (run_setup options (length script)) opened.es opened.made at (faults disk)
 
+  -- what was found lies below its place
+  lies : LiesBehind opening opened.es
+  lies = subst (λ (o : Opening). LiesBehind o opened.es) opened.opening opened.lies
+
+  ends_there : found.end.0 ≡ found_end opening
+  ends_there = opened.end_is ∙ ap (end_address_of size) (sym lies.position_is)
+
   -- where it ended, and how many calls the disk had counted when it was opened
   pub reopened_end : found.end.0 ≡ found_end (opening_of_log wal)
-  reopened_end = opened.end_is ∙ sym (ap (λ (o : Opening). found_end o) opened.opening)
+  reopened_end = ends_there ∙ sym (ap (λ (o : Opening). found_end o) opened.opening)
 
   pub reopened_counted : IfSome began (λ t. (opening_of_log wal).moment ≡ length t.calls)
   reopened_counted = counted_behind (tape disk) began (moment disk) at
@@ -125,10 +133,14 @@ module _ {D : Type 0} (tape : D → Option Tape) (moment faults : D → ℕ) (di
   openable : IsOpenable opening
   openable = subst IsOpenable opened.opening opened.openable
 
-  settled : HasSettled size (found_end opening) opened.made (tape disk) began (moment disk) at
-  settled = subst (λ (n : ℕ). HasSettled options.geometry n opened.made (tape disk)
+  settled_to : (end : ℕ) → found.end.0 ≡ end
+      → HasSettled size end opened.made (tape disk) began (moment disk) at
+  settled_to end end_is = subst (λ (n : ℕ). HasSettled options.geometry n opened.made (tape disk)
       (began_of_table tape (table_of wal)) (moment disk) (opening_of_log wal).moment)
-      opened.end_is opened.settled
+      end_is opened.settled
+
+  settled : HasSettled size (found_end opening) opened.made (tape disk) began (moment disk) at
+  settled = settled_to (found_end opening) ends_there
 
   goes_on_from : TapeGoesOn (tape disk) began
   goes_on_from = tape_behind (tape disk) began (moment disk) at
@@ -137,7 +149,7 @@ module _ {D : Type 0} (tape : D → Option Tape) (moment faults : D → ℕ) (di
   -- on a disk that this program left the log goes on behind what that left
   module _ (t b : Tape) (told : tape disk ≡ Some t) (begun : began ≡ Some b)
       (records : List FoundRecord) (left : WasLeft size system_id t records) where
-    abbrev on_disk : IsReopenedOn opening (moment disk) t b records
+    abbrev on_disk : IsReopenedOn opening opened.es (moment disk) t b records
     on_disk =
         let read = subst (λ (o : Option Tape). IfSome o (IsFound options.geometry system_id
         options.cap_segments opened.es opened.made)) told opened.read in
@@ -146,6 +158,7 @@ module _ {D : Type 0} (tape : D → Option Tape) (moment faults : D → ℕ) (di
           counted = subst (λ (o : Option Tape). IfSome o (λ u. moment disk ≡ length u.calls)) told
               counts;
           openable = openable;
+          lies = lies;
           found_is = left_logs_are_read options.geometry system_id t records
               (found_of options.geometry opened.es) (read.own).answer left (read.own).decodes;
           settled = subst (λ (o : Option Tape). HasSettled options.geometry
@@ -167,7 +180,7 @@ module _ {D : Type 0} (tape : D → Option Tape) (moment faults : D → ℕ) (di
       let decodes = (finding_is_decoding options.geometry c.image options.geometry valid
       records).0 c.finds in
       let there = on_disk c.old c.tape c.told_before c.disk_tells c.found_before c.was_left in
-      settled_logs_keep_what_was_found opening (moment disk) c.old c.tape c.found_before there m
+      settled_logs_keep_what_was_found opening opened.es (moment disk) c.old c.tape c.found_before there m
       c.image after c.left c.no_torn_pass_before records decodes.0 decodes.1 ∙ sym there.found_is
 
   suited_from : (old now : Option Tape) → tape disk ≡ old → began ≡ now → TapeGoesOn old now
@@ -176,7 +189,7 @@ module _ {D : Type 0} (tape : D → Option Tape) (moment faults : D → ℕ) (di
       subst (HoldsSuited opening) (sym goes_on) tt
   suited_from (Some t) None told begun goes_on left = tt
   suited_from (Some t) (Some b) told begun goes_on left =
-      reopened_logs_are_suited opening (moment disk) t b left.0
+      reopened_logs_are_suited opening opened.es (moment disk) t b left.0
       (on_disk t b told begun left.0 left.1)
 
   suited : WasLeftSo size (tape disk) → HoldsSuited opening began
@@ -208,9 +221,9 @@ module _ {D : Type 0} (tape : D → Option Tape) (moment faults : D → ℕ) (di
         (sink_faults out) (sink_faults out_now) outcome) opened.opening
         (played_out.concluded (sunk out) (sink_faults out) (found_line found) puts)
 
-    all : RunAssures opening began (tape (played_out.closed).disk) (moment (played_out.closed).disk)
-        (faults (played_out.closed).disk) script lists
-    all = assured tape moment faults wal began opening opened.opening refl (omega arith)
+    all : RunAssures opening opened.es began (tape (played_out.closed).disk)
+        (moment (played_out.closed).disk) (faults (played_out.closed).disk) script lists
+    all = assured tape moment faults wal began opening opened.es lies opened.opening refl (omega arith)
         reopened_counted script played_out.backends played_out.closed played_out.played
 
     goes_on : TapeGoesOn (tape disk) (tape (played_out.closed).disk)
@@ -225,9 +238,10 @@ module _ {D : Type 0} (tape : D → Option Tape) (moment faults : D → ℕ) (di
     text = ap₂ (λ (front rest : List ℕ). front ++ rest)
         (found_text_is options.geometry opened.es found opened.count_is opened.end_is)
         (text_is options.geometry options.list script played_out.backends opened.es
-        (order_from options.geometry 1 script (lists_of played_out.backends)) concluded.summary
+        (order_from options.geometry 1 script (lists_of played_out.backends))
+        (found_position opening) lies.position_is concluded.summary
         (played_out.played).each concluded.summarizes
-        (counted tape moment faults wal began opening opened.opening refl (omega arith)
+        (counted tape moment faults wal began opening opened.es lies opened.opening refl (omega arith)
         reopened_counted script played_out.backends played_out.closed played_out.played))
 
     -- what crashes leave since the disk was handed in
@@ -240,16 +254,16 @@ module _ {D : Type 0} (tape : D → Option Tape) (moment faults : D → ℕ) (di
     survives m records c =
         let goes = subst (λ (o : Option Tape). TapeGoesOn o
         (began_of_table tape (table_of wal))) c.told_before goes_on_from in
-        let told = subst (λ (o : Option Tape). RunAssures opening o (tape (played_out.closed).disk)
-        (moment (played_out.closed).disk) (faults (played_out.closed).disk) script
+        let told = subst (λ (o : Option Tape). RunAssures opening opened.es o
+        (tape (played_out.closed).disk) (moment (played_out.closed).disk) (faults (played_out.closed).disk) script
         (lists_of played_out.backends)) goes.1 all in
-        let told_now = subst (λ (o : Option Tape). RunAssures opening
+        let told_now = subst (λ (o : Option Tape). RunAssures opening opened.es
         (Some (record c.old { calls = c.old.calls ++ goes.0 })) o
         (moment (played_out.closed).disk) (faults (played_out.closed).disk) script
         (lists_of played_out.backends)) c.disk_tells told in
         let decodes = (finding_is_decoding options.geometry c.image options.geometry valid
         records).0 c.finds in
-        reopened_logs_survive_crashes opening (moment disk) (moment (played_out.closed).disk)
+        reopened_logs_survive_crashes opening opened.es (moment disk) (moment (played_out.closed).disk)
         (faults (played_out.closed).disk) c.old
         (record c.old { calls = c.old.calls ++ goes.0 }) c.tape c.found_before script
         (lists_of played_out.backends)
@@ -260,14 +274,15 @@ module _ {D : Type 0} (tape : D → Option Tape) (moment faults : D → ℕ) (di
     abbrev headline : AppendHeadline size (moment disk) script lists (tape disk)
         (tape (played_out.closed).disk)
     headline =
-        let logged = logged_at_end opening (order_told opening script (lists_of played_out.backends))
+        let logged = logged_at_end opening opened.es
+        (order_told opened.es options.geometry script (lists_of played_out.backends))
         (faults (played_out.closed).disk) in
         record {
           sized = valid;
           answered = all_answered logged 1 script (lists_of played_out.backends) all.told;
           receipts = all_own_places logged 1 script (lists_of played_out.backends) all.told;
           found = opened.es;
-          nobodys = openable.nobodys;
+          nobodys = lies.nobodys;
           read = finds_all options.geometry system_id options.cap_segments opened.made opened.es
               valid (tape disk) opened.read;
           order = order_from options.geometry 1 script (lists_of played_out.backends);
@@ -292,11 +307,12 @@ module _ {D : Type 0} (tape : D → Option Tape) (moment faults : D → ℕ) (di
           within = openable.made_within;
           began = began;
           moment = at;
-          settled = settled;
+          settled = settled_to (end_address_of options.geometry
+              (end_position options.geometry opened.es)) opened.end_is;
           openable = openable;
           goes_on = all.goes_on;
           keeps_all = keeps_all valid;
-          behind = holds_behind tape moment faults wal began opening opened.opening refl
+          behind = holds_behind tape moment faults wal began opening opened.es lies opened.opening refl
               (omega arith) reopened_counted script played_out.backends played_out.closed
               played_out.played sunk sink_faults out out_now before after disk refl goes_on
               (WasLeftSo options.geometry (tape disk)) suited outcome (found_position opening)

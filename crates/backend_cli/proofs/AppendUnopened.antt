@@ -14,7 +14,6 @@ use Rattle.written_log.specs.Torn.{NoTornPass}
 use Rattle.found_log.specs.Found.{HasBegunToSettle, RefusesLog}
 use Rattle.found_log.specs.declared.fault.FindFault.TheVariants as finding
 use Rattle.wal_core.specs.Sound.{IsSetup}
-use Rattle.wal_core.specs.declared.setup.Setup.{Setup}
 use Rattle.wal_log.specs.Reopening.{TellsReopenFault}
 use Rattle.wal_log.specs.declared.opening.OpenFaultKind.{OpenFaultKind}
 use Rattle.wal_log.specs.declared.opening.OpenFaultKind.TheVariants as kinds

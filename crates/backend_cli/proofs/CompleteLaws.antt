@@ -94,13 +94,13 @@ if_told P told t is holds = subst (λ (o : Option Tape). IfSome o P) is holds
 
 -- ---- a log that was opened
 
-module _ (opening : Opening) (held : Type 0) (outside : Outside) (script : List (List AskedLine))
+module _ (opening : Opening) (front : List Entry) (held : Type 0) (outside : Outside) (script : List (List AskedLine))
     (told : List Told) (others : List (List Told)) (fine : NothingFailed outside)
     (room : capacity_of (opening.setup).segment_size (opening.setup).cap_segments
-    < rooms_of (opening.setup).segment_size opening.found
+    < rooms_of (opening.setup).segment_size front
     + all_rooms_asked (opening.setup).segment_size script → ⊥) where
   opened_complete : (outcome : Outcome)
-      → HoldsBehind opening held outside outcome script (told ∷ others)
+      → HoldsBehind opening front held outside outcome script (told ∷ others)
       → IsComplete (told ∷ others) outcome
   opened_complete Done behind = (some_lists told others, behind.ends.1)
   opened_complete DiskFault behind =
@@ -147,7 +147,7 @@ module _ (outside : Outside) (fine : NothingFailed outside) (t : Tape)
       opened_complete
       (empty_log_opening (run_setup options (length script)) outside.moment_before
       outside.disk_before)
-      (HoldsNothing outside.tape_before) outside script lists others fine
+      [] (HoldsNothing outside.tape_before) outside script lists others fine
       (fits_or_not (capacity_of options.geometry options.cap_segments) 0 0
       (all_rooms_asked options.geometry script) refl room) outcome holds.behind
 
@@ -244,7 +244,7 @@ module _ (outside : Outside) (options : ScriptRunOptions) (fine : NothingFailed 
       opened_complete
       (found_log_opening (run_setup options.run (length asked)) holds.headline.found
       holds.headline.segments holds.moment outside.disk_before)
-      (WasLeftSo size outside.tape_before) outside asked lists others fine
+      holds.headline.found (WasLeftSo size outside.tape_before) outside asked lists others fine
       (fits_or_not (capacity_of size options.run.cap_segments) (rooms_found size found)
       (rooms_of size holds.headline.found) (all_rooms_asked size asked)
       (same_rooms holds.headline.found holds.headline.read)

@@ -1,13 +1,13 @@
 -- What a run has to show behind the opening of its log, from what its parts say.
-use Rattle.std.proofs.Common.{◌≡◌, ℕ, ◌+◌, ◌-◌, ◌^◌, ◌<◌, ◌≤◌, Bool, List, [], ◌∷◌, ◌++◌, length, Option, Some, None, refl, sym, ◌∙◌, ap, subst, append_assoc, arith}
+use Rattle.std.proofs.Common.{◌≡◌, ℕ, ◌+◌, ◌-◌, ◌^◌, ◌<◌, ◌≤◌, Bool, List, [], ◌∷◌, ◌++◌, length, Option, Some, None, sym, ◌∙◌, ap, subst, append_assoc, arith}
 use Rattle.std.specs.Prelude.{IfSome, is_ok, not}
-use Rattle.byte_position.specs.Geometry.{IsSegmentSize}
 use Rattle.byte_position.specs.Position.{end_address_of}
 use Rattle.segment_disk.specs.declared.disk.Call.{Call}
 use Rattle.segment_disk.specs.Tape.{Tape}
 use Rattle.wal_page.specs.Order.{Entry, rooms_of}
 use Rattle.wal_page.proofs.OrderLaws.{room_at-pos, rooms_of-append, rooms_of_cons}
 use Rattle.wal_core.specs.Words.{Opening, found_end, found_position}
+use Rattle.machine_laws.specs.WholeOrders.{LiesBehind}
 use Rattle.wal_rule.specs.Closing.{ClosesWith}
 use Rattle.wal_rule.specs.Passes.{view_of_pass}
 use Rattle.wal_rule.specs.Slotted.{as_machine_has, slot_disk}
@@ -53,7 +53,8 @@ goes_on_further (Some t) mid new first next =
     )
 
 module _ {D : Type 0} (tape : D → Option Tape) (moment faults : D → ℕ) (wal : Wal D)
-    (began : Option Tape) (opening : Opening) (opening_is : opening_of_log wal ≡ opening)
+    (began : Option Tape) (opening : Opening) (front : List Entry) (lies : LiesBehind opening front)
+    (opening_is : opening_of_log wal ≡ opening)
     (began_is : began_of_table tape (table_of wal) ≡ began)
     (narrow : (opening.setup).sysid < 2 ^ 64)
     (counts : IfSome began (λ t. opening.moment ≡ length t.calls))
@@ -88,18 +89,24 @@ module _ {D : Type 0} (tape : D → Option Tape) (moment faults : D → ℕ) (wa
   flushed = subst (λ (o : Opening). HasFlushedAll (o.setup).segment_size (lists_of backends)
       (view_of_pass played.pass)) opening_is played.flushed
 
-  run_closed : IsRunClosed tape moment faults began opening (view_of_pass played.pass)
+  run_closed : IsRunClosed tape moment faults began opening front (view_of_pass played.pass)
       (played.closes).writer (played.closes).position script lists
-  run_closed = record { closes = closes; taken = taken; narrow = narrow; counted = counts }
+  run_closed = record {
+    closes = closes;
+    taken = taken;
+    narrow = narrow;
+    counted = counts;
+    lies = lies;
+  }
 
   -- ---- the order in numbers
 
   pub counted : length reserved ≡ all_reserved_count lists
-  counted = records_counted tape moment faults began opening (view_of_pass played.pass)
+  counted = records_counted tape moment faults began opening front (view_of_pass played.pass)
       (played.closes).writer (played.closes).position script lists run_closed
 
-  within : rooms_of size (order_told opening script lists) ≤ 2 ^ 42
-  within = rooms_within tape moment faults began opening (view_of_pass played.pass)
+  within : rooms_of size (order_told front size script lists) ≤ 2 ^ 42
+  within = rooms_within tape moment faults began opening front (view_of_pass played.pass)
       (played.closes).writer (played.closes).position script lists run_closed
 
   pub few_reserved : all_reserved_count lists ≤ 2 ^ 42
@@ -108,7 +115,7 @@ module _ {D : Type 0} (tape : D → Option Tape) (moment faults : D → ℕ) (wa
     counted,
     entries-le size reserved,
     within,
-    rooms_of-append size opening.found reserved,
+    rooms_of-append size front reserved,
   )
 
   pub end_told : closed.end.0
@@ -116,7 +123,7 @@ module _ {D : Type 0} (tape : D → Option Tape) (moment faults : D → ℕ) (wa
   end_told =
       let size_is = ap (λ (o : Opening). (o.setup).segment_size) opening_is in
       let position = (played.closes).position in
-      let position_is = bytes_told tape moment faults began opening (view_of_pass played.pass)
+      let position_is = bytes_told tape moment faults began opening front (view_of_pass played.pass)
       (played.closes).writer position script lists run_closed in
       (played.closes).end_is ∙ ap (λ (n : ℕ). end_address_of n position) size_is
       ∙ ap (end_address_of size) position_is
@@ -132,23 +139,23 @@ module _ {D : Type 0} (tape : D → Option Tape) (moment faults : D → ℕ) (wa
 
   -- ---- what is assured of the disk that came back
 
-  pub assured : RunAssures opening began (tape closed.disk) (moment closed.disk)
+  pub assured : RunAssures opening front began (tape closed.disk) (moment closed.disk)
       (faults closed.disk) script lists
   assured = subst (λ (d : D).
-      RunAssures opening began (tape d) (moment d) (faults d) script (lists_of backends))
+      RunAssures opening front began (tape d) (moment d) (faults d) script (lists_of backends))
       (played.closes).disk_is
-      (run_assures tape moment faults began opening (view_of_pass played.pass)
+      (run_assures tape moment faults began opening front (view_of_pass played.pass)
       (played.closes).writer (played.closes).position script lists run_closed)
 
   whole : faults closed.disk ≡ opening.faults → opening.faults < 2 ^ 64 - 1
       → HoldsSuited opening began
-      → IsWhole size (tape closed.disk) (order_told opening script lists)
+      → IsWhole size (tape closed.disk) (order_told front size script lists)
   whole = subst (λ (d : D). faults d ≡ opening.faults → opening.faults < 2 ^ 64 - 1
       → HoldsSuited opening began
       → IsWhole (opening.setup).segment_size (tape d)
-      (order_told opening script (lists_of backends)))
+      (order_told front (opening.setup).segment_size script (lists_of backends)))
       (played.closes).disk_is
-      (flushed_whole tape moment faults began opening (view_of_pass played.pass)
+      (flushed_whole tape moment faults began opening front (view_of_pass played.pass)
       (played.closes).writer (played.closes).position script lists run_closed flushed)
 
   faults_counted : CountsFaults opening.faults (faults closed.disk) lists
@@ -162,8 +169,8 @@ module _ {D : Type 0} (tape : D → Option Tape) (moment faults : D → ℕ) (wa
       (subst (CountsFaults opening.faults (faults (slot_disk writer)) (lists_of backends))
       (sym (played.closes).down_is)
       (record {
-        up = counted_up tape moment faults began opening v writer position script lists run_closed;
-        down = counted_down tape moment faults began opening v writer position script lists
+        up = counted_up tape moment faults began opening front v writer position script lists run_closed;
+        down = counted_down tape moment faults began opening front v writer position script lists
             run_closed;
       }))
 
@@ -176,7 +183,7 @@ module _ {D : Type 0} (tape : D → Option Tape) (moment faults : D → ℕ) (wa
       (from used : ℕ) (list : Bool) (text : List ℕ)
       (concluded : IsConcluded size from used list text backends closed.down (sunk out)
       (sunk out_now) (sink_faults out) (sink_faults out_now) outcome) where
-    pub holds_behind : HoldsBehind opening held (outside_of before after tape moment faults disk
+    pub holds_behind : HoldsBehind opening front held (outside_of before after tape moment faults disk
         closed.disk sunk sink_faults out out_now) outcome script lists
     holds_behind =
         let all = text ++ printed_text list backends concluded.summary in
@@ -184,7 +191,8 @@ module _ {D : Type 0} (tape : D → Option Tape) (moment faults : D → ℕ) (wa
         (as_machine_has closed.down)) faults_then faults_counted in
         let whole_then = subst (λ (n : ℕ). faults closed.disk ≡ n → n < 2 ^ 64 - 1
         → HoldsSuited opening began → IsWhole (opening.setup).segment_size (tape closed.disk)
-        (order_told opening script (lists_of backends))) faults_then whole in
+        (order_told front (opening.setup).segment_size script (lists_of backends))) faults_then whole
+        in
         record {
           machine = assured.machine;
           told = assured.told;

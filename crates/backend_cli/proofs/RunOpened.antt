@@ -1,5 +1,5 @@
 -- What a run has to show that began its log.
-use Rattle.std.proofs.Common.{◌≡◌, ℕ, ◌<◌, List, [], length, Ok, Option, Result, refl, sym, ◌∙◌, ap, subst, arith}
+use Rattle.std.proofs.Common.{◌≡◌, ℕ, ◌<◌, List, [], length, Ok, Option, refl, sym, ◌∙◌, ap, subst, arith}
 use Rattle.std.specs.Prelude.{IfSome}
 use Rattle.byte_position.specs.Geometry.{IsSegmentSize}
 use Rattle.segment_disk.specs.Tape.{Tape}
@@ -8,6 +8,9 @@ use Rattle.wal_page.specs.Order.{rooms_of}
 use Rattle.wal_core.specs.Sound.{IsSetup}
 use Rattle.wal_core.specs.Words.{Opening, found_end, found_position}
 use Rattle.wal_core.specs.declared.setup.Setup.{Setup}
+use Rattle.wal_core.proofs.NothingFound.{nothing_ends}
+use Rattle.machine_laws.specs.WholeOrders.{LiesBehind}
+use Rattle.machine_laws.proofs.WholeOrders.{LiesBehind-new}
 use Rattle.wal_rule.specs.Founded.{empty_log_opening}
 use Rattle.wal_rule.specs.Tables.{began_of_table}
 use Rattle.wal_rule.specs.declared.pass.Pass.{Pass}
@@ -15,7 +18,6 @@ use Rattle.wal_log.specs.Logs.{opening_of_log, table_of}
 use Rattle.wal_log.specs.Opening.{IsOpened}
 use Rattle.wal_log.specs.declared.wal.Wal.{Wal}
 use Rattle.wal_script.specs.Asked.{AskedLine}
-use Rattle.waldump_text.specs.declared.putting.SinkFault.{SinkFault}
 use Rattle.waldump_text.proofs.SinkLaws.{with_behind-nil}
 use Rattle.told_lines.specs.Told.{order_from}
 use Rattle.told_lines.specs.declared.told.Told.{Told}
@@ -35,7 +37,7 @@ use Rattle.backend_cli.proofs.HeadlineLaws.{all_answered, all_own_places, headli
 use Rattle.backend_cli.proofs.RunBackends.{told_holds}
 use Rattle.backend_cli.proofs.RunEnds.{took}
 use Rattle.backend_cli.proofs.RunLaws.{assured, counted, holds_behind}
-use Rattle.backend_cli.proofs.RunTexts.{log_starts, text_is}
+use Rattle.backend_cli.proofs.RunTexts.{text_is}
 
 module _ {D : Type 0} (tape : D → Option Tape) (moment faults : D → ℕ) (setup : Setup) (disk : D)
     (wal : Wal D) (first : Pass) (opened : IsOpened tape moment faults setup disk wal first) where
@@ -43,8 +45,14 @@ module _ {D : Type 0} (tape : D → Option Tape) (moment faults : D → ℕ) (se
   pub begun_end : IsSetup setup → (size : ℕ) → setup.segment_size ≡ size → (end : ℕ) → end ≡ size
       → end ≡ found_end (opening_of_log wal)
   begun_end can_be size size_is end is =
-      is ∙ sym size_is ∙ sym (log_starts setup.segment_size can_be.size)
+      is ∙ sym size_is
+      ∙ sym (nothing_ends (empty_log_opening setup (moment disk) (faults disk)) can_be.size refl)
       ∙ sym (ap (λ (o : Opening). found_end o) opened.opening)
+
+  -- nothing lies below it
+  pub begun_behind : IsSetup setup → LiesBehind (opening_of_log wal) []
+  begun_behind can_be = subst (λ (o : Opening). LiesBehind o []) (sym opened.opening)
+      (LiesBehind-new (empty_log_opening setup (moment disk) (faults disk)) can_be.size refl)
 
   module _ (counts : IfSome (tape disk) (λ t. moment disk ≡ length t.calls)) where
     -- the opening's moment is the number of the calls that were counted then
@@ -68,6 +76,9 @@ module _ {D : Type 0} (tape : D → Option Tape) (moment faults : D → ℕ) (se
 
       valid : IsSegmentSize options.geometry
       valid = subst (λ (s : Setup). IsSegmentSize s.segment_size) setup_is can_be.size
+
+      lies : LiesBehind opening []
+      lies = LiesBehind-new opening valid refl
 
       suited : HoldsNothing (tape disk) → HoldsSuited opening (tape disk)
       suited nothing = empty_suited opening (tape disk) refl nothing
@@ -96,17 +107,19 @@ module _ {D : Type 0} (tape : D → Option Tape) (moment faults : D → ℕ) (se
             ≡ run_text options.geometry options.list [] script lists
             (order_from options.geometry 1 script lists)
         text = text_is options.geometry options.list script out_of.backends []
-            (order_from options.geometry 1 script (lists_of out_of.backends)) concluded.summary
-            (out_of.played).each concluded.summarizes
-            (counted tape moment faults wal (tape disk) opening opening_is opened.began
+            (order_from options.geometry 1 script (lists_of out_of.backends))
+            (found_position opening) lies.position_is concluded.summary (out_of.played).each concluded.summarizes
+            (counted tape moment faults wal (tape disk) opening [] lies opening_is opened.began
             (omega arith) counts script out_of.backends out_of.closed out_of.played)
 
         holds : HoldsOpened (outside_of before after tape moment faults disk (out_of.closed).disk
             sunk sink_faults out out_now) options outcome script lists
         holds =
-            let all = assured tape moment faults wal (tape disk) opening opening_is opened.began
+            let all = assured tape moment faults wal (tape disk) opening [] lies opening_is
+            opened.began
             (omega arith) counts script out_of.backends out_of.closed out_of.played in
-            let logged = logged_at_end opening (order_told opening script (lists_of out_of.backends))
+            let logged = logged_at_end opening []
+            (order_told [] options.geometry script (lists_of out_of.backends))
             (faults (out_of.closed).disk) in
             let printed = printed_text options.list out_of.backends concluded.summary in
             record {
@@ -117,7 +130,7 @@ module _ {D : Type 0} (tape : D → Option Tape) (moment faults : D → ℕ) (se
                   (all_own_places logged 1 script (lists_of out_of.backends) all.told) all.gapless
                   all.in_line_order (λ (nothing : HoldsNothing (tape disk)).
                   all.crash (suited nothing));
-              behind = holds_behind tape moment faults wal (tape disk) opening opening_is
+              behind = holds_behind tape moment faults wal (tape disk) opening [] lies opening_is
                   opened.began (omega arith) counts script out_of.backends out_of.closed
                   out_of.played sunk sink_faults out out_now before after disk refl all.goes_on
                   (HoldsNothing (tape disk)) suited outcome (found_position opening)

@@ -1,12 +1,12 @@
 -- That what is printed is the run's text.
-use Rattle.std.proofs.Common.{◌≡◌, ◌<◌, ℕ, ◌+◌, ◌*◌, Bool, List, [], ◌∷◌, ◌++◌, length, refl, sym, ◌∙◌, ap, ap₂, arith}
+use Rattle.std.proofs.Common.{◌≡◌, ◌<◌, ℕ, ◌+◌, Bool, List, [], ◌∷◌, ◌++◌, length, refl, sym, ◌∙◌, ap, ap₂, arith}
 use Rattle.std.specs.Prelude.{codes, if◌then◌else◌}
 use Rattle.std.specs.Fmt.{decimal}
 use Rattle.wal_types.specs.LsnText.{lsn_text}
 use Rattle.byte_position.specs.Geometry.{IsSegmentSize}
-use Rattle.byte_position.specs.Position.{end_address_of, first_position, usable_bytes_in_segment}
+use Rattle.byte_position.specs.Position.{end_address_of, first_position}
 use Rattle.byte_position.proofs.Division.{usable_bytes_bounds}
-use Rattle.byte_position.proofs.Segments.{end_address_of-segment_start, first_position-usable}
+use Rattle.byte_position.proofs.Segments.{first_position-usable}
 use Rattle.wal_page.specs.Order.{Entry, end_position, rooms_of}
 use Rattle.wal_page.proofs.OrderLaws.{rooms_of-append}
 use Rattle.wal_script.specs.Asked.{AskedLine}
@@ -37,21 +37,16 @@ lists_are number (asked ∷ script) [] have = absurd have
 lists_are number (asked ∷ script) (backend ∷ backends) have =
     ap₂ (λ (text rest : List ℕ). text ++ rest) (lines_are number asked backend.lines.items backend.told.items (have.0).lines) (lists_are (number + 1) script backends have.1)
 
--- the log starts behind position 0, and where segment 1 does
+-- the log starts behind position 0
 pub starts_behind_zero : (size : ℕ) → IsSegmentSize size → 0 < first_position size
 starts_behind_zero size valid =
     omega (arith, first_position-usable size valid, (usable_bytes_bounds size valid).0)
 
-pub log_starts : (size : ℕ) → IsSegmentSize size → end_address_of size (end_position size []) ≡ size
-log_starts size valid =
-    let at : end_position size [] ≡ 1 * usable_bytes_in_segment size = omega (arith, first_position-usable size valid) in
-    omega (arith, ap (end_address_of size) at, end_address_of-segment_start size valid 1)
-
 -- a summary's line is that of the order, behind what was found
-summary_is : (size : ℕ) (found es : List Entry) (lists : List (List Told)) (s : Summary) → Summarizes size (end_position size found) (rooms_of size es) lists s → length es ≡ all_reserved_count lists → summary_line s ≡ summary_text size found es (all_commits_of lists)
-summary_is size found es lists s is count =
+summary_is : (size : ℕ) (found es : List Entry) (from : ℕ) → from ≡ end_position size found → (lists : List (List Told)) (s : Summary) → Summarizes size from (rooms_of size es) lists s → length es ≡ all_reserved_count lists → summary_line s ≡ summary_text size found es (all_commits_of lists)
+summary_is size found es from from_is lists s is count =
     let line = λ (records commits bytes at segments : ℕ). joined (codes "records " ∷ decimal records ∷ codes " commits " ∷ decimal commits ∷ codes " bytes " ∷ decimal bytes ∷ codes " end " ∷ lsn_text at ∷ codes " segments " ∷ decimal segments ∷ codes "\n" ∷ []) in
-    let end : end_position size found + rooms_of size es ≡ end_position size (found ++ es) = omega (arith, rooms_of-append size found es) in
+    let end : from + rooms_of size es ≡ end_position size (found ++ es) = omega (arith, from_is, rooms_of-append size found es) in
     ap (λ (n : ℕ). line n s.commits s.bytes s.end.0 s.segments) (is.records ∙ sym count)
     ∙ ap (λ (n : ℕ). line (length es) n s.bytes s.end.0 s.segments) is.commits
     ∙ ap (λ (n : ℕ). line (length es) (all_commits_of lists) n s.end.0 s.segments) is.bytes
@@ -59,8 +54,8 @@ summary_is size found es lists s is count =
     ∙ ap (λ (n : ℕ). line (length es) (all_commits_of lists) (rooms_of size es) n (segments_upto size n)) (is.end ∙ ap (end_address_of size) end)
 
 -- what is printed is the run's text
-pub text_is : (size : ℕ) (list : Bool) (script : List (List AskedLine)) (backends : List AnsweredLines) (found es : List Entry) (s : Summary) → HaveToldEach script backends
-    → Summarizes size (end_position size found) (rooms_of size es) (lists_of backends) s → length es ≡ all_reserved_count (lists_of backends)
+pub text_is : (size : ℕ) (list : Bool) (script : List (List AskedLine)) (backends : List AnsweredLines) (found es : List Entry) (from : ℕ) → from ≡ end_position size found → (s : Summary) → HaveToldEach script backends
+    → Summarizes size from (rooms_of size es) (lists_of backends) s → length es ≡ all_reserved_count (lists_of backends)
     → printed_text list backends s ≡ run_text size list found script (lists_of backends) es
-text_is size list script backends found es s have is count =
-    ap₂ (λ (told line : List ℕ). (if list then told else []) ++ line) (lists_are 0 script backends have) (summary_is size found es (lists_of backends) s is count)
+text_is size list script backends found es from from_is s have is count =
+    ap₂ (λ (told line : List ℕ). (if list then told else []) ++ line) (lists_are 0 script backends have) (summary_is size found es from from_is (lists_of backends) s is count)

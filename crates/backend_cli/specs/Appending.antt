@@ -180,8 +180,8 @@ pub record HoldsAppended (outside : Outside) (options : RunOptions) (outcome : O
       → outside.moment_before + headline.segments ≤ at
       → records ≡ found_of options.geometry headline.found
   pub behind : HoldsBehind (found_log_opening (run_setup options (length script)) headline.found
-      headline.segments moment outside.disk_before) (WasLeftSo options.geometry outside.tape_before)
-      outside outcome script lists
+      headline.segments moment outside.disk_before) headline.found
+      (WasLeftSo options.geometry outside.tape_before) outside outcome script lists
   pub printed : Took outside.taken_before outside.taken_after outside.sink_before outside.sink_after
       (append_text options.geometry options.list headline.found script lists
       (order_from options.geometry 1 script lists))

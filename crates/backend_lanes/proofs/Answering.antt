@@ -111,10 +111,11 @@ module _ {D : Type 0} (wal : Wal D) (old new : Session) (pass : Pass) (here : Is
       pub insert_plays_answer : KnowsRecords
           → ((faults : ℕ) → KnowsDown faults (view_of_session old)
           → answer ≡ Err (inserts.Down faults None))
+          → (view_of_pass pass).async_met ≡ (view_of_session old).async_met
           → (value : Record) → IsBodyOf value body → PlaysAnswer wal (Insert value) told old new
-      insert_plays_answer knows_record again value is_body = plays_answer (Insert value)
+      insert_plays_answer knows_record again async value is_body = plays_answer (Insert value)
           (plays_insert knows_record (setup_of_log wal) body (view_of_session old)
-          (view_of_pass pass) value is_body keeps answer told is answers again)
+          (view_of_pass pass) value is_body keeps async answer told is answers again)
 
     module _ (answer : Result Receipt InsertErr) (is : told ≡ told_of_ahead answer)
         (answers : AnswersInsert (setup_of_log wal) body (view_of_session old) answer
@@ -171,10 +172,11 @@ module _ {D : Type 0} (wal : Wal D) (old new : Session) (pass : Pass) (here : Is
       pub commit_plays_answer : KnowsRecords
           → ((faults : ℕ) → KnowsDown faults (view_of_session old)
           → answer ≡ commit_known_down faults)
+          → (view_of_pass pass).async_met ≡ (view_of_session old).async_met
           → (value : Record) → IsBodyOf value body → PlaysAnswer wal (Commit value) told old new
-      commit_plays_answer knows_record again value is_body = plays_answer (Commit value)
+      commit_plays_answer knows_record again async value is_body = plays_answer (Commit value)
           (plays_commit knows_record (setup_of_log wal) body (view_of_session old)
-          (view_of_pass pass) value is_body keeps answer told is answers again)
+          (view_of_pass pass) value is_body keeps async answer told is answers again)
 
   module _ (answer : Result hard.Hard FlushErr) (is : told ≡ told_of_flushed answer)
       (answers : AnswersFlush old.end.0 (view_of_session old) answer (view_of_pass pass)) where

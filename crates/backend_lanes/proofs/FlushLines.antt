@@ -79,6 +79,7 @@ module _ (setup : Setup) (valid : IsSegmentSize setup.segment_size) (old new : V
       cause = subst (λ (t : Told). TellsCause t (pass_state_of old) (pass_state_of new)) (sym is)
           (flush_caused answer answers);
       counts = keeps.counts;
+      async = tt;
       sees = keeps.rises;
       again = λ faults knows. is ∙ ap told_of_flushed (again faults knows);
     }
@@ -185,6 +186,7 @@ module _ (setup : Setup) (valid : IsSegmentSize setup.segment_size) (old : View)
       cause = subst (λ (t : Told). TellsCause t (pass_state_of old) (pass_state_of new)) (sym is)
           (caught_caused answer answers);
       counts = keeps.counts;
+      async = tt;
       sees = keeps.rises;
       again = λ faults knows. is ∙ ap told_of_caught (again faults knows);
     }

@@ -177,16 +177,18 @@ module _ (knows_record : KnowsRecords) (setup : Setup) (body : Assembled)
     cause = subst (λ (t : Told). TellsCause t (pass_state_of old) (pass_state_of new)) (sym is)
         (ahead_caused answer answers);
     counts = keeps.counts;
+    async = tt;
     sees = keeps.rises;
     again = λ faults knows. is ∙ ap told_of_ahead (again faults knows);
   }
 
-  pub plays_insert : KeepsPass old new → (answer : Result Receipt InsertErr) (told : Told)
+  pub plays_insert : KeepsPass old new → new.async_met ≡ old.async_met
+      → (answer : Result Receipt InsertErr) (told : Told)
       → told ≡ told_of_inserted answer → AnswersInsert setup body old answer new
       → ((faults : ℕ) → KnowsDown faults old → answer ≡ Err (inserts.Down faults None))
       → PlaysLine setup.segment_size (log_limit setup) (old.reserving).number (Insert value) told
       (pass_state_of old) (pass_state_of new)
-  plays_insert keeps answer told is answers again = record {
+  plays_insert keeps same answer told is answers again = record {
     writable = is_body.1;
     leaves = subst (λ (t : Told). Leaves setup.segment_size (log_limit setup)
         (old.reserving).number (Insert value) t (pass_state_of old) (pass_state_of new)) (sym is)
@@ -194,16 +196,18 @@ module _ (knows_record : KnowsRecords) (setup : Setup) (body : Assembled)
     cause = subst (λ (t : Told). TellsCause t (pass_state_of old) (pass_state_of new)) (sym is)
         (insert_caused answer answers);
     counts = keeps.counts;
+    async = same;
     sees = keeps.rises;
     again = λ faults knows. is ∙ ap told_of_inserted (again faults knows);
   }
 
-  pub plays_commit : KeepsPass old new → (answer : Result Sealed refused.Refused) (told : Told)
+  pub plays_commit : KeepsPass old new → new.async_met ≡ old.async_met
+      → (answer : Result Sealed refused.Refused) (told : Told)
       → told ≡ told_of_commit answer → AnswersCommit setup body old answer new
       → ((faults : ℕ) → KnowsDown faults old → answer ≡ commit_known_down faults)
       → PlaysLine setup.segment_size (log_limit setup) (old.reserving).number (Commit value) told
       (pass_state_of old) (pass_state_of new)
-  plays_commit keeps answer told is answers again = record {
+  plays_commit keeps same answer told is answers again = record {
     writable = is_body.1;
     leaves = subst (λ (t : Told). Leaves setup.segment_size (log_limit setup)
         (old.reserving).number (Commit value) t (pass_state_of old) (pass_state_of new)) (sym is)
@@ -211,6 +215,7 @@ module _ (knows_record : KnowsRecords) (setup : Setup) (body : Assembled)
     cause = subst (λ (t : Told). TellsCause t (pass_state_of old) (pass_state_of new)) (sym is)
         (commit_caused answer answers);
     counts = keeps.counts;
+    async = same;
     sees = keeps.rises;
     again = λ faults knows. is ∙ ap told_of_commit (again faults knows);
   }

@@ -105,6 +105,7 @@ module _ (setup : Setup) (body : Assembled) (old new : View) where
       cause = subst (λ (t : Told). TellsCause t (pass_state_of old) (pass_state_of new)) (sym is)
           (switched_caused answer answers);
       counts = keeps.counts;
+      async = tt;
       sees = keeps.rises;
       again = λ faults knows. is ∙ ap told_of_switched (again faults knows);
     }

@@ -1,5 +1,5 @@
 -- What is known of the disk of a closed log, and of each promise.
-use Rattle.std.proofs.Common.{◌≡◌, ◌≢◌, ℕ, ◌*◌, ◌^◌, ◌<◌, ◌≤◌, inl, inr, All, List, [], ◌∷◌, length, Some, refl, sym, ap, ◌∙◌, arith}
+use Rattle.std.proofs.Common.{◌≡◌, ◌≢◌, ℕ, ◌*◌, ◌^◌, ◌<◌, ◌≤◌, inl, inr, All, List, [], ◌∷◌, ◌++◌, length, Some, refl, sym, ap, subst, ◌∙◌, arith}
 use Rattle.std.proofs.lemmas.Bool.{cases_lt}
 use Rattle.std.proofs.Math.Nat.{mul-le-mul_right}
 use mathlib.Core.Option.{some, some-injective}
@@ -12,13 +12,15 @@ use Rattle.byte_position.proofs.Segments.{first_position-usable}
 use Rattle.segment_disk.specs.Tape.{Tape}
 use Rattle.wal_page.specs.Order.{Entry, IsChained, end_position}
 use Rattle.wal_core.specs.declared.setup.Setup.{Setup}
-use Rattle.wal_core.specs.Words.{Opening, down_word, flushed_word, log_limit, moment_word}
+use Rattle.wal_core.specs.Words.{GoesOnAtPlace, Opening, down_word, flushed_word, log_limit, moment_word, order_end}
 use Rattle.wal_core.specs.Views.{FlushPromise, Joined, Plain, View, receipts_of}
 use Rattle.wal_core.specs.Durable.{AreKept, IsPromiseKept, IsToldRightly}
 use Rattle.wal_core.specs.Sound.{IsSetup}
 use Rattle.wal_core.specs.Suited.{tape_from}
 use Rattle.wal_core.proofs.Tapes.{at_suited, counted_on}
 use Rattle.machine_laws.specs.Crashes.{CrashesLeave, HoldsPromise}
+use Rattle.machine_laws.specs.WholeOrders.{IsWholeOrder, LiesBehind}
+use Rattle.machine_laws.proofs.WholeOrders.{whole_order}
 use Rattle.closed_log.specs.Closed.{IsClosedOn, WasPromised}
 use Rattle.closed_log.proofs.Promises.{of_promise, told_rightly}
 
@@ -69,13 +71,22 @@ module _ (opening : Opening) (order : List Entry) (t : Tape) (v : View)
   pub known : 0 < (opening.setup).sysid
   known = some_number (opening.setup).sysid ((c.sound).setup_is).named
 
-  pub chained : IsChained (opening.setup).segment_size order
+  chained : GoesOnAtPlace opening order
   chained = ((c.closed).accounted).chained
 
-  pub low : end_address_of (opening.setup).segment_size
-      (end_position (opening.setup).segment_size order) ≤ 2 ^ 60
-  low = ends_low opening.setup (c.sound).setup_is
-      (end_position (opening.setup).segment_size order) ((c.closed).accounted).within
+  pub low : end_address_of (opening.setup).segment_size (order_end opening order) ≤ 2 ^ 60
+  low = ends_low opening.setup (c.sound).setup_is (order_end opening order)
+      ((c.closed).accounted).within
+
+  -- with the entries that lie below the place, they are one order
+  module _ (front : List Entry) (lies : LiesBehind opening front) where
+    pub whole_is : IsWholeOrder opening order (front ++ order)
+    whole_is = whole_order opening valid front lies order chained
+
+    pub whole_low : end_address_of (opening.setup).segment_size
+        (end_position (opening.setup).segment_size (front ++ order)) ≤ 2 ^ 60
+    whole_low = subst (λ (n : ℕ). end_address_of (opening.setup).segment_size n ≤ 2 ^ 60)
+        (sym whole_is.end) low
 
   -- the writer at home is the one that the state speaks of
   same_writer : c.writer ≡ (c.sound).writer

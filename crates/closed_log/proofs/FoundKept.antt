@@ -1,31 +1,32 @@
--- What a crash leaves of a closed log reads as records that begin with all that its opening found:
--- that is durable from the opening on, and its entries are the first of the order.
+-- What a crash leaves of a closed log reads as records that begin with all that lay below its place:
+-- that is durable from the opening on.
 use Rattle.std.proofs.Common.{◌≡◌, ℕ, suc, ◌+◌, ◌-◌, ◌<◌, ◌≤◌, All, List, [], ◌∷◌, ◌++◌, length, take, Some, refl, sym, ap, ◌∙◌, subst, arith}
 use Rattle.std.specs.Prelude.{slice_get}
 use Rattle.std.proofs.Math.Seq.{take-append-add, take-append_seam}
+use Rattle.std.proofs.lemmas.List.{append_assoc}
 use Rattle.std.proofs.lemmas.List.Elements.{All-cons, All-head, All-nil, All-tail}
 use Rattle.byte_position.specs.Geometry.{IsSegmentSize}
 use Rattle.byte_position.specs.Position.{end_address_of, first_position}
 use Rattle.byte_position.proofs.EndAddresses.{end_address_of-mono}
 use Rattle.segment_disk.specs.Assured.{IsNowhere, TapeAssures}
 use Rattle.segment_disk.specs.Tape.{Tape}
-use Rattle.flush_core.specs.Lawful.{IsLawful}
 use Rattle.wal_page.specs.Order.{Entry, FollowsFrom, IsChained, finish_of, position_behind, rooms_of}
-use Rattle.wal_page.proofs.OrderLaws.{FollowsFrom-parts, rooms_of_cons}
+use Rattle.wal_page.proofs.OrderLaws.{FollowsFrom-parts, rooms_of-append, rooms_of_cons}
 use Rattle.wal_core.specs.Durable.{IsFirm, IsLawfulAt}
-use Rattle.wal_core.specs.Ordered.{BeginsWith}
 use Rattle.wal_core.specs.Views.{View}
-use Rattle.wal_core.specs.Words.{Opening, found_end}
+use Rattle.wal_core.specs.Words.{GoesOnAtPlace, Opening, found_end, found_position, order_end}
 use Rattle.wal_core.proofs.Tapes.{at_suited}
 use Rattle.machine_laws.specs.Crashes.{LeavesLawful}
-use Rattle.machine_laws.proofs.CrashLaws.{IsLawful-left}
+use Rattle.machine_laws.specs.WholeOrders.{IsWholeOrder, LiesBehind}
+use Rattle.machine_laws.proofs.CrashLaws.{IsLawfulBehind-left}
+use Rattle.machine_laws.proofs.WholeOrders.{IsLawful-whole}
 use Rattle.written_log.specs.LawfulLog.{IsFrontUpto}
 use Rattle.written_log.specs.Written.{found_from}
 use Rattle.written_log.proofs.LawfulLaws.{lawful_images_decode_to_fronts}
 use Rattle.told_lines.specs.Crash.{KeepsFound}
 use Rattle.told_lines.proofs.FrontLengths.{take-found_from}
 use Rattle.closed_log.specs.Closed.{IsClosedOn}
-use Rattle.closed_log.proofs.ClosedDisk.{chained, known, low, sound_tape, valid}
+use Rattle.closed_log.proofs.ClosedDisk.{known, sound_tape, valid, whole_is, whole_low}
 
 -- an entry ends at or below an address
 abbrev EndsBelow : (size address : ℕ) → Entry → Type 0
@@ -75,54 +76,51 @@ module _ (opening : Opening) (order : List Entry) (t : Tape) (v : View)
   abbrev size : ℕ
   size = (opening.setup).segment_size
 
-  found_firm : IsFirm opening.setup (c.sound).order (found_end opening) opening.moment t
+  found_firm : IsFirm opening (c.sound).order (found_end opening) opening.moment t
   found_firm = at_suited t.at_first opening (c.sound).writer
-      (IsFirm opening.setup (c.sound).order (found_end opening) opening.moment) t
+      (IsFirm opening (c.sound).order (found_end opening) opening.moment) t
       (sound_tape opening order t v c) c.began ((c.sound).durable).found
 
   only_log : TapeAssures (opening.setup).segment_size IsNowhere
-      (IsLawfulAt opening.setup (c.sound).order) opening.moment t
+      (IsLawfulAt opening (c.sound).order) opening.moment t
   only_log = at_suited t.at_first opening (c.sound).writer
-      (TapeAssures size IsNowhere (IsLawfulAt opening.setup (c.sound).order) opening.moment) t
+      (TapeAssures size IsNowhere (IsLawfulAt opening (c.sound).order) opening.moment) t
       (sound_tape opening order t v c) c.began ((c.sound).durable).lawful
 
-  found_lawful : LeavesLawful opening.setup order (found_end opening) opening.moment t
-  found_lawful moment image since left =
-      subst (λ (es : List Entry). IsLawful size (opening.setup).sysid image es (found_end opening))
-      c.order_is
-      (IsLawful-left opening.setup (valid opening order t v c) (c.sound).order
-      ((c.sound).reserved).chained image (found_end opening)
+  found_lawful : LeavesLawful opening order (found_end opening) opening.moment t
+  found_lawful = subst
+      (λ (es : List Entry). LeavesLawful opening es (found_end opening) opening.moment t)
+      c.order_is (λ moment image since left.
+      IsLawfulBehind-left opening (valid opening order t v c) (c.sound).order
+      ((c.sound).reserved).placed image (found_end opening)
       (found_firm.left moment since image left) (only_log.left moment since image left))
 
-  first : BeginsWith opening.found order
-  first = ((c.closed).accounted).found_first
+  -- the entries below the place end where it is
+  module _ (front : List Entry) (lies : LiesBehind opening front) where
+    front_end : first_position size + rooms_of size front ≡ found_position opening
+    front_end = omega (arith, lies.position_is)
 
-  found_ends : All (EndsBelow (opening.setup).segment_size (found_end opening)) opening.found
-  found_ends = ends_of_all size (valid opening order t v c) (first_position size) opening.found
-      (FollowsFrom-parts size (first_position size) opening.found first.0
-      (subst (IsChained size) first.1 (chained opening order t v c))).0
+    front_ends : All (EndsBelow (opening.setup).segment_size (found_end opening)) front
+    front_ends = subst (λ (p : ℕ). All (EndsBelow size (end_address_of size p)) front) front_end
+        (ends_of_all size (valid opening order t v c) (first_position size) front lies.chained)
 
 pub keep : (opening : Opening) (order : List Entry) (t : Tape) (v : View)
-    → IsClosedOn opening order t v
-    → KeepsFound (opening.setup).segment_size opening.moment order opening.found t
-keep opening order t v c moment image since left torn found answer decodes =
+    → IsClosedOn opening order t v → (front : List Entry) → LiesBehind opening front
+    → KeepsFound (opening.setup).segment_size opening.moment (front ++ order) front t
+keep opening order t v c front lies moment image since left torn found answer decodes =
     let size = (opening.setup).segment_size in
-    let entries = opening.found in
-    let begins = first opening order t v c in
-    let front : IsFrontUpto size order (found_end opening) found =
-    lawful_images_decode_to_fronts size (opening.setup).sysid (found_end opening) image order
-    (valid opening order t v c) (known opening order t v c) c.narrow (chained opening order t v c)
-    (low opening order t v c) (found_lawful opening order t v c moment image since left) torn found
-    answer decodes in
-    let all : 0 + length entries ≤ front.count =
-    all_among (EndsBelow size (found_end opening)) front.count 0 entries begins.0
-    (λ i e is ends. omega (
-      arith,
-      front.holds i e
-          (subst (λ (es : List Entry). slice_get es i ≡ Some e) (sym begins.1) is) ends,
-    ))
-    (found_ends opening order t v c) (omega arith) in
-    ap (take (length entries)) front.found_is
-    ∙ take-found_from (length entries) size 0 (take front.count order)
+    let whole = whole_is opening order t v c front lies in
+    let lawful = IsLawful-whole opening order (front ++ order) image (found_end opening)
+    (valid opening order t v c) whole (found_lawful opening order t v c moment image since left) in
+    let read : IsFrontUpto size (front ++ order) (found_end opening) found =
+    lawful_images_decode_to_fronts size (opening.setup).sysid (found_end opening) image
+    (front ++ order) (valid opening order t v c) (known opening order t v c) c.narrow whole.chained
+    (whole_low opening order t v c front lies) lawful torn found answer decodes in
+    let all : 0 + length front ≤ read.count =
+    all_among (EndsBelow size (found_end opening)) read.count 0 front order
+    (λ i e is ends. omega (arith, read.holds i e is ends))
+    (front_ends opening order t v c front lies) (omega arith) in
+    ap (take (length front)) read.found_is
+    ∙ take-found_from (length front) size 0 (take read.count (front ++ order))
     ∙ ap (found_from size 0)
-    (first_of_front entries begins.0 order front.count begins.1 (omega (arith, all)))
+    (first_of_front front order (front ++ order) read.count refl (omega (arith, all)))

@@ -1,12 +1,11 @@
 -- What a crash leaves of a closed log decodes to a front of its order, with all that was promised.
-use Rattle.std.proofs.Common.{◌≡◌, ℕ, suc, ◌<◌, ◌≤◌, List, [], ◌∷◌, length, take, None, Some, refl, ap, arith}
+use Rattle.std.proofs.Common.{◌≡◌, ℕ, suc, ◌<◌, ◌≤◌, List, [], ◌∷◌, ◌++◌, length, take, None, Some, refl, ap, arith}
 use Rattle.std.specs.Prelude.{slice_get}
 use Rattle.std.proofs.lemmas.List.{length-take-le}
 use Rattle.byte_position.specs.Position.{address_of}
 use Rattle.segment_disk.specs.DiskImage.{DiskImage, LeftAt}
 use Rattle.segment_disk.specs.Tape.{Tape}
 use Rattle.wal_page.specs.Order.{Entry, finish_of}
-use Rattle.flush_core.specs.Lawful.{IsLawful}
 use Rattle.wal_core.specs.Words.{Opening}
 use Rattle.wal_core.specs.Views.{FlushPromise, View}
 use Rattle.wal_reader.specs.declared.found.Answer.{Answer}
@@ -17,10 +16,12 @@ use Rattle.written_log.specs.LawfulLog.{IsFrontUpto}
 use Rattle.written_log.specs.Torn.{NoTornPass}
 use Rattle.written_log.specs.Written.{found_from}
 use Rattle.written_log.proofs.LawfulLaws.{lawful_images_decode_to_fronts}
-use Rattle.machine_laws.specs.Crashes.{LeavesLawful}
+use Rattle.machine_laws.specs.Crashes.{IsLawfulBehind}
+use Rattle.machine_laws.specs.WholeOrders.{LiesBehind}
+use Rattle.machine_laws.proofs.WholeOrders.{IsLawful-whole}
 use Rattle.closed_log.specs.Closed.{IsClosedOn, WasPromised}
-use Rattle.closed_log.specs.Surviving.{IsFrontAsPromised, LeavesFronts}
-use Rattle.closed_log.proofs.ClosedDisk.{chained, crashes, known, low, promise_held, valid}
+use Rattle.closed_log.specs.Surviving.{IsFrontAsPromised, LeavesFronts, LeavesWordsOf}
+use Rattle.closed_log.proofs.ClosedDisk.{crashes, known, promise_held, valid, whole_is, whole_low}
 
 length-found_from : (size prev : ℕ) (es : List Entry)
     → length (found_from size prev es) ≡ length es
@@ -40,26 +41,34 @@ front_length size es upto found front =
     )
 
 module _ (opening : Opening) (order : List Entry) (t : Tape) (v : View)
-    (c : IsClosedOn opening order t v) (moment : ℕ) (image : DiskImage)
+    (c : IsClosedOn opening order t v) (front : List Entry) (lies : LiesBehind opening front)
+    (moment : ℕ) (image : DiskImage)
     (since : opening.moment ≤ moment) (left : LeftAt t moment image)
     (torn : NoTornPass (opening.setup).segment_size (pages_in (opening.setup).segment_size image)
-    order) (found : List FoundRecord) (answer : Answer)
+    (front ++ order)) (found : List FoundRecord) (answer : Answer)
     (decodes : Decodes (opening.setup).segment_size (pages_in (opening.setup).segment_size image)
     (opening.setup).segment_size None found answer) where
   abbrev size : ℕ
   size = (opening.setup).segment_size
 
-  front_of : (upto : ℕ) → IsLawful size (opening.setup).sysid image order upto
-      → IsFrontUpto size order upto found
-  front_of upto lawful = lawful_images_decode_to_fronts size (opening.setup).sysid upto image order
-      (valid opening order t v c) (known opening order t v c) c.narrow (chained opening order t v c)
-      (low opening order t v c) lawful torn found answer decodes
+  abbrev whole : List Entry
+  whole = front ++ order
 
-  found_front : IsFrontUpto (opening.setup).segment_size order 0 found
+  front_of : (upto : ℕ) → IsLawfulBehind opening order image upto
+      → IsFrontUpto size whole upto found
+  front_of upto lawful =
+      let is = whole_is opening order t v c front lies in
+      lawful_images_decode_to_fronts size (opening.setup).sysid upto image whole
+      (valid opening order t v c) (known opening order t v c) c.narrow is.chained
+      (whole_low opening order t v c front lies)
+      (IsLawful-whole opening order whole image upto (valid opening order t v c) is lawful) torn
+      found answer decodes
+
+  found_front : IsFrontUpto (opening.setup).segment_size whole 0 found
   found_front = front_of 0 ((crashes opening order t v c).only moment image since left)
 
   has_promised : (entries : List Entry) (p : FlushPromise) → WasPromised v entries p
-      → p.moment ≤ moment → (n : ℕ) (e : Entry) → slice_get order n ≡ Some e
+      → p.moment ≤ moment → (n : ℕ) (e : Entry) → slice_get whole n ≡ Some e
       → finish_of size e ≤ p.upto → n < found_front.count
   has_promised entries p was by n e is within =
       let held = promise_held opening order t v c entries p was in
@@ -67,11 +76,11 @@ module _ (opening : Opening) (order : List Entry) (t : Tape) (v : View)
       omega (
         arith,
         other.holds n e is within,
-        front_length size order p.upto found other,
-        front_length size order 0 found found_front,
+        front_length size whole p.upto found other,
+        front_length size whole 0 found found_front,
       )
 
-  front_as_promised : IsFrontAsPromised (opening.setup).segment_size moment order v found
+  front_as_promised : IsFrontAsPromised (opening.setup).segment_size moment whole v found
   front_as_promised = record {
     count = found_front.count;
     within = found_front.within;
@@ -80,10 +89,16 @@ module _ (opening : Opening) (order : List Entry) (t : Tape) (v : View)
   }
 
 pub survive : (opening : Opening) (order : List Entry) (t : Tape) (v : View)
-    → IsClosedOn opening order t v → LeavesFronts opening order t v
-survive opening order t v c moment image since left torn found answer decodes =
-    front_as_promised opening order t v c moment image since left torn found answer decodes
+    → IsClosedOn opening order t v → (front : List Entry) → LiesBehind opening front
+    → LeavesFronts opening (front ++ order) t v
+survive opening order t v c front lies moment image since left torn found answer decodes =
+    front_as_promised opening order t v c front lies moment image since left torn found answer
+    decodes
 
 pub no_other_words : (opening : Opening) (order : List Entry) (t : Tape) (v : View)
-    → IsClosedOn opening order t v → LeavesLawful opening.setup order 0 opening.moment t
-no_other_words opening order t v c = (crashes opening order t v c).only
+    → IsClosedOn opening order t v → (front : List Entry) → LiesBehind opening front
+    → LeavesWordsOf opening (front ++ order) t
+no_other_words opening order t v c front lies moment image since left =
+    IsLawful-whole opening order (front ++ order) image 0 (valid opening order t v c)
+    (whole_is opening order t v c front lies)
+    ((crashes opening order t v c).only moment image since left)

@@ -2,8 +2,8 @@
 use Rattle.std.proofs.Common.{◌≤◌, inl, inr, All, List, ℕ, sym, subst, arith}
 use Rattle.std.proofs.lemmas.List.Elements.{All-contains}
 use mathlib.Core.Option.{Option}
-use Rattle.wal_page.specs.Order.{Entry, end_position}
-use Rattle.wal_core.specs.Words.{Opening, down_word, end_form, flushed_word, moment_word}
+use Rattle.wal_page.specs.Order.{Entry}
+use Rattle.wal_core.specs.Words.{Opening, down_word, end_form, flushed_word, moment_word, order_end}
 use Rattle.wal_core.specs.Views.{HasAt, FlushPromise, Joined, Plain, View, receipts_of}
 use Rattle.wal_core.specs.Durable.{IsPromised, IsToldRightly}
 use Rattle.wal_core.specs.Sound.{IsSound}
@@ -40,7 +40,7 @@ module _ {first : DiskState} (opening : Opening) (words : List ℕ) (home : Opti
 
   -- what is durable is written, and what is written was reserved
   pub within_order : (entries : List Entry) (p : FlushPromise) → WasPromised v entries p
-      → p.upto ≤ end_form opening.setup (end_position (opening.setup).segment_size k.order)
+      → p.upto ≤ end_form opening.setup (order_end opening k.order)
   within_order entries p was =
       let positions = k.positions in
       omega (

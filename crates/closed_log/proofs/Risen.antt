@@ -1,6 +1,5 @@
 -- The entries of one number rise, since the order has no gap.
 use Rattle.std.proofs.Common.{ℕ, ◌≤◌, cond, Bool, true, false, List, [], ◌∷◌, arith}
-use Rattle.byte_position.specs.Position.{first_position}
 use Rattle.wal_page.specs.Order.{Entry, FollowsFrom, position_behind}
 use Rattle.wal_core.specs.Words.{Opening}
 use Rattle.wal_core.specs.Views.{Reserving, View}
@@ -29,7 +28,7 @@ pub risen : (opening : Opening) (order : List Entry) (words : List ℕ) (views :
     (r : Reserving) → OrderIsAccounted opening order words views r
     → LogsAreOfOrder opening order r
 risen opening order words views r accounted =
-    let first = first_position (opening.setup).segment_size in
+    let first = (opening.place).position in
     record {
       rise = λ number. entries_rise (opening.setup).segment_size number first first order
           accounted.chained (omega arith);

@@ -32,9 +32,9 @@ writes_no_word size valid order e segment (Write page bytes) puts = λ n below o
 writes_no_word size valid order e segment Sync puts = tt
 
 pub timely : (opening : Opening) (order : List Entry) (t : Tape) (v : View)
-    → IsClosedOn opening order t v → (entries : List Entry) (p : FlushPromise)
-    → WasPromised v entries p → IsTimely opening order t entries p
-timely opening order t v c entries p was =
+    → IsClosedOn opening order t v → (whole entries : List Entry) (p : FlushPromise)
+    → WasPromised v entries p → IsTimely opening whole t entries p
+timely opening order t v c whole entries p was =
     let size = (opening.setup).segment_size in
     let held = promise_held opening order t v c entries p was in
     record {
@@ -46,7 +46,7 @@ timely opening order t v c entries p was =
         moment_passed opening order t v c,
       );
       unwritten = λ k e behind is. All-weaker (λ (a : Call). PutsNone size e a.segment a.kind)
-          (WritesNone size order e)
-          (λ a puts. writes_no_word size (valid opening order t v c) order e a.segment a.kind puts)
+          (WritesNone size whole e)
+          (λ a puts. writes_no_word size (valid opening order t v c) whole e a.segment a.kind puts)
           (drop opening.moment (take p.moment t.calls)) (held.later k e behind is);
     }

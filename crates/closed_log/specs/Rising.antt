@@ -1,7 +1,7 @@
 -- The log of each pass, in the order that all of them made.
 use Rattle.std.specs.Prelude.{◌≡◌, ◌≢◌, ℕ, ◌≤◌, All, List, [], ◌∷◌}
 use Rattle.wal_page.specs.Order.{Entry, position_behind}
-use Rattle.wal_core.specs.Words.{Opening, log_start}
+use Rattle.wal_core.specs.Words.{Opening}
 use Rattle.wal_core.specs.Views.{Reserving}
 use Rattle.wal_core.specs.Ordered.{entries_under, TookIn}
 
@@ -14,7 +14,7 @@ RiseFrom size position (e ∷ es) =
 
 -- each pass's log is its entries of the order, which rise; no other number has entries
 pub record LogsAreOfOrder (opening : Opening) (order : List Entry) (r : Reserving) : Type 0 where
-  pub rise : (number : ℕ) → RiseFrom (opening.setup).segment_size (log_start opening.setup)
+  pub rise : (number : ℕ) → RiseFrom (opening.setup).segment_size (opening.place).position
       (entries_under number order)
   pub own : r.entries ≡ entries_under r.number order
   pub joined : All (λ j. j.entries ≡ entries_under j.number order) r.joined

@@ -3,6 +3,7 @@ use Rattle.std.specs.Prelude.{◌≡◌, ℕ, ◌<◌, ◌≤◌, List, length, 
 use Rattle.segment_disk.specs.DiskImage.{DiskImage, LeftAt}
 use Rattle.segment_disk.specs.Tape.{Tape}
 use Rattle.wal_page.specs.Order.{Entry, finish_of}
+use Rattle.flush_core.specs.Lawful.{IsLawful}
 use Rattle.wal_core.specs.Words.{Opening}
 use Rattle.wal_core.specs.Views.{FlushPromise, View}
 use Rattle.wal_reader.specs.declared.found.Answer.{Answer}
@@ -23,6 +24,12 @@ pub record IsFrontAsPromised (size moment : ℕ) (order : List Entry) (v : View)
   pub promised : (entries : List Entry) (p : FlushPromise) → WasPromised v entries p
       → p.moment ≤ moment → (n : ℕ) (e : Entry) → slice_get order n ≡ Some e
       → finish_of size e ≤ p.upto → n < count
+
+-- from the opening on, whatever a crash leaves holds nothing but zeros and words of this order
+abbrev pub LeavesWordsOf : Opening → List Entry → Tape → Type 0
+LeavesWordsOf opening order t =
+    (moment : ℕ) (image : DiskImage) → opening.moment ≤ moment → LeftAt t moment image
+    → IsLawful (opening.setup).segment_size (opening.setup).sysid image order 0
 
 -- from the opening on, whatever a crash at a moment leaves decodes, from segment 1's start, to such
 -- a front; the premise is that no torn record passes its CRC in what is left. The disk may have

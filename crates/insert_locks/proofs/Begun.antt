@@ -1,11 +1,10 @@
 -- What is met as reserved reaches the log's start at least, and ends at a word.
 use Rattle.std.proofs.Common.{◌≡◌, ℕ, ◌%◌, ◌≤◌, map, sym, subst, arith}
 use Rattle.byte_position.proofs.Words.{end_address_of-mod_word}
-use Rattle.wal_page.specs.Order.{end_position}
-use Rattle.wal_page.proofs.OwnerLaws.{end_position-whole}
+use Rattle.wal_page.proofs.PlaceLaws.{end-whole_from}
 use Rattle.machine_laws.proofs.OrderSteps.{unlocked-is}
 use Rattle.wal_core.specs.declared.setup.Setup.{Setup}
-use Rattle.wal_core.specs.Words.{end_form, position_word, prev_word}
+use Rattle.wal_core.specs.Words.{end_form, position_word, prev_word, order_end}
 use Rattle.wal_core.specs.Views.{reserving_of, View}
 use Rattle.wal_core.specs.Moves.{unlocked}
 use Rattle.wal_core.specs.Steps.{load_position}
@@ -19,11 +18,11 @@ module _ (v : View) (met : ℕ) (m : Meets v load_position met) where
   setup = (v.opening).setup
 
   abbrev end : ℕ
-  end = end_position setup.segment_size (s.sound).order
+  end = order_end v.opening (s.sound).order
 
   end_is_met : unlocked met ≡ end
   end_is_met = subst (λ (n : ℕ). unlocked n ≡ end) (sym m.met_is)
-      (unlocked-is setup (v.opening).found (s.sound).order (position_word s.words)
+      (unlocked-is v.opening (s.sound).order (position_word s.words)
       (prev_word s.words) (map reserving_of s.views) (s.sound).reserved
       ((s.sound).setup_is).size)
 
@@ -45,4 +44,5 @@ module _ (v : View) (met : ℕ) (m : Meets v load_position met) where
       let valid = ((s.sound).setup_is).size in
       subst (λ (n : ℕ). end_form setup n % 8 ≡ 0) (sym end_is_met)
       (end_address_of-mod_word size valid end
-      (end_position-whole size valid (s.sound).order ((s.sound).reserved).chained))
+      (end-whole_from size valid ((v.opening).place).position (s.sound).order
+      ((s.sound).reserved).chained (((s.sound).reserved).placed).whole))

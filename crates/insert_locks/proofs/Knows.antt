@@ -1,8 +1,7 @@
 -- A watch that has visited all locks.
 use Rattle.std.proofs.Common.{◌≡◌, ℕ, ◌≤◌, Bool, cond, map, ap, subst, eq-eqb}
-use Rattle.wal_page.specs.Order.{end_position}
 use Rattle.wal_core.specs.declared.setup.Setup.{Setup}
-use Rattle.wal_core.specs.Words.{end_form, lock_word}
+use Rattle.wal_core.specs.Words.{end_form, lock_word, order_end}
 use Rattle.wal_core.specs.Views.{flight_of, View}
 use Rattle.wal_core.specs.Positioned.{IsCopiedBelow}
 use Rattle.machine_laws.proofs.WatchLaws.{known_is_copied}
@@ -13,7 +12,7 @@ module _ (v : View) (s : Stands v) (all : (v.watching).visited ≡ 8) where
   setup = (v.opening).setup
 
   abbrev reserved_end : ℕ
-  reserved_end = end_form setup (end_position setup.segment_size (s.sound).order)
+  reserved_end = end_form setup (order_end v.opening (s.sound).order)
 
   pub bound_known : ((v.watching).bound ≤ reserved_end)
       × IsCopiedBelow setup.segment_size (map flight_of s.views) (v.watching).bound

@@ -4,8 +4,7 @@
 //! before it had the turn to write.
 
 ghost use Rattle.std.specs.Prelude.{◌≡◌, ◌≤◌, map};
-ghost use Rattle.wal_page.specs.Order.{end_position};
-ghost use Rattle.wal_core.specs.Words.{end_form};
+ghost use Rattle.wal_core.specs.Words.{end_form, order_end};
 ghost use Rattle.wal_core.specs.Views.{flight_of, View};
 ghost use Rattle.wal_core.specs.Positioned.{IsCopiedBelow};
 ghost use Rattle.wal_rule.specs.Stepping.{Stands};
@@ -15,7 +14,7 @@ ghost use Rattle.wal_rule.specs.Stepping.{Stands};
 pub fn finished_watches_know_the_log()
     ensures reserved { (v : View) (s : Stands v) → (v.watching).visited ≡ 8
         → (v.watching).bound ≤ end_form (v.opening).setup
-        (end_position ((v.opening).setup).segment_size (s.sound).order) }
+        (order_end v.opening (s.sound).order) }
     ensures copied { (v : View) (s : Stands v) → (v.watching).visited ≡ 8
         → IsCopiedBelow ((v.opening).setup).segment_size (map flight_of s.views)
         (v.watching).bound }

@@ -1,6 +1,7 @@
 -- What is kept of a log over a life, by what `pgwal` promises of its call.
-use Rattle.std.proofs.Common.{◌≡◌, ◌⊎◌, ℕ, ◌^◌, ◌<◌, ◌≤◌, All, Contains, List, ◌∷◌, ◌++◌, length, Option, Some, IfSome, inl, inr, refl, sym, ap, subst, ◌∙◌, arith}
+use Rattle.std.proofs.Common.{◌≡◌, ◌⊎◌, ℕ, ◌^◌, ◌<◌, ◌≤◌, All, Contains, List, [], ◌∷◌, ◌++◌, length, Option, Some, IfSome, inl, inr, refl, sym, ap, subst, ◌∙◌, arith}
 use Rattle.std.proofs.lemmas.List.Elements.{All-weaker}
+use Rattle.byte_position.specs.Position.{end_address_of}
 use Rattle.segment_disk.specs.declared.disk.Call.{Call}
 use Rattle.segment_disk.specs.DiskImage.{image_as_read}
 use Rattle.segment_disk.specs.Tape.{Tape, state_now}
@@ -68,10 +69,10 @@ module _ (size : ℕ) (options : RunOptions) (outside : Outside) (outcome : Outc
   opening = empty_log_opening (run_setup options (length script)) outside.moment_before
       outside.disk_before
 
-  run : IsRunOn opening (Some t) (Some now) outside.moment_after script lists
+  run : IsRunOn opening [] (Some t) (Some now) outside.moment_after script lists
   run = record {
     machine = subst (λ (o : Option Tape).
-        IsMachineRun opening o outside.moment_after script lists) called.after
+        IsMachineRun opening [] o outside.moment_after script lists) called.after
         (opened.behind).machine;
     goes_on = subst (TapeGoesOn (Some t)) called.after
         (subst (λ (o : Option Tape). TapeGoesOn o outside.tape_after) called.before
@@ -163,23 +164,34 @@ module _ (options : RunOptions) (outside : Outside) (outcome : Outcome) (t now :
       left_logs_are_read its_size system_id t found
       (found_of its_size appended.headline.found) decodes.0 left decodes.1
 
-  abbrev reopened : IsReopenedOn its_opening outside.moment_before t began found
+  -- it was settled up to the place behind which it goes on
+  settled_there : HasSettled its_size (found_end its_opening) appended.headline.segments
+      outside.tape_before appended.began outside.moment_before appended.moment
+  settled_there = subst (λ (n : ℕ). HasSettled its_size n appended.headline.segments
+      outside.tape_before appended.began outside.moment_before appended.moment)
+      (ap (end_address_of its_size) (sym appended.behind.machine.lies.position_is)) appended.settled
+
+  abbrev reopened : IsReopenedOn its_opening appended.headline.found outside.moment_before t began
+      found
   reopened = record {
     left = left;
     counted = called.counted;
     openable = appended.openable;
+    lies = appended.behind.machine.lies;
     found_is = read_is;
     settled = subst (λ (o : Option Tape). HasSettled its_size (found_end its_opening)
         appended.headline.segments (Some t) o outside.moment_before appended.moment) began_is
         (subst (λ (o : Option Tape). HasSettled its_size (found_end its_opening)
         appended.headline.segments o appended.began outside.moment_before appended.moment)
-        called.before appended.settled);
+        called.before settled_there);
   }
 
-  its_run : IsRunOn its_opening (Some began) (Some now) outside.moment_after script lists
+  its_run : IsRunOn its_opening appended.headline.found (Some began) (Some now)
+      outside.moment_after script lists
   its_run = record {
     machine = subst (λ (o : Option Tape).
-        IsMachineRun its_opening o outside.moment_after script lists) called.after
+        IsMachineRun its_opening appended.headline.found o outside.moment_after script lists)
+        called.after
         (appended.behind).machine;
     goes_on = subst (TapeGoesOn (Some began)) called.after
         (subst (λ (o : Option Tape). TapeGoesOn o outside.tape_after) began_is appended.goes_on);
@@ -193,8 +205,8 @@ module _ (options : RunOptions) (outside : Outside) (outcome : Outcome) (t now :
         → LifeEndsAt options.geometry left.order now moment next
         → KeepsSure options.geometry system_id next left.order hard
     early_keeps since early ends =
-        settled_keeps its_opening outside.moment_before moment t began now next found reopened
-        its_run.goes_on hard kept since early ends.left ends.no_torn_pass
+        settled_keeps its_opening appended.headline.found outside.moment_before moment t began now
+        next found reopened its_run.goes_on hard kept since early ends.left ends.no_torn_pass
 
     pub late_keeps : (more : List FoundRecord) → appended.moment ≤ moment
         → LifeEndsAt options.geometry (appended.headline.found
@@ -204,8 +216,9 @@ module _ (options : RunOptions) (outside : Outside) (outcome : Outcome) (t now :
         → KeepsSure options.geometry system_id next (appended.headline.found
         ++ order_from options.geometry 1 script lists) (hard ++ more)
     late_keeps more since ends told =
-        run_keeps its_opening outside.moment_before outside.moment_after moment t began now next
-        found reopened script lists its_run hard kept since ends.left ends.no_torn_pass more
+        run_keeps its_opening appended.headline.found outside.moment_before outside.moment_after
+        moment t began now next found reopened script lists its_run hard kept since ends.left
+        ends.no_torn_pass more
         (told_as its_size moment (appended.headline.found ++ order_from its_size 1 script lists)
         lists more told)
 

@@ -2,7 +2,7 @@
 use Rattle.std.proofs.Common.{◌≡◌, ⊎_elim, ℕ, ◌+◌, ◌≤◌, List, min, slice_get, Some, None, sym, ap, ◌∙◌, subst, arith}
 use Rattle.byte_position.specs.Geometry.{IsSegmentSize}
 use Rattle.byte_position.proofs.EndAddresses.{end_address_of-mono}
-use Rattle.wal_page.proofs.OwnerLaws.{end_position-whole}
+use Rattle.wal_page.proofs.PlaceLaws.{end-whole_from}
 use Rattle.wal_core.specs.declared.setup.Setup.{Setup}
 use Rattle.wal_core.specs.Words.{Opening, end_form, log_limit, position_word}
 use Rattle.wal_core.specs.Moves.{unlocked}
@@ -31,7 +31,8 @@ module _ (core : CoreState) (m : Machine) (k : PlaysMachine core m) where
       let sound = (k.running).sound in
       let size = ((m.opening).setup).segment_size in omega (
         arith,
-        end_position-whole size (sound.setup_is).size sound.order (sound.reserved).chained,
+        end-whole_from size (sound.setup_is).size ((m.opening).place).position sound.order
+            (sound.reserved).chained ((sound.reserved).placed).whole,
         (sound.reserved).position_is,
         (sound.reserved).one_bit,
         (sound.reserved).within,

@@ -13,12 +13,12 @@ use Rattle.byte_position.proofs.Segments.{first_position-usable}
 use Rattle.byte_position.proofs.Words.{end_address_of-mod_word}
 use Rattle.record_spelling.specs.Spelling.{Assembled, assembled}
 use Rattle.segment_disk.specs.Tape.{DiskState}
-use Rattle.wal_page.specs.Order.{Entry, IsChained, end_position, position_behind, rooms_of}
+use Rattle.wal_page.specs.Order.{Entry, position_behind, rooms_of}
 use Rattle.wal_page.specs.EntryWords.{address_of_word, words_owned}
 use Rattle.wal_page.proofs.OrderLaws.{FollowsFrom-parts, rooms_of-append, rooms_of_cons}
-use Rattle.wal_page.proofs.OwnerLaws.{end_position-whole}
+use Rattle.wal_page.proofs.PlaceLaws.{end-whole_from}
 use Rattle.wal_core.specs.declared.setup.Setup.{Setup}
-use Rattle.wal_core.specs.Words.{end_form, log_limit, position_word, written_word, initialised_word, word_of_ring, write_turn}
+use Rattle.wal_core.specs.Words.{Opening, end_form, log_limit, position_word, written_word, initialised_word, word_of_ring, write_turn, order_end, GoesOnAtPlace}
 use Rattle.wal_core.specs.Views.{HasAt, Place, Free, Locked, Loaded, Stored, Copy, Flight, Landed, Copying, Stage, Away, Taken, Looked, Ready, Zeroing, Published, Plain, Lent, Hold, Out, View, reserving_of, working_of, flight_of, mapper_of, writer_of, writing_of}
 use Rattle.wal_core.specs.Moves.{unlocked}
 use Rattle.wal_core.specs.Ordered.{AtPlace}
@@ -77,12 +77,15 @@ end_form-near setup valid position = omega (
 )
 
 -- an entry of the order ends at the order's end or before
-entry-within : (size : ℕ) (order : List Entry) → IsChained size order → (c : Copy)
-    → IsOfOrder size order c → position_behind size c.entry ≤ end_position size order
-entry-within size order chain c s =
-    let parts = FollowsFrom-parts size (first_position size) s.front (c.entry ∷ s.back)
-    (subst (IsChained size) s.are chain) in
-    let start : (c.entry).start ≡ first_position size + rooms_of size s.front = parts.1.0 in
+entry-within : (opening : Opening) (order : List Entry) → GoesOnAtPlace opening order → (c : Copy)
+    → IsOfOrder opening order c
+    → position_behind (opening.setup).segment_size c.entry ≤ order_end opening order
+entry-within opening order chain c s =
+    let size : ℕ = (opening.setup).segment_size in
+    let from : ℕ = (opening.place).position in
+    let parts = FollowsFrom-parts size from s.front (c.entry ∷ s.back)
+    (subst (GoesOnAtPlace opening) s.are chain) in
+    let start : (c.entry).start ≡ from + rooms_of size s.front = parts.1.0 in
     let all : rooms_of size order
     ≡ rooms_of size s.front + rooms_of size (c.entry ∷ s.back) =
     ap (rooms_of size) s.are ∙ rooms_of-append size s.front (c.entry ∷ s.back) in
@@ -104,17 +107,17 @@ module _ {first : DiskState} (words : List ℕ) (home : Maybe Plain) (views : Li
   abbrev size : ℕ
   size = setup.segment_size
 
-  abbrev order_end : ℕ
-  order_end = end_position size k.order
+  abbrev last_position : ℕ
+  last_position = order_end v.opening k.order
 
   valid : IsSegmentSize size
   valid = (k.setup_is).size
 
-  end-low : order_end ≤ 2 ^ 43
+  end-low : last_position ≤ 2 ^ 43
   end-low = omega (arith, (k.reserved).within, log_limit-low setup k.setup_is)
 
-  end_form-low : end_form setup order_end ≤ 2 ^ 44 + 40
-  end_form-low = omega (arith, end-low, end_form-near setup valid order_end)
+  end_form-low : end_form setup last_position ≤ 2 ^ 44 + 40
+  end_form-low = omega (arith, end-low, end_form-near setup valid last_position)
 
   written-low : written_word words ≤ 2 ^ 44 + 40
   written-low =
@@ -137,7 +140,7 @@ module _ {first : DiskState} (words : List ℕ) (home : Maybe Plain) (views : Li
   position-low = omega (arith, end-low, (k.reserved).position_is, (k.reserved).one_bit)
 
   place-low : (p : Place) (last prev locked holder : ℕ)
-      → AtPlace size order_end last prev locked holder id p → IsLowPlace (plain_place p)
+      → AtPlace size last_position last prev locked holder id p → IsLowPlace (plain_place p)
   place-low Free last prev locked holder at = tt
   place-low (Locked start) last prev locked holder at = omega (arith, end-low, at.2)
   place-low (Loaded start met) last prev locked holder at = omega (arith, end-low, at.2)
@@ -149,7 +152,7 @@ module _ {first : DiskState} (words : List ℕ) (home : Maybe Plain) (views : Li
       alive in
       omega (arith, end-low, part.seen)
 
-  of_order : (c : Copy) → (v.working).flight ≡ Copying c → IsOfOrder size k.order c
+  of_order : (c : Copy) → (v.working).flight ≡ Copying c → IsOfOrder v.opening k.order c
   of_order c is = (k.ring).in_flight id c
       (part_at flight_of views id v here ∙ ap (λ (f : Flight). some f) is)
 
@@ -157,8 +160,8 @@ module _ {first : DiskState} (words : List ℕ) (home : Maybe Plain) (views : Li
       → address_of_word size c.entry c.copied < 2 ^ 60
   flight-low c is =
       let of = of_order c is in
-      let behind = entry-within size k.order (k.reserved).chained c of in
-      let rises = end_address_of-mono size valid (position_behind size c.entry) order_end behind in
+      let behind = entry-within v.opening k.order (k.reserved).chained c of in
+      let rises = end_address_of-mono size valid (position_behind size c.entry) last_position behind in
       let first = end_address_of-mono size valid (c.entry).start (position_behind size c.entry)
       (omega arith) in
       let copied = of.copied_within in
@@ -225,7 +228,7 @@ module _ {first : DiskState} (words : List ℕ) (home : Maybe Plain) (views : Li
       → c.copied < words_owned size c.entry
       → HasNextOf setup (assembled (c.entry).value) (plain_flight size (Copying c))
   next_of_record c is whole left =
-      let behind = entry-within size k.order (k.reserved).chained c (of_order c is) in
+      let behind = entry-within v.opening k.order (k.reserved).chained c (of_order c is) in
       let first = end_address_of-mod_word size valid (c.entry).start whole in
       let low : position_behind size c.entry < 2 ^ 60 = omega (arith, end-low, behind) in
       (whole, low, omega (arith, first), omega arith, omega (arith, left))
@@ -263,10 +266,11 @@ module _ {first : DiskState} (words : List ℕ) (home : Maybe Plain) (views : Li
 
     -- ---- with the writer in hand
 
-    position-end : unlocked (position_word words) ≡ order_end
+    position-end : unlocked (position_word words) ≡ last_position
     position-end = omega (
       arith,
-      end_position-whole size valid k.order (k.reserved).chained,
+      end-whole_from size valid ((v.opening).place).position k.order (k.reserved).chained
+          ((k.reserved).placed).whole,
       (k.reserved).position_is,
       (k.reserved).one_bit,
     )

@@ -4,10 +4,9 @@ use Rattle.std.proofs.Common.{◌≡◌, ◌⊎◌, inl, inr, ℕ, zero, suc, �
 use Rattle.std.specs.Prelude.{nat_eq, nat_le, nat_lt}
 use Rattle.byte_position.specs.Position.{address_of}
 use Rattle.record_spelling.specs.Spelling.{assembled_size}
-use Rattle.wal_page.specs.Order.{end_position}
-use Rattle.wal_page.proofs.OwnerLaws.{end_position-whole}
+use Rattle.wal_page.proofs.PlaceLaws.{end-whole_from}
 use Rattle.wal_core.specs.declared.setup.Setup.{Setup}
-use Rattle.wal_core.specs.Words.{end_word, flushed_word, lock_word, log_limit, position_word, prev_word, written_word, mapping_turn_number, write_turn_number, initialised_number, written_number, flushed_number, moment_number, down_number, ends_number, lock_number}
+use Rattle.wal_core.specs.Words.{end_word, flushed_word, lock_word, log_limit, position_word, prev_word, written_word, mapping_turn_number, write_turn_number, initialised_number, written_number, flushed_number, moment_number, down_number, ends_number, lock_number, order_end}
 use Rattle.wal_core.specs.Views.{Place, Free, Locked, Loaded, Stored, View, reserving_of}
 use Rattle.wal_core.specs.Moves.{unlocked}
 use Rattle.wal_core.specs.Ordered.{AtPlace}
@@ -396,10 +395,11 @@ module _ (m : Machine) (number : ℕ) (v : View) (ask : Ask) (line : PlainLine) 
       let size = ((v.opening).setup).segment_size in
       let k = sound m s.running number v s.live ask in
       let valid = (k.setup_is).size in
-      let whole = end_position-whole size valid k.order (k.reserved).chained in
+      let whole = end-whole_from size valid ((v.opening).place).position k.order
+      (k.reserved).chained ((k.reserved).placed).whole in
       let here = (k.reserved).places (number + 1) (reserving_of v)
       (part_at reserving_of (m.state).views (number + 1) v (s.live).0) (s.live).1 in
-      place_rests (v.reserving).place size (end_position size k.order) _ _ _ _ here
+      place_rests (v.reserving).place size (order_end v.opening k.order) _ _ _ _ here
       (k.reserved).position_is whole s.can
 
   reserving_moves : (lock : ℕ)

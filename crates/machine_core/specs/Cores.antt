@@ -4,6 +4,7 @@ use mathlib.Core.Option.{some}
 use Rattle.segment_disk.specs.Tape.{empty_state}
 use Rattle.wal_core.specs.declared.setup.Setup.{Setup}
 use Rattle.wal_core.specs.Words.{Opening}
+use Rattle.wal_page.specs.LogPlace.{new_place}
 use Rattle.wal_core.specs.Opened.{AreFirstWords, IsFirstWriter}
 use Rattle.wal_core.specs.Views.{HasAt, Lent, Out, Plain, View}
 use Rattle.wal_turns.specs.Begun.{first_machine}
@@ -39,7 +40,13 @@ IsPlayed core = KeepsDisk core.writer × ((m : Machine) × PlaysMachine (core_of
 
 -- nothing was found, on a disk that counted nothing
 abbrev pub first_opening : Setup → Opening
-first_opening setup = record { setup = setup; found = []; made = 0; moment = 0; faults = 0 }
+first_opening setup = record {
+  setup = setup;
+  place = new_place setup.segment_size;
+  made = 0;
+  moment = 0;
+  faults = 0;
+}
 
 -- a backend with these lines, whose pass has this number, is about nothing
 abbrev pub first_plain_view : (size number : ℕ) → PlainView

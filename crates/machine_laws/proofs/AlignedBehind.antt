@@ -9,12 +9,11 @@ use Rattle.byte_position.specs.Geometry.{IsSegmentSize}
 use Rattle.byte_position.specs.Position.{position_of}
 use Rattle.byte_position.proofs.Words.{end_address_of-mod_word}
 use Rattle.wal_types.specs.declared.record.Record.{Record}
-use Rattle.wal_page.specs.Order.{end_position, prev_of}
-use Rattle.wal_page.proofs.OwnerLaws.{end_position-whole}
+use Rattle.wal_page.proofs.PlaceLaws.{end-whole_from}
 use Rattle.wal_page.proofs.PaddingLaws.{room_at-whole}
 use Rattle.wal_page.proofs.WordPositions.{position_of-whole}
 use Rattle.wal_core.specs.declared.setup.Setup.{Setup}
-use Rattle.wal_core.specs.Words.{lock_word, written_word, flushed_word, position_word, prev_word, write_turn, end_form, mapping_turn_number, write_turn_number, initialised_number, written_number, flushed_number, moment_number, down_number, ends_number, lock_number}
+use Rattle.wal_core.specs.Words.{lock_word, written_word, flushed_word, position_word, prev_word, write_turn, end_form, mapping_turn_number, write_turn_number, initialised_number, written_number, flushed_number, moment_number, down_number, ends_number, lock_number, order_end, last_start}
 use Rattle.wal_core.specs.Views.{HasAt, Place, Locked, Taken, Plain, Lent, Hold, Idle, Turned, Out, Watching, View, reserving_of, writer_of}
 use Rattle.wal_core.specs.Ordered.{AtPlace}
 use Rattle.wal_core.specs.Aligned.{AlignmentHolds, IsKnownAligned, LearnsAligned, TellsAligned}
@@ -211,8 +210,9 @@ module _ {first : DiskState} (words : List ℕ) (home : Option Plain) (views : L
   learns = (k.aligned).views id v here
 
   -- the order ends at a word
-  end_aligned : end_position size k.order % 8 ≡ 0
-  end_aligned = end_position-whole size valid k.order (k.reserved).chained
+  end_aligned : order_end v.opening k.order % 8 ≡ 0
+  end_aligned = end-whole_from size valid v.opening.place.position k.order (k.reserved).chained
+      (k.reserved).placed.whole
 
   -- with the writer in hand: it stands at a word
   lent_aligned : (l : Lent) → (v.writing).hold ≡ Out l → (l.writer).written % 8 ≡ 0
@@ -305,7 +305,7 @@ module _ {first : DiskState} (words : List ℕ) (home : Option Plain) (views : L
   })
 
   unlocked_aligned : unlocked (position_word words) % 8 ≡ 0
-  unlocked_aligned = ap (λ n. n % 8) (unlocked-is setup (v.opening).found k.order
+  unlocked_aligned = ap (λ n. n % 8) (unlocked-is v.opening k.order
       (position_word words) (prev_word words) (map reserving_of views) k.reserved valid)
       ∙ end_aligned
 
@@ -314,9 +314,9 @@ module _ {first : DiskState} (words : List ℕ) (home : Option Plain) (views : L
   reserved locks value may =
       let mine = part_at reserving_of views id v here in
       let place = subst
-      (AtPlace size (end_position size k.order) (prev_of size 0 k.order) _ _ _ _) may.2
+      (AtPlace size (order_end v.opening k.order) (last_start v.opening k.order) _ _ _ _) may.2
       ((k.reserved).places id v.reserving mine live) in
-      let at : may.0 ≡ end_position size k.order = place.2 in
+      let at : may.0 ≡ order_end v.opening k.order = place.2 in
       let whole : may.0 % 8 ≡ 0 = ap (λ n. n % 8) at ∙ end_aligned in
       subst (λ (p : Place). LearnsAligned (after_store_position locks value (with_place p v)))
       (sym may.2) (record {

@@ -5,10 +5,10 @@ use Rattle.std.proofs.Math.Nat.{mod-lt}
 use mathlib.Core.Option.{Option, none, some}
 use Rattle.segment_disk.specs.Tape.{DiskState}
 use Rattle.byte_position.proofs.EndAddresses.{end_address_of-mono}
-use Rattle.wal_page.specs.Order.{Entry, end_position}
+use Rattle.wal_page.specs.Order.{Entry}
 use Rattle.wal_page.proofs.OrderLaws.{rooms_of_push}
 use Rattle.wal_core.specs.declared.setup.Setup.{Setup}
-use Rattle.wal_core.specs.Words.{async_number, async_word, end_form, mapping_turn_number, write_turn_number, ends_number, lock_number}
+use Rattle.wal_core.specs.Words.{async_number, async_word, end_form, mapping_turn_number, write_turn_number, ends_number, lock_number, order_end}
 use Rattle.wal_core.specs.Views.{HasAt, Taken, Plain, Hold, Idle, Turned, Out, Locked, View, reserving_of, async_met_of}
 use Rattle.wal_core.specs.Async.{AsyncHolds}
 use Rattle.wal_core.specs.Moves.{entry_reserved, with_hold, with_place, with_stage, with_working}
@@ -50,7 +50,7 @@ module _ {first : DiskState} (words : List ℕ) (home : Option Plain) (views : L
   async = async_word setup words
 
   abbrev end : ℕ
-  end = end_form setup (end_position size k.order)
+  end = end_form setup (order_end v.opening k.order)
 
   abbrev behind : StepKind → View
   behind e = view_behind v e (slice_index words (word_of_step v e)) home
@@ -63,12 +63,12 @@ module _ {first : DiskState} (words : List ℕ) (home : Option Plain) (views : L
     s = moved words home views id v k here e
 
     abbrev pub HasAsync : List Entry → Type 0
-    HasAsync es = AsyncHolds (async_word setup (later s)) (end_form setup (end_position size es))
+    HasAsync es = AsyncHolds (async_word setup (later s)) (end_form setup (order_end v.opening es))
         (map async_met_of (views_later s))
 
     -- the word is this now, which is no less, and the view counts on no more
     raised : (es : List Entry) (n : ℕ) → async_word setup (later s) ≡ n → async ≤ n
-        → n ≤ end_form setup (end_position size es) → n % 8 ≡ 0 → CountsOn n (behind e)
+        → n ≤ end_form setup (order_end v.opening es) → n % 8 ≡ 0 → CountsOn n (behind e)
         → HasAsync es
     raised es n is up within aligned own = record {
       reserved = omega (arith, is, within);
@@ -80,7 +80,7 @@ module _ {first : DiskState} (words : List ℕ) (home : Option Plain) (views : L
     }
 
     -- another word is stored
-    elsewhere : (es : List Entry) → end ≤ end_form setup (end_position size es)
+    elsewhere : (es : List Entry) → end ≤ end_form setup (order_end v.opening es)
         → async_number setup ≢ s.i → (behind e).async_met ≡ v.async_met → HasAsync es
     elsewhere es up apart same =
         let reserved = (k.async).reserved in
@@ -137,16 +137,15 @@ module _ {first : DiskState} (words : List ℕ) (home : Option Plain) (views : L
     call_same f (Out l) = refl
 
     -- what is reserved grows by an entry
-    reserved_more : (e : Entry) → end ≤ end_form setup (end_position size (k.order ++ e ∷ []))
+    reserved_more : (e : Entry) → end ≤ end_form setup (order_end v.opening (k.order ++ e ∷ []))
     reserved_more e =
         let rooms = rooms_of_push size k.order e in
-        end_address_of-mono size (k.setup_is).size (end_position size k.order)
-        (end_position size (k.order ++ e ∷ [])) (omega (arith, rooms))
+        end_address_of-mono size (k.setup_is).size (order_end v.opening k.order)
+        (order_end v.opening (k.order ++ e ∷ [])) (omega (arith, rooms))
 
     -- the view has seen no more reserved than is
     seen_reserved : end_form setup (v.reserving).seen ≤ end
-    seen_reserved = end_address_of-mono size (k.setup_is).size (v.reserving).seen
-        (end_position size k.order)
+    seen_reserved = end_address_of-mono size (k.setup_is).size (v.reserving).seen (order_end v.opening k.order)
         ((k.reserved).views id v.reserving (part_at reserving_of views id v here) live).seen
 
     loaded : HasAsync live load_async k.order

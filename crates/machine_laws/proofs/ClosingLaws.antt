@@ -131,7 +131,7 @@ module _ {first : DiskState} (opening : Opening) (words : List ℕ) (home : Opti
   accounted : OrderIsAccounted opening k.order words views v.reserving
   accounted = record {
     chained = order_is.chained;
-    found_first = order_is.found_first;
+    owned = order_is.owned;
     within = order_is.within;
     part = order_is.each id v here last.live;
     no_other = λ n other apart. none_under n other apart ((k.reserved).role n) refl;
@@ -259,7 +259,7 @@ module _ {first : DiskState} (opening : Opening) (words : List ℕ) (home : Opti
     set_once = set_once;
     crashes = crashes_leave_the_log opening k.order (flushed_word words) (moment_word words)
         (down_word words) (some k.writer) k.writer (receipts_of v ∷ []) kept (k.setup_is).size
-        (k.reserved).chained;
+        (k.reserved).placed;
     down = down_tells opening k.order (flushed_word words) (moment_word words) (down_word words)
         (some k.writer) k.writer (receipts_of v ∷ []) kept;
   }

@@ -1,5 +1,5 @@
 -- Images that a crash leaves are lawful, and hold what was promised.
-use Rattle.std.proofs.Common.{◌≡◌, ◌≢◌, ℕ, ◌+◌, ◌-◌, ◌*◌, ◌/◌, ◌%◌, ◌<◌, ◌≤◌, ◌⊎◌, inl, inr, All, List, drop, Some, None, IfSome, IsSome, sym, ap, subst, ◌∙◌, arith}
+use Rattle.std.proofs.Common.{◌≡◌, ◌≢◌, ℕ, ◌+◌, ◌-◌, ◌*◌, ◌/◌, ◌%◌, ◌<◌, ◌≤◌, ◌⊎◌, inl, inr, All, List, drop, Some, None, IfSome, sym, ap, subst, ◌∙◌, arith}
 use Rattle.std.specs.Int.{w64, to_le_bytes}
 use Rattle.std.proofs.lemmas.Bool.{cases_eq, cases_lt}
 use Rattle.std.proofs.lemmas.List.Elements.{All-weaker}
@@ -14,45 +14,43 @@ use Rattle.segment_disk.specs.DiskImage.{DiskImage}
 use Rattle.segment_disk.specs.Tape.{DiskState, Tape}
 use Rattle.segment_disk.specs.Assured.{CallFits, DiskImageFits, IsMadeUpto, IsNowhere, KindFits, SegmentFits, TapeAssures}
 use Rattle.flush_core.proofs.LeftPuts.{div_rises}
-use Rattle.wal_page.specs.Order.{Entry, IsChained}
-use Rattle.wal_page.specs.Log.{owner_at}
-use Rattle.wal_page.proofs.LogWordLaws.{log_word-unowned}
-use Rattle.segment_disk.specs.ImageWords.{HasPageAt, image_word}
-use Rattle.flush_core.specs.Lawful.{IsLawful}
-use Rattle.wal_page.specs.Log.{IsLawfulWord, log_word_bytes}
-use Rattle.flush_core.proofs.LawfulLaws.{no_owner_before, no_word_before, word_fits, word_stands_at}
-use Rattle.wal_core.specs.declared.setup.Setup.{Setup}
+use Rattle.wal_page.specs.Order.{Entry}
+use Rattle.wal_page.specs.LogPlace.{IsPlace}
+use Rattle.wal_page.proofs.PlaceLaws.{word_from-before}
+use Rattle.segment_disk.specs.ImageWords.{HasPageAt, image_word, zero_word}
+use Rattle.flush_core.proofs.LawfulLaws.{word_fits, word_stands_at}
 use Rattle.wal_core.specs.Words.{Opening}
 use Rattle.wal_core.specs.Views.{HasAt, Hold, Out, Joined, Lent, Plain, FlushPromise, Receipts, View, writer_of}
 use Rattle.wal_core.specs.Locked.{IsWriteTurn}
 use Rattle.wal_core.specs.Moves.{fault_number, CallOutcome, with_outcome}
 use Rattle.wal_core.specs.Steps.{MayStep, create, number_lent, set_down, sync, value_behind, write}
 use Rattle.wal_core.specs.Durable.{AreKept, DurabilityHolds, IsFirm, IsPromiseKept, IsLawfulAt, IsLogBelow}
-use Rattle.machine_laws.specs.Crashes.{CrashesLeave, DownTells, HoldsPromise, LeavesLawful, PutsOwned}
+use Rattle.machine_laws.specs.Crashes.{CrashesLeave, DownTells, HoldsPromise, IsLawfulBehind, LeavesLawful, PutsZeros}
 use Rattle.machine_laws.proofs.DurableAssured.{stands_out}
 use Rattle.wal_core.proofs.Tapes.{at_suited, at_told, began_still, counted_on, on_tape, told_suited}
 use Rattle.wal_core.specs.Suited.{tape_from, BeganSuited, IfSuited}
+use Rattle.wal_core.specs.Ringed.{log_bytes_of}
 
-module _ (setup : Setup) (valid : IsSegmentSize setup.segment_size) (order : List Entry)
-    (chained : IsChained setup.segment_size order) (image : DiskImage) where
+module _ (opening : Opening) (valid : IsSegmentSize opening.setup.segment_size) (order : List Entry)
+    (placed : IsPlace opening.setup.segment_size opening.place) (image : DiskImage) where
   abbrev size : ℕ
-  size = setup.segment_size
+  size = opening.setup.segment_size
 
-  lawful_words : DiskImageFits setup.segment_size IsNowhere (IsLawfulAt setup order) image
-      → (k : ℕ) → IsLawfulWord setup.segment_size setup.sysid order (8 * k)
-      (image_word setup.segment_size image (8 * k))
+  lawful_words : DiskImageFits opening.setup.segment_size IsNowhere (IsLawfulAt opening order) image
+      → (k : ℕ) → (image_word opening.setup.segment_size image (8 * k) ≡ zero_word)
+      ⊎ (image_word opening.setup.segment_size image (8 * k) ≡ log_bytes_of opening order (8 * k))
   lawful_words fits k =
       let place = word_stands_at size valid k in
       let segment = 8 * k / size in
-      elim (word_fits size IsNowhere (IsLawfulAt setup order) segment (8 * k % size)
+      elim (word_fits size IsNowhere (IsLawfulAt opening order) segment (8 * k % size)
       (image segment) place.within place.low (fits segment)) [
         | inl absent ↦ inl absent.1
-        | inr there ↦ subst (λ (a : ℕ). IsLawfulWord size setup.sysid order a
-            (image_word size image (8 * k))) place.at there.1
+        | inr there ↦ subst (λ (a : ℕ). (image_word size image (8 * k) ≡ zero_word)
+            ⊎ (image_word size image (8 * k) ≡ log_bytes_of opening order a)) place.at there.1
       ]
 
-  module _ (upto : ℕ) (fits : DiskImageFits setup.segment_size
-      (IsMadeUpto setup.segment_size upto) (IsLogBelow setup order upto) image) where
+  module _ (upto : ℕ) (fits : DiskImageFits opening.setup.segment_size
+      (IsMadeUpto opening.setup.segment_size upto) (IsLogBelow opening order upto) image) where
     is_made : (k : ℕ) → size ≤ 8 * k → 8 * k < upto → IsMadeUpto size upto (8 * k / size)
     is_made k from below =
         let whole = segment_size_in_pages size valid in
@@ -62,53 +60,54 @@ module _ (setup : Setup) (valid : IsSegmentSize setup.segment_size) (order : Lis
         )
 
     kept_word : (k : ℕ) → 8 * k < upto
-        → (image_word size image (8 * k) ≡ log_word_bytes size setup.sysid order (8 * k))
-        × (IsSome (owner_at size order (8 * k)) → HasPageAt size image (8 * k))
+        → (image_word size image (8 * k) ≡ log_bytes_of opening order (8 * k))
+        × (size ≤ 8 * k → HasPageAt size image (8 * k))
     kept_word k below =
         let place = word_stands_at size valid k in
         let segment = 8 * k / size in
-        elim (word_fits size (IsMadeUpto size upto) (IsLogBelow setup order upto) segment
+        elim (word_fits size (IsMadeUpto size upto) (IsLogBelow opening order upto) segment
         (8 * k % size) (image segment) place.within place.low (fits segment)) [
           | inl absent ↦ elim (cases_lt (8 * k) size) [
             | inl before ↦ (
-              absent.1 ∙ no_word_before size setup.sysid valid order chained k before,
-              λ owned. absurd (no_owner_before size setup.sysid valid order chained k before
-                  owned),
+              absent.1 ∙ ap (to_le_bytes w64) (sym (word_from-before size opening.setup.sysid valid
+                  opening.place placed order (8 * k) before)),
+              λ from. absurd (omega arith),
             )
             | inr from ↦ absurd (let none : SegmentFits size (IsMadeUpto size upto)
-                (IsLogBelow setup order upto) segment None =
-                subst (SegmentFits size (IsMadeUpto size upto) (IsLogBelow setup order upto)
+                (IsLogBelow opening order upto) segment None =
+                subst (SegmentFits size (IsMadeUpto size upto) (IsLogBelow opening order upto)
                 segment) absent.0 (fits segment) in none (is_made k from below))
           ]
           | inr there ↦ (
             there.1 (omega (arith, place.at))
-                ∙ ap (log_word_bytes size setup.sysid order) place.at,
-            λ owned. there.0,
+                ∙ ap (log_bytes_of opening order) place.at,
+            λ from. there.0,
           )
         ]
 
-    pub IsLawful-left : DiskImageFits setup.segment_size IsNowhere (IsLawfulAt setup order) image
-        → IsLawful setup.segment_size setup.sysid image order upto
-    IsLawful-left only = record {
+    pub IsLawfulBehind-left : DiskImageFits opening.setup.segment_size IsNowhere
+        (IsLawfulAt opening order) image
+        → IsLawfulBehind opening order image upto
+    IsLawfulBehind-left only = record {
       words = lawful_words only;
       below = λ k below. (kept_word k below).0;
-      there = λ k below owned. (kept_word k below).1 owned;
+      there = λ k below from. (kept_word k below).1 from;
     }
 
 module _ {first : DiskState} (o : Opening) (order : List Entry) (flushed moment down : ℕ) (home : _) (writer : Plain)
     (parts : List Receipts) (h : DurabilityHolds first o order flushed moment down home writer parts)
     (valid : IsSegmentSize (o.setup).segment_size)
-    (chained : IsChained (o.setup).segment_size order) where
+    (placed : IsPlace (o.setup).segment_size o.place) where
   module _ (t : Tape) (is : tape_from first writer.calls ≡ Some t) (suited : BeganSuited o t) where
-    only_log : TapeAssures (o.setup).segment_size IsNowhere (IsLawfulAt o.setup order) o.moment t
+    only_log : TapeAssures (o.setup).segment_size IsNowhere (IsLawfulAt o order) o.moment t
     only_log = at_suited first o writer
-        (TapeAssures (o.setup).segment_size IsNowhere (IsLawfulAt o.setup order) o.moment)
+        (TapeAssures (o.setup).segment_size IsNowhere (IsLawfulAt o order) o.moment)
         t is suited h.lawful
 
-    firm_lawful : (upto from : ℕ) → o.moment ≤ from → IsFirm o.setup order upto from t
-        → LeavesLawful o.setup order upto from t
+    firm_lawful : (upto from : ℕ) → o.moment ≤ from → IsFirm o order upto from t
+        → LeavesLawful o order upto from t
     firm_lawful upto from since firm = λ at image later leaves.
-        IsLawful-left o.setup valid order chained image upto (firm.left at later image leaves)
+        IsLawfulBehind-left o valid order placed image upto (firm.left at later image leaves)
         (only_log.left at (omega arith) image leaves)
 
     keeps_promises : (es : List Entry) (ps : List FlushPromise) → AreKept o order t es ps
@@ -119,40 +118,38 @@ module _ {first : DiskState} (o : Opening) (order : List Entry) (flushed moment 
           later = k.later;
         }) ps kept
 
-    -- nothing was put where the order has no owner
-    puts_owned : (geometry segment : ℕ) (kind : CallKind)
-        → KindFits (o.setup).segment_size (IsLawfulAt o.setup order) geometry segment kind
-        → PutsOwned (o.setup).segment_size order segment kind
-    puts_owned geometry segment (Create made) fits = tt
-    puts_owned geometry segment (Write page bytes) fits =
+    -- nothing was put where the log has zeros
+    puts_zeros : (geometry segment : ℕ) (kind : CallKind)
+        → KindFits (o.setup).segment_size (IsLawfulAt o order) geometry segment kind
+        → PutsZeros o order segment kind
+    puts_zeros geometry segment (Create made) fits = tt
+    puts_zeros geometry segment (Write page bytes) fits =
         let size = (o.setup).segment_size in
         let whole = segment_size_in_pages size valid in
         let product : segment * size ≡ segment * (8192 * pages_of size) =
         ap (λ (m : ℕ). segment * m) whole.0 in
-        λ n low unowned.
+        λ n low zeros.
         let at : (segment * pages_of size + page) * 8192 + 8 * n
         ≡ segment * size + page * 8192 + 8 * n = omega arith in
         elim (fits.2 n low) [
-          | inl zeros ↦ zeros
-          | inr own ↦ own ∙ ap (log_word_bytes size (o.setup).sysid order) at
-              ∙ ap (to_le_bytes w64) (log_word-unowned size (o.setup).sysid valid order chained
-              (segment * size + page * 8192 + 8 * n) (omega (arith, at)) unowned)
+          | inl blank ↦ blank
+          | inr own ↦ own ∙ ap (log_bytes_of o order) at ∙ ap (to_le_bytes w64) zeros
         ]
-    puts_owned geometry segment Sync fits = tt
+    puts_zeros geometry segment Sync fits = tt
 
     left_behind : CrashesLeave o order flushed moment t parts
     left_behind = record {
       only = λ at image later leaves. record {
-        words = lawful_words o.setup valid order chained image
+        words = lawful_words o valid order placed image
             (only_log.left at later image leaves);
         below = λ k below. absurd (omega arith);
-        there = λ k below owned. absurd (omega arith);
+        there = λ k below from. absurd (omega arith);
       };
       flushed_kept = firm_lawful flushed moment h.begun
-          (at_suited first o writer (IsFirm o.setup order flushed moment) t is suited h.firm);
-      owned = All-weaker (CallFits (o.setup).segment_size (IsLawfulAt o.setup order))
-          (λ (c : Call). PutsOwned (o.setup).segment_size order c.segment c.kind)
-          (λ c fits. puts_owned c.geometry c.segment c.kind fits) (drop o.moment t.calls)
+          (at_suited first o writer (IsFirm o order flushed moment) t is suited h.firm);
+      zeros = All-weaker (CallFits (o.setup).segment_size (IsLawfulAt o order))
+          (λ (c : Call). PutsZeros o order c.segment c.kind)
+          (λ c fits. puts_zeros c.geometry c.segment c.kind fits) (drop o.moment t.calls)
           only_log.calls;
       own = λ id x here. keeps_promises x.entries (x.writing).promises
           (at_suited first o writer (λ t. AreKept o order t x.entries (x.writing).promises) t is suited

@@ -130,7 +130,7 @@ module _ (first : DiskState) (opening : Opening) (order : List Entry) (flushed m
   promise upto from es = record { upto = upto; moment = from; entries = length es }
 
   is_kept : (upto from : ℕ) (es : List Entry) (t : Tape) → opening.moment ≤ from
-      → IsFirm opening.setup order upto from t → IsPromiseKept opening order t es
+      → IsFirm opening order upto from t → IsPromiseKept opening order t es
       (promise upto from es)
   is_kept upto from es t begun firm = record {
     since = begun;
@@ -141,7 +141,7 @@ module _ (first : DiskState) (opening : Opening) (order : List Entry) (flushed m
 
   pub is_promised : (upto from : ℕ) (es : List Entry) (js : List Joined) (x : Writing)
       → opening.moment ≤ from → from ≤ moment → upto ≤ flushed
-      → IfSuited first opening writer (IsFirm opening.setup order upto from) → Is (told es js x)
+      → IfSuited first opening writer (IsFirm opening order upto from) → Is (told es js x)
       → Is (told es js (record x { promises = x.promises ++ promise upto from es ∷ [] }))
   is_promised upto from es js x begun past low firm a = record {
     own_promised = All-push (IsPromised flushed moment) x.promises (promise upto from es)
@@ -152,7 +152,7 @@ module _ (first : DiskState) (opening : Opening) (order : List Entry) (flushed m
         (promise upto from es)
         (at_suited first opening writer (λ t. AreKept opening order t es x.promises) t is suited a.own)
         (is_kept upto from es t begun
-        (at_suited first opening writer (IsFirm opening.setup order upto from) t is suited firm)));
+        (at_suited first opening writer (IsFirm opening order upto from) t is suited firm)));
     joined = a.joined;
     in_hand = a.in_hand;
     down_met = a.down_met;

@@ -100,13 +100,13 @@ module _ {first : DiskState} (o : Opening) (order : List Entry) (flushed moment 
           moment = refl;
           rises = omega (arith, same_written call outcome writer);
         })
-        (create_lawful o.setup setup.size order segment)
-        (λ a under. create_below o.setup setup.size order segment writer.made a next
+        (create_lawful o setup.size order segment)
+        (λ a under. create_below o setup.size order segment writer.made a next
         (omega (arith, h.reached)))
         (created_reached size segment writer outcome next h.reached)
         (created_in_turn o writer up since h.counted h.made segment next behind outcome)
         (λ t _ _ d.
-        on_disk_created o.setup setup.size order segment writer next h.reached outcome t d)
+        on_disk_created o setup.size order segment writer next h.reached outcome t d)
         up holds.0
         (λ f is. subst (λ (q : Opening). Rose q.faults f) opening
         (fault_rose v call outcome writer up may.1 f is))
@@ -152,14 +152,14 @@ module _ {first : DiskState} (o : Opening) (order : List Entry) (flushed moment 
           moment = refl;
           rises = written_rises size segment page upto bytes writer outcome rises;
         })
-        (write_lawful o.setup setup.size order segment page upto bytes l step staged)
-        (λ a under. write_below o.setup setup.size order segment page upto bytes l step staged a
+        (write_lawful o setup.size order segment page upto bytes l step staged)
+        (λ a under. write_below o setup.size order segment page upto bytes l step staged a
         (omega (arith, rises, step.copied)))
         (written_reached size segment page upto bytes writer outcome high h.reached)
         (others_in_turn o writer up since h.counted h.made call
         (after_write segment upto call outcome writer) (same_made call outcome writer)
         (written_rises size segment page upto bytes writer outcome rises) outcome refl tt (λ _. tt))
-        (λ t _ _ d. on_disk_written o.setup setup.size order segment page upto bytes writer page_is
+        (λ t _ _ d. on_disk_written o setup.size order segment page upto bytes writer page_is
         step.on_segment alone rises start within outcome t d)
         up holds.0
         (λ f is. subst (λ (q : Opening). Rose q.faults f) opening
@@ -191,10 +191,10 @@ module _ {first : DiskState} (o : Opening) (order : List Entry) (flushed moment 
         (others_in_turn o writer up since h.counted h.made call (after_sync call outcome writer)
         (same_made call outcome writer) (omega (arith, same_written call outcome writer)) outcome
         refl tt (λ _. tt))
-        (λ t is suited d. on_disk_synced o.setup setup.size order segment writer waits h.reached t d
-        (at_suited first o writer (TapeAssures size IsNowhere (IsLawfulAt o.setup order) o.moment) t is
+        (λ t is suited d. on_disk_synced o setup.size order segment writer waits h.reached t d
+        (at_suited first o writer (TapeAssures size IsNowhere (IsLawfulAt o order) o.moment) t is
         suited h.lawful).now
-        (at_suited first o writer (λ t. ReadsBelow o.setup order writer.written (state_now t)) t is
+        (at_suited first o writer (λ t. ReadsBelow o order writer.written (state_now t)) t is
         suited positions.reads) outcome)
         up holds.0
         (λ f is. subst (λ (q : Opening). Rose q.faults f) opening

@@ -17,10 +17,8 @@ use Rattle.segment_disk.specs.Assured.{CallFits, IsMadeUpto, IsNowhere, SegmentA
 use Rattle.flush_core.proofs.StateLaws.{after_each}
 use Rattle.wal_page.specs.Order.{Entry}
 use Rattle.segment_disk.specs.ImageWords.{image_word, segment_word, zero_word}
-use Rattle.wal_page.specs.Log.{log_word_bytes}
 use Rattle.segment_disk.proofs.ZeroWords.{word_of-zero_page}
-use Rattle.wal_core.specs.declared.setup.Setup.{Setup}
-use Rattle.wal_core.specs.Ringed.{log_word_of}
+use Rattle.wal_core.specs.Ringed.{log_word_of, log_bytes_of}
 use Rattle.wal_core.specs.Views.{Lent, Plain}
 use Rattle.wal_core.specs.Moves.{CallOutcome, Done, Failed, after_create, after_sync, after_write}
 use Rattle.wal_core.specs.Positioned.{ReadsBelow}
@@ -29,6 +27,7 @@ use Rattle.wal_core.specs.Steps.{IsNextWrite}
 use Rattle.machine_laws.proofs.LoadedLast.{loaded_there}
 use Rattle.machine_laws.proofs.SegmentStates.{SegmentAssures-weaker}
 use Rattle.wal_core.proofs.Tapes.{state_behind, tape_behind}
+use Rattle.wal_core.specs.Words.{Opening}
 
 -- ---- where a word stands
 
@@ -72,14 +71,14 @@ module _ (size : ℕ) (valid : IsSegmentSize size) (segment page word : ℕ)
       ∙ ap (λ (n : ℕ). word_of (i.page n) (offset % 8192 / 8)) own
       ∙ ap (word_of (i.page page)) number
 
-module _ (setup : Setup) (valid : IsSegmentSize setup.segment_size) (order : List Entry) where
+module _ (opening : Opening) (valid : IsSegmentSize opening.setup.segment_size) (order : List Entry) where
   abbrev size : ℕ
-  size = setup.segment_size
+  size = opening.setup.segment_size
 
   -- ---- what is put fits
 
   pub create_lawful : (segment : ℕ)
-      → CallFits size (IsLawfulAt setup order) (create_call size segment)
+      → CallFits size (IsLawfulAt opening order) (create_call size segment)
   create_lawful segment = (refl, λ page word within small. inl (word_of-zero_page word small))
 
   -- a segment that is made lies above what is written
@@ -93,7 +92,7 @@ module _ (setup : Setup) (valid : IsSegmentSize setup.segment_size) (order : Lis
       omega arith
 
   pub create_below : (segment made a : ℕ) → segment ≡ made + 1 → a ≤ made * size + size
-      → CallFits size (IsLogBelow setup order a) (create_call size segment)
+      → CallFits size (IsLogBelow opening order a) (create_call size segment)
   create_below segment made a next low = (
     refl,
     λ page word within small below.
@@ -101,17 +100,17 @@ module _ (setup : Setup) (valid : IsSegmentSize setup.segment_size) (order : Lis
   )
 
   module _ (segment page upto : ℕ) (bytes : List ℕ) (l : Lent)
-      (may : IsNextWrite setup segment page upto bytes l)
-      (staged : All (IsStaged setup order l.known) l.staged) where
+      (may : IsNextWrite opening.setup segment page upto bytes l)
+      (staged : All (IsStaged opening order l.known) l.staged) where
     put_word : (n : ℕ) → n < 1024 → (value : ℕ) × (word_of bytes n ≡ to_le_bytes w64 value)
-        × IsStaged setup order l.known ((segment * pages_of size + page) * 1024 + n, value)
+        × IsStaged opening order l.known ((segment * pages_of size + page) * 1024 + n, value)
     put_word n low =
         let found = may.loaded n low in
-        let is = All-contains (IsStaged setup order l.known) l.staged _ staged
+        let is = All-contains (IsStaged opening order l.known) l.staged _ staged
         (loaded_there ((l.writer).written / 8192 * 1024 + n) found.0 l.staged found.1) in (
           found.0,
           found.2,
-          subst (λ (p : ℕ). IsStaged setup order l.known
+          subst (λ (p : ℕ). IsStaged opening order l.known
               (p * 1024 + n, found.0)) (sym may.page_is) is,
         )
 
@@ -119,7 +118,7 @@ module _ (setup : Setup) (valid : IsSegmentSize setup.segment_size) (order : Lis
         ≡ (segment * pages_of size + page) * 8192 + 8 * n
     at_number n = omega arith
 
-    pub write_lawful : CallFits size (IsLawfulAt setup order) (write_call size segment page bytes)
+    pub write_lawful : CallFits size (IsLawfulAt opening order) (write_call size segment page bytes)
     write_lawful = (
       refl,
       may.on_segment,
@@ -127,12 +126,12 @@ module _ (setup : Setup) (valid : IsSegmentSize setup.segment_size) (order : Lis
           let put = put_word n low in elim (put.2).lawful [
             | inl zeros ↦ inl (put.1 ∙ ap (to_le_bytes w64) zeros)
             | inr own ↦ inr (put.1 ∙ ap (to_le_bytes w64)
-                (own ∙ ap (log_word_of setup order) (at_number n)))
+                (own ∙ ap (log_word_of opening order) (at_number n)))
           ],
     )
 
     pub write_below : (a : ℕ) → a ≤ l.known
-        → CallFits size (IsLogBelow setup order a) (write_call size segment page bytes)
+        → CallFits size (IsLogBelow opening order a) (write_call size segment page bytes)
     write_below a under = (
       refl,
       may.on_segment,
@@ -140,14 +139,14 @@ module _ (setup : Setup) (valid : IsSegmentSize setup.segment_size) (order : Lis
           let put = put_word n low in
           put.1 ∙ ap (to_le_bytes w64)
           ((put.2).below (omega (arith, at_number n, below))
-          ∙ ap (log_word_of setup order) (at_number n)),
+          ∙ ap (log_word_of opening order) (at_number n)),
     )
 
   -- ---- what a segment assures
 
   abbrev Assures : ℕ → ℕ → Option Segment → Type 0
   Assures written segment s = SegmentAssures size (IsMadeUpto size written)
-      (IsLogBelow setup order written) segment s
+      (IsLogBelow opening order written) segment s
 
   abbrev IsWhole : Option Segment → Type 0
   IsWhole s = IsSomeAnd s (λ s. s.pages ≡ pages_of size)
@@ -169,7 +168,7 @@ module _ (setup : Setup) (valid : IsSegmentSize setup.segment_size) (order : Lis
   -- ---- a create
 
   module _ (segment : ℕ) (w : Plain) (next : segment ≡ w.made + 1)
-      (reached : w.written ≤ w.made * setup.segment_size + setup.segment_size) where
+      (reached : w.written ≤ w.made * opening.setup.segment_size + opening.setup.segment_size) where
     creating : Bool → Bool → Call
     creating any done =
         record { geometry = size; segment = segment; kind = Create any; done = done }
@@ -193,8 +192,8 @@ module _ (setup : Setup) (valid : IsSegmentSize setup.segment_size) (order : Lis
     created_whole any done state s here elsewhere =
         after_each state (creating any done) IsWhole s here elsewhere
 
-    pub on_disk_created : (outcome : CallOutcome) (t : Tape) → IsOnDisk setup order w t
-        → IsOnDisk setup order (after_create segment (create_call size segment) outcome w)
+    pub on_disk_created : (outcome : CallOutcome) (t : Tape) → IsOnDisk opening order w t
+        → IsOnDisk opening order (after_create segment (create_call size segment) outcome w)
         (tape_behind outcome (create_call size segment) t)
     unfolding creating
     on_disk_created Done t d = record {
@@ -225,8 +224,8 @@ module _ (setup : Setup) (valid : IsSegmentSize setup.segment_size) (order : Lis
   whole_written page bytes done (Some s) whole = whole
 
   module _ (segment page upto : ℕ) (bytes : List ℕ) (w : Plain)
-      (page_is : segment * pages_of setup.segment_size + page ≡ w.written / 8192)
-      (on_segment : page < pages_of setup.segment_size)
+      (page_is : segment * pages_of opening.setup.segment_size + page ≡ w.written / 8192)
+      (on_segment : page < pages_of opening.setup.segment_size)
       (alone : (w.waiting ≡ none) ⊎ (w.waiting ≡ some segment)) (rises : w.written ≤ upto)
       (behind_start : w.written / 8192 * 8192 < upto)
       (within_page : upto ≤ (w.written / 8192 + 1) * 8192) where
@@ -254,7 +253,7 @@ module _ (setup : Setup) (valid : IsSegmentSize setup.segment_size) (order : Lis
         → Assures upto s st
     raised s other st assures =
         SegmentAssures-weaker size (IsMadeUpto size w.written) (IsMadeUpto size upto)
-        (IsLogBelow setup order w.written) (IsLogBelow setup order upto) s (fewer s other)
+        (IsLogBelow opening order w.written) (IsLogBelow opening order upto) s (fewer s other)
         (λ k word within small found is below.
         elim (cases_lt ((s * pages_of size + k) * 8192 + 8 * word) w.written) [
           | inl before ↦ is before
@@ -289,8 +288,8 @@ module _ (setup : Setup) (valid : IsSegmentSize setup.segment_size) (order : Lis
     written_whole done state s whole = after_each state (writing done) IsWhole s
         (λ _. whole_written page (record { bytes = bytes }) done (state s) whole) (λ _. whole)
 
-    pub on_disk_written : (outcome : CallOutcome) (t : Tape) → IsOnDisk setup order w t
-        → IsOnDisk setup order (after_write segment upto (write_call size segment page bytes)
+    pub on_disk_written : (outcome : CallOutcome) (t : Tape) → IsOnDisk opening order w t
+        → IsOnDisk opening order (after_write segment upto (write_call size segment page bytes)
         outcome w) (tape_behind outcome (write_call size segment page bytes) t)
     unfolding writing
     on_disk_written Done t d = record {
@@ -328,11 +327,11 @@ module _ (setup : Setup) (valid : IsSegmentSize setup.segment_size) (order : Lis
   assures_unsynced a segment (Some s) assures = assures
 
   module _ (segment : ℕ) (w : Plain) (waits : w.waiting ≡ some segment)
-      (reached : w.written ≤ w.made * setup.segment_size + setup.segment_size) where
-    module _ (t : Tape) (d : IsOnDisk setup order w t)
-        (sized : (s : ℕ) → SegmentAssures setup.segment_size IsNowhere (IsLawfulAt setup order) s
+      (reached : w.written ≤ w.made * opening.setup.segment_size + opening.setup.segment_size) where
+    module _ (t : Tape) (d : IsOnDisk opening order w t)
+        (sized : (s : ℕ) → SegmentAssures opening.setup.segment_size IsNowhere (IsLawfulAt opening order) s
         (state_now t s))
-        (reads : ReadsBelow setup order w.written (state_now t)) where
+        (reads : ReadsBelow opening order w.written (state_now t)) where
       all_made : (s : ℕ) → IsMadeUpto size w.written s → IsWhole (state_now t s)
       all_made s made =
           let whole = segment_size_in_pages size valid in
@@ -346,7 +345,7 @@ module _ (setup : Setup) (valid : IsSegmentSize setup.segment_size) (order : Lis
           → Assures w.written s (segment_after Sync size true st)
       by_state s None is = λ made. subst IsWhole is (all_made s made)
       by_state s (Some sg) is =
-          let pages = (subst (SegmentAssures size IsNowhere (IsLawfulAt setup order) s) is
+          let pages = (subst (SegmentAssures size IsNowhere (IsLawfulAt opening order) s) is
           (sized s)).0 in
           let image = image_as_read (state_now t) in
           let there : image s ≡ Some (record { pages = sg.pages; page = page_as_read sg }) =
@@ -357,7 +356,7 @@ module _ (setup : Setup) (valid : IsSegmentSize setup.segment_size) (order : Lis
                   (let k = (s * pages_of size + page) * 1024 + word in
                   let at : 8 * k ≡ (s * pages_of size + page) * 8192 + 8 * word = omega arith in
                   let own = subst (λ (a : ℕ). image_word size image a
-                  ≡ log_word_bytes size setup.sysid order a) at (reads k (omega arith)) in
+                  ≡ log_bytes_of opening order a) at (reads k (omega arith)) in
                   read ∙ sym (image_word_at size valid s page word within small image
                   (record { pages = sg.pages; page = page_as_read sg }) there pages) ∙ own)
               | inr nothing ↦ absurd nothing
@@ -374,7 +373,7 @@ module _ (setup : Setup) (valid : IsSegmentSize setup.segment_size) (order : Lis
           (λ _. whole_synced done (state_now t s) whole) (λ _. whole)
 
       pub on_disk_synced : (outcome : CallOutcome)
-          → IsOnDisk setup order (after_sync (sync_call size segment) outcome w)
+          → IsOnDisk opening order (after_sync (sync_call size segment) outcome w)
           (tape_behind outcome (sync_call size segment) t)
       unfolding syncing
       on_disk_synced Done = record {

@@ -6,8 +6,8 @@ use Rattle.byte_position.specs.Geometry.{IsSegmentSize}
 use Rattle.segment_disk.specs.Tape.{DiskState, Tape, state_now}
 use Rattle.segment_disk.specs.Assured.{IsMadeUpto, IsNowhere, TapeAssures}
 use Rattle.wal_types.specs.declared.record.Record.{Record}
-use Rattle.wal_page.specs.Order.{Entry, IsChained, end_position}
-use Rattle.wal_core.specs.Words.{Opening, end_form, found_end}
+use Rattle.wal_page.specs.Order.{Entry}
+use Rattle.wal_core.specs.Words.{Opening, end_form, found_end, order_end, GoesOnAtPlace}
 use Rattle.wal_core.specs.Views.{HasAt, Flight, Out, Joined, Lent, Place, Stored, Plain, FlushPromise, Receipts, View, receipts_of, writing_of}
 use Rattle.wal_core.specs.Ordered.{AtPlace}
 use Rattle.wal_core.specs.Moves.{after_store_position, entry_reserved}
@@ -35,7 +35,7 @@ pub known_reserved : {first : DiskState} (o : Opening) (order : List Entry) (wri
     → PositionsHold first o order written flushed down home writer flights (map writing_of views)
     → (id : ℕ) (x : Receipts) → HasAt (map receipts_of views) id x
     → (l : Lent) → (x.writing).hold ≡ Out l
-    → l.known ≤ end_form o.setup (end_position (o.setup).segment_size order)
+    → l.known ≤ end_form o.setup (order_end o order)
 known_reserved o order written flushed down home writer flights views p id x at l is =
     let found = view_from receipts_of views id x at in
     ((p.views id (found.0).writing (part_at writing_of views id found.0 found.1)).known l
@@ -61,13 +61,13 @@ module _ {first : DiskState} (o : Opening) (order : List Entry) (flushed moment 
     (writer : Plain) (parts : List Receipts)
     (h : DurabilityHolds first o order flushed moment down home writer parts)
     (valid : IsSegmentSize (o.setup).segment_size) (e : Entry)
-    (chained : IsChained (o.setup).segment_size order)
-    (start : e.start ≡ end_position (o.setup).segment_size order) where
+    (chained : GoesOnAtPlace o order)
+    (start : e.start ≡ order_end o order) where
   abbrev longer : List Entry
   longer = order ++ e ∷ []
 
   abbrev end : ℕ
-  end = end_form o.setup (end_position (o.setup).segment_size order)
+  end = end_form o.setup (order_end o order)
 
   abbrev opened : ℕ
   opened = o.moment
@@ -79,13 +79,13 @@ module _ {first : DiskState} (o : Opening) (order : List Entry) (flushed moment 
         → IsPromised flushed moment p → IsPromiseKept o longer t es p
     kept_longer t es p kept promised = record {
       since = kept.since;
-      firm = firm_stays o.setup valid order e chained start p.upto p.moment t
+      firm = firm_stays o valid order e chained start p.upto p.moment t
           (omega (arith, promised.upto_low)) kept.firm;
       later = kept.later;
     }
 
     kept_more : (t : Tape) (es : List Entry) (p : FlushPromise)
-        → TapeAssures (o.setup).segment_size IsNowhere (IsLawfulAt o.setup order) opened t
+        → TapeAssures (o.setup).segment_size IsNowhere (IsLawfulAt o order) opened t
         → IsPromiseKept o order t es p → IsPromised flushed moment p → IsPromiseKept o longer t
         (es ++ e ∷ []) p
     kept_more t es p lawful kept promised = record {
@@ -94,7 +94,7 @@ module _ {first : DiskState} (o : Opening) (order : List Entry) (flushed moment 
       later = λ k f from there. elim (got_cases es e f k there) [
         | inl before ↦ kept.later k f from before
         | inr new ↦ subst (IsUnwritten (o.setup).segment_size opened t p.moment) new
-            (IsUnwritten-new o.setup valid order e chained start opened p.moment t lawful)
+            (IsUnwritten-new o valid order e chained start opened p.moment t lawful)
       ];
     }
 
@@ -127,14 +127,14 @@ module _ {first : DiskState} (o : Opening) (order : List Entry) (flushed moment 
           (j : Joined). AreKept o order t j.entries j.promises) x.joined)
           t is suited a.joined) a.joined_promised);
       in_hand = λ l is. let i = a.in_hand l is in record {
-        staged = All-weaker (IsStaged o.setup order l.known) (IsStaged o.setup longer l.known)
-            (λ s staged. staged_stays o.setup valid order e chained start l.known s (within l is)
+        staged = All-weaker (IsStaged o order l.known) (IsStaged o longer l.known)
+            (λ s staged. staged_stays o valid order e chained start l.known s (within l is)
             staged) l.staged i.staged;
         hard_low = i.hard_low;
         moment_low = i.moment_low;
         since = i.since;
         firm = λ some_hard. IfSome_then (tape_from first writer.calls) (i.firm some_hard) (λ t firm suited.
-            firm_stays o.setup valid order e chained start l.hard l.hard_moment t
+            firm_stays o valid order e chained start l.hard l.hard_moment t
             (omega (arith, i.hard_low)) (firm suited));
       };
       down_met = a.down_met;
@@ -142,15 +142,15 @@ module _ {first : DiskState} (o : Opening) (order : List Entry) (flushed moment 
       up_in_hand = a.up_in_hand;
     }
 
-    on_disk_longer : (t : Tape) → IsOnDisk o.setup order writer t → IsOnDisk o.setup longer writer t
+    on_disk_longer : (t : Tape) → IsOnDisk o order writer t → IsOnDisk o longer writer t
     on_disk_longer t is = record {
       firm = λ segment apart. SegmentAssures-weaker (o.setup).segment_size
           (IsMadeUpto (o.setup).segment_size writer.written)
           (IsMadeUpto (o.setup).segment_size writer.written)
-          (IsLogBelow o.setup order writer.written) (IsLogBelow o.setup longer writer.written)
+          (IsLogBelow o order writer.written) (IsLogBelow o longer writer.written)
           segment (λ made. made)
           (λ page word within small bytes below.
-          below_grows o.setup valid order e chained start writer.written reserved _ word bytes
+          below_grows o valid order e chained start writer.written reserved _ word bytes
           below) (state_now t segment) (is.firm segment apart);
       there = is.there;
     }
@@ -163,13 +163,13 @@ module _ {first : DiskState} (o : Opening) (order : List Entry) (flushed moment 
       reached = h.reached;
       made = h.made;
       lawful = IfSome_then (tape_from first writer.calls) h.lawful (λ t lawful suited.
-          lawful_stays o.setup valid order e chained start opened t (lawful suited));
+          lawful_stays o valid order e chained start opened t (lawful suited));
       found_low = h.found_low;
       found = IfSome_then (tape_from first writer.calls) h.found (λ t found suited.
-          firm_stays o.setup valid order e chained start (found_end o) o.moment t
+          firm_stays o valid order e chained start (found_end o) o.moment t
           (omega (arith, h.found_low)) (found suited));
       firm = IfSome_then (tape_from first writer.calls) h.firm (λ t firm suited.
-          firm_stays o.setup valid order e chained start flushed moment t (omega arith)
+          firm_stays o valid order e chained start flushed moment t (omega arith)
           (firm suited));
       on_disk = IfSome_then (tape_from first writer.calls) h.on_disk (λ t is suited. on_disk_longer t (is suited));
       down_is = h.down_is;
@@ -187,7 +187,7 @@ module _ {first : DiskState} (o : Opening) (order : List Entry) (flushed moment 
         (told (x.entries ++ e ∷ []) x.joined x.writing) all_longer here refl
         (longer_assured x (x.entries ++ e ∷ []) (known id x here)
         (λ t is suited p. kept_more t x.entries p (at_suited first o writer
-        (TapeAssures (o.setup).segment_size IsNowhere (IsLawfulAt o.setup order) opened)
+        (TapeAssures (o.setup).segment_size IsNowhere (IsLawfulAt o order) opened)
         t is suited h.lawful))
         (h.views id x here))
 
@@ -196,8 +196,8 @@ pub store_position_keeps : {first : DiskState} (o : Opening) (order : List Entry
     (writer : Plain) (views : List View) (id met : ℕ) (locks : List ℕ) (value : Record) (v : View)
     (at prev : ℕ) (last word locked holder written : ℕ) (flights : List Flight)
     → DurabilityHolds first o order flushed moment down home writer (map receipts_of views)
-    → HasAt views id v → IsSetup o.setup → IsChained (o.setup).segment_size order
-    → AtPlace (o.setup).segment_size (end_position (o.setup).segment_size order) last word locked
+    → HasAt views id v → IsSetup o.setup → GoesOnAtPlace o order
+    → AtPlace (o.setup).segment_size (order_end o order) last word locked
     holder id (v.reserving).place
     → PositionsHold first o order written flushed down home writer flights (map writing_of views)
     → (v.reserving).place ≡ Stored at prev
@@ -208,7 +208,7 @@ pub store_position_keeps : {first : DiskState} (o : Opening) (order : List Entry
 store_position_keeps {first} o order flushed moment down home writer views id met locks value v at prev
     last word locked holder written flights h here setup chained stands positions is =
     let e = entry_reserved (v.reserving).number at value in
-    let start = at_end (o.setup).segment_size (end_position (o.setup).segment_size order) last word
+    let start = at_end (o.setup).segment_size (order_end o order) last word
     locked holder id (v.reserving).place at prev is stands in
     subst (λ (x : Receipts). DurabilityHolds first o (order ++ e ∷ []) flushed moment down home writer
     (set (map receipts_of views) id x)) (sym (reserved_is v locks value at prev is))

@@ -79,7 +79,7 @@ module _ {first : DiskState} (o : Opening) (order : List Entry) (flushed moment 
         (is_promised first o order flushed moment down writer v.writing.flushed moment es js v.writing
         h.begun (omega arith) low
         (IfSome_then (tape_from first writer.calls) h.firm (λ t firm suited.
-        IsFirm-lower o.setup order v.writing.flushed flushed moment t low (firm suited))) was)
+        IsFirm-lower o order v.writing.flushed flushed moment t low (firm suited))) was)
 
     pub load_down_keeps : Holds (set parts id (receipts_of (after_load_down down v)))
     load_down_keeps = one (receipts_of (after_load_down down v)) refl
@@ -125,12 +125,12 @@ module _ {first : DiskState} (o : Opening) (order : List Entry) (flushed moment 
         })
 
     pub load_word_keeps : (k met : ℕ)
-        → ((m : Lent) → v.writing.hold ≡ Out m → IsStaged o.setup order m.known (k, met))
+        → ((m : Lent) → v.writing.hold ≡ Out m → IsStaged o order m.known (k, met))
         → Holds (set parts id (receipts_of (after_load_word k met v)))
     load_word_keeps k met staged =
         in_hand_keeps (λ l. record l { staged = (k, met) ∷ l.staged })
         (λ m is. let i = was.in_hand m is in record {
-          staged = All-cons (IsStaged o.setup order m.known) (k, met) m.staged
+          staged = All-cons (IsStaged o order m.known) (k, met) m.staged
               (staged m is) i.staged;
           hard_low = i.hard_low;
           moment_low = i.moment_low;
@@ -179,7 +179,7 @@ module _ {first : DiskState} (o : Opening) (order : List Entry) (flushed moment 
       nothing_loaded there = one (receipts_of (after_slot_out writer v)) refl
           (taken_out first o order flushed moment down writer es js v.writing (lent writer v)
           (fault_number writer.fault) (home_fault there) (record {
-            staged = All-nil (IsStaged o.setup order (lent writer v).known);
+            staged = All-nil (IsStaged o order (lent writer v).known);
             hard_low = omega arith;
             moment_low = omega arith;
             since = λ some_hard. absurd (some_hard refl);
@@ -261,14 +261,14 @@ module _ {first : DiskState} (o : Opening) (order : List Entry) (flushed moment 
 
       -- nothing waits: all that is written is durable
       all_firm : writer.waiting ≡ none
-          → IfSuited first o writer (IsFirm o.setup order writer.written writer.moment)
+          → IfSuited first o writer (IsFirm o order writer.written writer.moment)
       all_firm nothing = told_suited first o writer (λ t is suited.
           TapeAssures-now o.setup.segment_size
           (IsMadeUpto o.setup.segment_size writer.written)
-          (IsLogBelow o.setup order writer.written) writer.moment t
+          (IsLogBelow o order writer.written) writer.moment t
           (counted_on first writer.moment writer.calls t is h.counted)
           (λ segment. (at_suited first o writer
-          (IsOnDisk o.setup order writer) t is suited h.on_disk).firm
+          (IsOnDisk o order writer) t is suited h.on_disk).firm
           segment (λ waits. absurd (some-ne-none segment (sym waits ∙ nothing)))))
 
       pub store_moment_keeps : (met : ℕ) → MayStep v store_moment
@@ -295,7 +295,7 @@ module _ {first : DiskState} (o : Opening) (order : List Entry) (flushed moment 
             found = h.found;
             firm = IfSome_then (tape_from first writer.calls) h.firm (λ t firm suited.
                 TapeAssures-later size (IsMadeUpto size flushed)
-                (IsLogBelow o.setup order flushed) moment writer.moment t h.moment_low
+                (IsLogBelow o order flushed) moment writer.moment t h.moment_low
                 (firm suited));
             on_disk = h.on_disk;
             down_is = h.down_is;
@@ -322,7 +322,7 @@ module _ {first : DiskState} (o : Opening) (order : List Entry) (flushed moment 
             moment_low = omega (arith, from);
             since = λ _. omega (arith, from, behind.begun);
             firm = λ _. subst (λ (p : Plain).
-                IfSuited first o writer (IsFirm o.setup order p.written p.moment)) (sym own)
+                IfSuited first o writer (IsFirm o order p.written p.moment)) (sym own)
                 (all_firm nothing);
           })) (still_up hardened)))
 
@@ -352,7 +352,7 @@ module _ {first : DiskState} (o : Opening) (order : List Entry) (flushed moment 
             found = h.found;
             firm = IfSome_then (tape_from first writer.calls) (hand.firm some_hard) (λ t firm suited.
                 TapeAssures-later o.setup.segment_size (IsMadeUpto o.setup.segment_size l.hard)
-                (IsLogBelow o.setup order l.hard) l.hard_moment moment t hand.moment_low
+                (IsLogBelow o order l.hard) l.hard_moment moment t hand.moment_low
                 (firm suited));
             on_disk = h.on_disk;
             down_is = h.down_is;

@@ -51,9 +51,9 @@ module _ {first : DiskState} (o : Opening) (order : List Entry) (flushed moment 
     (h : DurabilityHolds first o order flushed moment down home w parts)
     (low : flushed ≤ w.written) (call : Call) (outcome : CallOutcome) (n : Plain)
     (is : ComesBehind call outcome w n)
-    (lawful : CallFits (o.setup).segment_size (IsLawfulAt o.setup order) call)
+    (lawful : CallFits (o.setup).segment_size (IsLawfulAt o order) call)
     (fits : (a : ℕ) → a ≤ w.written
-    → CallFits (o.setup).segment_size (IsLogBelow o.setup order a) call) where
+    → CallFits (o.setup).segment_size (IsLogBelow o order a) call) where
   abbrev size : ℕ
   size = (o.setup).segment_size
 
@@ -72,20 +72,20 @@ module _ {first : DiskState} (o : Opening) (order : List Entry) (flushed moment 
       (began_behind o call outcome t (omega (arith, h.begun, h.moment_low, counts t there)) suited))
 
   firm_behind : (upto from : ℕ) → upto ≤ w.written
-      → IfSuited first o w (IsFirm o.setup order upto from)
-      → IfSuited first o n (IsFirm o.setup order upto from)
-  firm_behind upto from under firm = suited_behind (IsFirm o.setup order upto from)
+      → IfSuited first o w (IsFirm o order upto from)
+      → IfSuited first o n (IsFirm o order upto from)
+  firm_behind upto from under firm = suited_behind (IsFirm o order upto from)
       (λ t there suited.
-      TapeAssures-behind size (IsMadeUpto size upto) (IsLogBelow o.setup order upto) call outcome
+      TapeAssures-behind size (IsMadeUpto size upto) (IsLogBelow o order upto) call outcome
       from t (fits upto under)
-      (at_suited first o w (IsFirm o.setup order upto from) t there suited firm))
+      (at_suited first o w (IsFirm o order upto from) t there suited firm))
 
   kept_behind : (t : Tape) → tape_from first w.calls ≡ Some t → (es : List Entry) (p : FlushPromise)
       → IsPromiseKept o order t es p → IsPromised flushed moment p
       → IsPromiseKept o order (tape_behind outcome call t) es p
   kept_behind t there es p kept promised = record {
     since = kept.since;
-    firm = TapeAssures-behind size (IsMadeUpto size p.upto) (IsLogBelow o.setup order p.upto) call
+    firm = TapeAssures-behind size (IsMadeUpto size p.upto) (IsLogBelow o order p.upto) call
         outcome p.moment t (fits p.upto (omega (arith, promised.upto_low))) kept.firm;
     later = λ k e from got. IsUnwritten-behind size o.moment p.moment call outcome t e
         (omega (arith, promised.moment_low, h.moment_low, counts t there))
@@ -132,8 +132,8 @@ module _ {first : DiskState} (o : Opening) (order : List Entry) (flushed moment 
 
   module _ (reached : n.written ≤ n.made * (o.setup).segment_size + (o.setup).segment_size)
       (made : IfSome n.calls (IsMadeInTurn o n))
-      (disk : (t : Tape) → tape_from first w.calls ≡ Some t → BeganSuited o t → IsOnDisk o.setup order w t
-      → IsOnDisk o.setup order n (tape_behind outcome call t))
+      (disk : (t : Tape) → tape_from first w.calls ≡ Some t → BeganSuited o t → IsOnDisk o order w t
+      → IsOnDisk o order n (tape_behind outcome call t))
       (up : w.fault ≡ none) (away : home ≡ none)
       (rose : (f : ℕ) → n.fault ≡ some f → Rose o.faults f) where
     all_behind : DurabilityHolds first o order flushed moment down home n parts
@@ -144,17 +144,17 @@ module _ {first : DiskState} (o : Opening) (order : List Entry) (flushed moment 
       begun = h.begun;
       reached = reached;
       made = made;
-      lawful = suited_behind (TapeAssures size IsNowhere (IsLawfulAt o.setup order) o.moment)
+      lawful = suited_behind (TapeAssures size IsNowhere (IsLawfulAt o order) o.moment)
           (λ t there suited. TapeAssures-behind size IsNowhere
-          (IsLawfulAt o.setup order) call outcome
+          (IsLawfulAt o order) call outcome
           o.moment t lawful
-          (at_suited first o w (TapeAssures size IsNowhere (IsLawfulAt o.setup order) o.moment) t there
+          (at_suited first o w (TapeAssures size IsNowhere (IsLawfulAt o order) o.moment) t there
           suited h.lawful));
       found_low = h.found_low;
       found = firm_behind (found_end o) o.moment (omega (arith, h.found_low, low)) h.found;
       firm = firm_behind flushed moment low h.firm;
-      on_disk = suited_behind (IsOnDisk o.setup order n) (λ t there suited. disk t there suited
-          (at_suited first o w (IsOnDisk o.setup order w) t there suited h.on_disk));
+      on_disk = suited_behind (IsOnDisk o order n) (λ t there suited. disk t there suited
+          (at_suited first o w (IsOnDisk o order w) t there suited h.on_disk));
       down_is = λ is_down. absurd (some-ne-none down (sym (h.down_is is_down) ∙ up));
       down_at_home = λ at_home. absurd (some-ne-none n (sym at_home ∙ away));
       set_once = h.set_once;

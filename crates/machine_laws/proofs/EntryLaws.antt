@@ -11,12 +11,13 @@ use Rattle.byte_position.specs.Position.{end_address_of}
 use Rattle.byte_position.proofs.EndAddresses.{end_address_of-mono_lt}
 use Rattle.record_spelling.specs.Spelling.{assembled}
 use Rattle.wal_page.specs.Log.{owner_at}
-use Rattle.wal_page.specs.Order.{Entry, IsChained, end_position, position_behind}
+use Rattle.wal_page.specs.Order.{Entry, position_behind}
 use Rattle.wal_page.specs.EntryWords.{address_of_word}
 use Rattle.wal_page.proofs.OrderLaws.{room_at-pos}
-use Rattle.wal_page.proofs.OwnerLaws.{Owns-from_between, owner_at-entry_iff}
+use Rattle.wal_page.proofs.OwnerLaws.{Owns-from_between}
+use Rattle.wal_page.proofs.PlaceLaws.{owner_at-entry_from_iff}
 use Rattle.wal_core.specs.declared.setup.Setup.{Setup}
-use Rattle.wal_core.specs.Words.{Opening, end_form, lock_word}
+use Rattle.wal_core.specs.Words.{Opening, end_form, lock_word, order_end, GoesOnAtPlace}
 use Rattle.wal_core.specs.Views.{HasAt, Copy, Flight, Landed, Copying, Plain, View, working_of, flight_of}
 use Rattle.wal_core.specs.Locked.{most_told}
 use Rattle.wal_core.specs.Ringed.{IsOfOrder}
@@ -47,27 +48,31 @@ around e (x ∷ xs) has = ⊎_elim
     (Contains-append_cases (x ∷ []) xs e has)
 
 -- an entry owns the address at which it begins; so one that starts where another does is that one
-module _ (size : ℕ) (valid : IsSegmentSize size) (order : List Entry) (chain : IsChained size order)
+module _ (opening : Opening) (valid : IsSegmentSize opening.setup.segment_size)
+    (order : List Entry) (chain : GoesOnAtPlace opening order)
   where
+    abbrev segment : ℕ
+    segment = opening.setup.segment_size
+
     owns_start : (front back : List Entry) (e : Entry) → order ≡ front ++ e ∷ back
-        → owner_at size order (end_address_of size e.start) ≡ Some e
+        → owner_at segment order (end_address_of segment e.start) ≡ Some e
     owns_start front back e are =
-        let room = room_at-pos size e in
-        let rises = end_address_of-mono_lt size valid e.start (position_behind size e)
+        let room = room_at-pos segment e in
+        let rises = end_address_of-mono_lt segment valid e.start (position_behind segment e)
         (omega arith) in
-        subst (λ (es : List Entry). owner_at size es (end_address_of size e.start) ≡ Some e)
+        subst (λ (es : List Entry). owner_at segment es (end_address_of segment e.start) ≡ Some e)
         (sym are)
-        ((owner_at-entry_iff size front back e (subst (IsChained size) are chain)
-        (end_address_of size e.start)).1
-        (Owns-from_between size valid (assembled e.value) e.start (end_address_of size e.start)
-        (omega arith) rises))
+        ((owner_at-entry_from_iff segment valid opening.place.position front back e
+        (subst (GoesOnAtPlace opening) are chain) (end_address_of segment e.start)).1
+        (Owns-from_between segment valid (assembled e.value) e.start
+        (end_address_of segment e.start) (omega arith) rises))
 
     starts_once : (front back : List Entry) (e : Entry) → order ≡ front ++ e ∷ back
         → (before behind : List Entry) (f : Entry) → order ≡ before ++ f ∷ behind
         → e.start ≡ f.start → e ≡ f
     starts_once front back e are before behind f same_as start = same_Some e f
         (sym (owns_start front back e are)
-        ∙ ap (λ (p : ℕ). owner_at size order (end_address_of size p)) start
+        ∙ ap (λ (p : ℕ). owner_at segment order (end_address_of segment p)) start
         ∙ owns_start before behind f same_as)
 
 -- ---- whether an entry is in flight
@@ -110,7 +115,8 @@ flies views id v c here is = subst (λ (f : Flight). HasAt (map flight_of views)
 
 -- ---- entries, and what locks tell of them
 
-module _ {first : DiskState} (opening : Opening) (words : List ℕ) (home : Option Plain) (views : List View)
+module _ {first : DiskState} (opening : Opening) (words : List ℕ) (home : Option Plain)
+    (views : List View)
     (k : IsSound first opening words home views) where
   abbrev setup : Setup
   setup = opening.setup
@@ -118,12 +124,12 @@ module _ {first : DiskState} (opening : Opening) (words : List ℕ) (home : Opti
   abbrev size : ℕ
   size = (opening.setup).segment_size
 
-  abbrev chain : IsChained size k.order
+  abbrev chain : GoesOnAtPlace opening k.order
   chain = (k.reserved).chained
 
   -- an entry in flight is one of the order
   of_order : (id : ℕ) (v : View) (c : Copy) → HasAt views id v → (v.working).flight ≡ Copying c
-      → IsOfOrder size k.order c
+      → IsOfOrder opening k.order c
   of_order id v c here is = (k.ring).in_flight id c (flies views id v c here is)
 
   in_flight : (id : ℕ) (v : View) (c : Copy) → HasAt views id v → (v.working).flight ≡ Copying c
@@ -136,15 +142,15 @@ module _ {first : DiskState} (opening : Opening) (words : List ℕ) (home : Opti
   )
 
   whole_or_not : (e : Entry) → Contains k.order e
-      → (IsInNoFlight views e × IsCopiedWhole setup k.order words e)
+      → (IsInNoFlight views e × IsCopiedWhole opening k.order words e)
       ⊎ SomeView views (HasInFlight e)
   whole_or_not e has =
       let a = around e k.order has in ⊎_elim
       (λ (t : SomeView views (λ v. Copies e (v.working).flight)).
       let f = t.3 in
       let o = of_order t.0 t.1 f.0 t.2 f.1 in
-      let same = starts_once size (k.setup_is).size k.order chain o.front o.back (f.0).entry o.are
-      a.0 a.1 e a.2 f.2 in
+      let same = starts_once opening (k.setup_is).size k.order chain o.front o.back (f.0).entry
+      o.are a.0 a.1 e a.2 f.2 in
       inr (t.0, t.1, t.2, in_flight t.0 t.1 f.0 t.2 f.1 e same))
       (λ (none : IsInNoFlight views e). inl (
         none,
@@ -153,7 +159,7 @@ module _ {first : DiskState} (opening : Opening) (words : List ℕ) (home : Opti
       ))
       (flies_or_not e views)
 
-  pub entries_are_whole_or_in_flight : EntriesAreWholeOrInFlight setup k.order words views
+  pub entries_are_whole_or_in_flight : EntriesAreWholeOrInFlight opening k.order words views
   entries_are_whole_or_in_flight = record {
     each = whole_or_not;
     by_one = λ e id other v w here there h g.
@@ -170,7 +176,7 @@ module _ {first : DiskState} (opening : Opening) (words : List ℕ) (home : Opti
 
   -- what a lock's word tells of a flight of its holder
   abbrev reserved_end : ℕ
-  reserved_end = end_form setup (end_position size k.order)
+  reserved_end = end_form setup (order_end opening k.order)
 
   abbrev Told : ℕ → ℕ → View → Type 0
   Told end lock v = IsToldBy size lock (lock_word words lock) v
@@ -191,7 +197,7 @@ module _ {first : DiskState} (opening : Opening) (words : List ℕ) (home : Opti
       let o = of_order id v c here is in
       let within = o.copied_within in
       let ends = last_word-ends size (k.setup_is).size c.entry
-      (copy-whole size (k.setup_is).size k.order chain c o) in
+      (copy-whole opening (k.setup_is).size (k.reserved).placed k.order chain c o) in
       inl (record {
         copy = c;
         in_flight = is;

@@ -62,7 +62,7 @@ module _ {first : DiskState} (words : List ℕ) (home : Option Plain) (views : L
   -- the state with other views, of which the parts hold
   module _ (changed : List View) where
     abbrev HasOrderWith : List Reserving → Type 0
-    HasOrderWith rs = OrderHolds (v.opening).setup (v.opening).found k.order
+    HasOrderWith rs = OrderHolds v.opening k.order
         (position_word words) (prev_word words) rs
 
     abbrev HasReadingWith : List Writing → Type 0
@@ -75,7 +75,7 @@ module _ {first : DiskState} (words : List ℕ) (home : Option Plain) (views : L
     changed_sound : ((j : ℕ) (u : View) → HasAt changed j u
         → IsGrounded v.opening (down_word words) u)
         → (rs : List Reserving) → map reserving_of changed ≡ rs → HasOrderWith rs
-        → WorksHold (v.opening).setup k.order words changed
+        → WorksHold v.opening k.order words changed
         → TurnsHold words home k.stage k.writer changed
         → SwitchesStandAlone ((v.opening).setup).segment_size (map working_of changed)
         → HasRingWith v.opening words home views k changed
@@ -185,7 +185,7 @@ module _ {first : DiskState} (words : List ℕ) (home : Option Plain) (views : L
       _ (one_changes reserving_of views id v here (after_split v) (split_off v))
       (order.split_keeps k.order (position_word words) (prev_word words)
       (map reserving_of views) id v part some_left)
-      (works_split (v.opening).setup k.order words views id v here
+      (works_split v.opening k.order words views id v here
       (works_now v.opening words home views k))
       (turns_split words home k.stage k.writer views id v here
       (turns_now v.opening words home views k))
@@ -211,7 +211,7 @@ module _ {first : DiskState} (words : List ℕ) (home : Option Plain) (views : L
       _ (one_changes reserving_of views id v here (without_work v) (orphan_of v))
       (order.give_up_keeps k.order (position_word words) (prev_word words)
       (map reserving_of views) id v part)
-      (works_give_up (v.opening).setup k.order words views id v here
+      (works_give_up v.opening k.order words views id v here
       (works_now v.opening words home views k))
       (turns_give_up words home k.stage k.writer views id v here
       (turns_now v.opening words home views k))
@@ -243,7 +243,7 @@ module _ {first : DiskState} (words : List ℕ) (home : Option Plain) (views : L
       _ (two_change reserving_of views id v here other (after_join v w) (spent w))
       (order.join_keeps k.order (position_word words) (prev_word words) (map reserving_of views)
       id v other w part (part_at reserving_of views other w there) alive apart rests.place)
-      (works_join (v.opening).setup k.order words views id v here
+      (works_join v.opening k.order words views id v here
       (works_now v.opening words home views k) other w there apart rests)
       (turns_join words home k.stage k.writer views id v here
       (turns_now v.opening words home views k) other w there rests)

@@ -143,13 +143,13 @@ module _ (s : Moved) where
       (k.grounded j u at)) grounded
 
   pub order_stays : reserving_of w ≡ reserving_of v → 2 ≤ i
-      → OrderHolds setup opening.found k.order (position_word later) (prev_word later)
+      → OrderHolds opening k.order (position_word later) (prev_word later)
       (map reserving_of views_later)
   order_stays same above =
       let position = same_word 0 (λ e. omega arith) in
       let prev = same_word 1 (λ e. omega arith) in
       let parts = part_same reserving_of views id v w here same in
-      subst (λ (x : ℕ × ℕ × List _). OrderHolds setup opening.found k.order x.0 x.1 x.2)
+      subst (λ (x : ℕ × ℕ × List _). OrderHolds opening k.order x.0 x.1 x.2)
       (λ j. (sym position j, sym prev j, sym parts j)) k.reserved
 
   pub positions_stay : flight_of w ≡ flight_of v → writing_of w ≡ writing_of v

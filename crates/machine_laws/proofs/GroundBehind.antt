@@ -3,8 +3,8 @@
 use Rattle.std.proofs.Common.{◌≡◌, ◌≢◌, ℕ, ◌≤◌, Bool, cond, true, false, ◌&&◌, ◌||◌, not, List, [], ◌∷◌, ◌++◌, slice_index, refl, sym, ap, ◌∙◌, subst, eqb, ⊎_elim, arith}
 use mathlib.Core.Option.{Option, none, some}
 use Rattle.wal_types.specs.declared.record.Record.{Record}
-use Rattle.wal_page.specs.Order.{Entry, end_position, position_behind, prev_of}
-use Rattle.wal_core.specs.Words.{Opening, down_word, end_form, write_turn, mapping_turn_number, write_turn_number, down_number, lock_number}
+use Rattle.wal_page.specs.Order.{Entry, position_behind}
+use Rattle.wal_core.specs.Words.{Opening, down_word, end_form, write_turn, mapping_turn_number, write_turn_number, down_number, lock_number, order_end, last_start}
 use Rattle.wal_core.specs.Views.{HasAt, Place, Locked, Stored, Plain, Hold, Idle, Turned, Out, Taken, Watching, View, reserving_of, writer_of}
 use Rattle.wal_core.specs.Ordered.{AtPlace}
 use Rattle.wal_core.specs.Moves.{fault_number, after_store_position, begun, entry_reserved, is_own, visited_on, with_hold, with_place, with_stage, with_working}
@@ -88,9 +88,9 @@ module _ {first : DiskState} (words : List ℕ) (home : Option Plain) (views : L
         let mine = part_at reserving_of views id v here in
         let seen = ((k.reserved).views id v.reserving mine live).seen in
         let place = subst
-        (AtPlace size (end_position size k.order) (prev_of size 0 k.order) _ _ _ _) may.2
+        (AtPlace size (order_end v.opening k.order) (last_start v.opening k.order) _ _ _ _) may.2
         ((k.reserved).places id v.reserving mine live) in
-        let at : may.0 ≡ end_position size k.order = place.2 in
+        let at : may.0 ≡ order_end v.opening k.order = place.2 in
         let e : Entry = entry_reserved (v.reserving).number may.0 value in
         subst (λ (p : Place).
         IsGrounded v.opening down (after_store_position locks value (with_place p v)))

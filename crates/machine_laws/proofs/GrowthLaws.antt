@@ -223,7 +223,7 @@ pub suited_loses_only : (opening : Opening) (state : DiskState) → IsSuited ope
 suited_loses_only opening state suited segment = of_segment (state segment) (suited segment)
   where
     of_segment : (s : OptionOf Segment) → SegmentAssures (opening.setup).segment_size
-        (λ n. (1 ≤ n) × (n ≤ opening.made)) (IsLogAt opening.setup opening.found) segment s
+        (λ n. (1 ≤ n) × (n ≤ opening.made)) (IsLogAt opening []) segment s
         → IfSome s (SegmentLosesOnly (opening.setup).segment_size)
     of_segment None holds = tt
     of_segment (Some s) holds = (

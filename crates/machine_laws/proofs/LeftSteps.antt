@@ -228,7 +228,7 @@ module _ {first : DiskState} (v : View) (words : List ℕ) (home : Option Plain)
       → HasRing v words home views id e s.order s.reach s.memory
   ring_behind-left e leaves =
       let met : ℕ = met_by v words home views id e in
-      subst (λ (fs : List Flight). RingHolds (v.opening).setup s.order s.reach s.memory fs)
+      subst (λ (fs : List Flight). RingHolds v.opening s.order s.reach s.memory fs)
       (sym (part_same flight_of views id v (view_behind v e met home) here
       (flight_left v e met home leaves))) s.ring
 

@@ -48,6 +48,7 @@ pub mod DurableViews
 pub mod DurableCalls
 pub mod DurableCallSteps
 pub mod CrashLaws
+pub mod WholeOrders
 pub mod SoundDurableSteps
 mod KnownViews
 mod Frames

@@ -2,9 +2,8 @@
 -- one is taken in, and where one gives up its copy.
 use Rattle.std.proofs.Common.{◌≡◌, ◌≢◌, ℕ, List, [], ◌∷◌, ◌++◌, map, set, sym, refl, ap, ◌∙◌, subst}
 use mathlib.Core.Option.{Option}
-use Rattle.wal_page.specs.Order.{Entry, end_position}
-use Rattle.wal_core.specs.declared.setup.Setup.{Setup}
-use Rattle.wal_core.specs.Words.{lock_word, mapping_turn, write_turn, end_form}
+use Rattle.wal_page.specs.Order.{Entry}
+use Rattle.wal_core.specs.Words.{lock_word, mapping_turn, write_turn, end_form, order_end, Opening}
 use Rattle.wal_core.specs.Views.{HasAt, Stage, Away, Hold, Idle, Plain, Working, Watching, View, working_of, watching_of, mapper_of, writer_of}
 use Rattle.wal_core.specs.Locked.{AreHeld, ProgressHolds, IsMappingTurn, IsWriteTurn}
 use Rattle.wal_core.specs.Watched.{WatchHolds}
@@ -42,8 +41,11 @@ module _ {W : Type 0} (f : View → W) (views : List View) (id : ℕ) (v : View)
 
 -- ---- locks, what they tell, and those who watch them
 
-module _ (setup : Setup) (order : List Entry) (words : List ℕ) (views : List View) (id : ℕ)
-    (v : View) (here : HasAt views id v) (k : WorksHold setup order words views) where
+module _ (opening : Opening) (order : List Entry) (words : List ℕ) (views : List View) (id : ℕ)
+    (v : View) (here : HasAt views id v) (k : WorksHold opening order words views) where
+  abbrev size : ℕ
+  size = opening.setup.segment_size
+
   abbrev works : List Working
   works = map working_of views
 
@@ -51,30 +53,30 @@ module _ (setup : Setup) (order : List Entry) (words : List ℕ) (views : List V
   watches = map watching_of views
 
   abbrev end : ℕ
-  end = end_form setup (end_position setup.segment_size order)
+  end = end_form opening.setup (order_end opening order)
 
   held_as : (views' : List View) (works' : List Working) (watches' : List Watching)
       → map working_of views' ≡ works' → map watching_of views' ≡ watches'
-      → AreHeld (lock_word words) works' → ProgressHolds setup.segment_size end (lock_word words) works'
-      → WatchHolds setup.segment_size end works' watches' → WorksHold setup order words views'
+      → AreHeld (lock_word words) works' → ProgressHolds size end (lock_word words) works'
+      → WatchHolds size end works' watches' → WorksHold opening order words views'
   held_as views' works' watches' same seen held told watched = record {
     held = subst (λ (ps : List Working). AreHeld (lock_word words) ps) (sym same) held;
-    told = subst (λ (ps : List Working). ProgressHolds setup.segment_size end (lock_word words) ps)
+    told = subst (λ (ps : List Working). ProgressHolds size end (lock_word words) ps)
         (sym same) told;
     watched = subst (λ (x : List Working × List Watching).
-        WatchHolds setup.segment_size end x.0 x.1) (λ j. (sym same j, sym seen j)) watched;
+        WatchHolds size end x.0 x.1) (λ j. (sym same j, sym seen j)) watched;
   }
 
-  pub works_split : WorksHold setup order words (set views id (after_split v) ++ split_off v ∷ [])
+  pub works_split : WorksHold opening order words (set views id (after_split v) ++ split_off v ∷ [])
   works_split = held_as (set views id (after_split v) ++ split_off v ∷ []) (works ++ idle ∷ [])
       (watches ++ unwatching ∷ [])
       (one_comes working_of views id v here (after_split v) (split_off v) refl)
       (one_comes watching_of views id v here (after_split v) (split_off v) refl)
       (held_added (lock_word words) works k.held)
-      (told_added setup.segment_size end (lock_word words) works k.told)
-      (watched_added setup.segment_size end works watches k.watched)
+      (told_added size end (lock_word words) works k.told)
+      (watched_added size end works watches k.watched)
 
-  pub works_give_up : WorksHold setup order words
+  pub works_give_up : WorksHold opening order words
       (set views id (without_work v) ++ orphan_of v ∷ [])
   works_give_up =
       let mine : HasAt works id v.working = part_at working_of views id v here in
@@ -83,11 +85,11 @@ module _ (setup : Setup) (order : List Entry) (words : List ℕ) (views : List V
       (one_changes working_of views id v here (without_work v) (orphan_of v))
       (one_comes watching_of views id v here (without_work v) (orphan_of v) refl)
       (held_given_up (lock_word words) works k.held id v.working mine)
-      (told_given_up setup.segment_size end (lock_word words) works k.told id v.working mine)
-      (watched_given_up setup.segment_size end works watches k.watched id v.working mine)
+      (told_given_up size end (lock_word words) works k.told id v.working mine)
+      (watched_given_up size end works watches k.watched id v.working mine)
 
   pub works_join : (other : ℕ) (w : View) → HasAt views other w → id ≢ other → IsResting w
-      → WorksHold setup order words (set (set views other (spent w)) id (after_join v w))
+      → WorksHold opening order words (set (set views other (spent w)) id (after_join v w))
   works_join other w there apart rests =
       let mine : HasAt works id v.working = part_at working_of views id v here in
       let its : HasAt works other w.working = part_at working_of views other w there in
@@ -97,9 +99,9 @@ module _ (setup : Setup) (order : List Entry) (words : List ℕ) (views : List V
       (two_change watching_of views id v here other (after_join v w) (spent w))
       (held_taken_in (lock_word words) works k.held id v.working mine other w.working its
       rests.locks rests.flight)
-      (told_taken_in setup.segment_size end (lock_word words) works k.told id v.working mine other
+      (told_taken_in size end (lock_word words) works k.told id v.working mine other
       w.working its rests.locks rests.flight)
-      (watched_taken_in setup.segment_size end works watches k.watched id v.working mine other
+      (watched_taken_in size end works watches k.watched id v.working mine other
       w.working v.watching its rests.locks rests.flight (part_at watching_of views id v here)
       apart)
 

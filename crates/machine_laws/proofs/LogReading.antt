@@ -17,9 +17,9 @@ use Rattle.segment_disk.proofs.Reading.{kept_write, kept_other_write}
 use Rattle.flush_core.proofs.StateLaws.{after_each}
 use Rattle.wal_page.specs.Order.{Entry}
 use Rattle.segment_disk.specs.ImageWords.{segment_word, zero_word}
-use Rattle.wal_page.specs.Log.{log_word_bytes}
-use Rattle.wal_core.specs.declared.setup.Setup.{Setup}
 use Rattle.wal_core.specs.Positioned.{ReadsBelow}
+use Rattle.wal_core.specs.Ringed.{log_bytes_of}
+use Rattle.wal_core.specs.Words.{Opening}
 
 -- ---- a page of a segment, read behind a write
 
@@ -125,54 +125,54 @@ abbrev pub writing : ℕ → ℕ → ℕ → PageBytes → Bool → Call
 writing geometry segment page bytes done =
     record { geometry = geometry; segment = segment; kind = Write page bytes; done = done }
 
-module _ (setup : Setup) (valid : IsSegmentSize setup.segment_size) (order : List Entry)
+module _ (opening : Opening) (valid : IsSegmentSize opening.setup.segment_size) (order : List Entry)
     (state : DiskState) where
   abbrev IsLogIn : ℕ → Option Segment → Type 0
-  IsLogIn address s = word_in setup.segment_size s address
-      ≡ log_word_bytes setup.segment_size setup.sysid order address
+  IsLogIn address s = word_in opening.setup.segment_size s address
+      ≡ log_bytes_of opening order address
 
   behind_call : (high : ℕ) (call : Call)
-      → ((k : ℕ) → 8 * k < high → 8 * k / setup.segment_size ≡ call.segment
+      → ((k : ℕ) → 8 * k < high → 8 * k / opening.setup.segment_size ≡ call.segment
       → IsLogIn (8 * k) (segment_after call.kind call.geometry call.done
-      (state (8 * k / setup.segment_size))))
-      → ((k : ℕ) → 8 * k < high → 8 * k / setup.segment_size ≢ call.segment
-      → IsLogIn (8 * k) (state (8 * k / setup.segment_size)))
-      → ReadsBelow setup order high (after_call state call)
+      (state (8 * k / opening.setup.segment_size))))
+      → ((k : ℕ) → 8 * k < high → 8 * k / opening.setup.segment_size ≢ call.segment
+      → IsLogIn (8 * k) (state (8 * k / opening.setup.segment_size)))
+      → ReadsBelow opening order high (after_call state call)
   behind_call high call here elsewhere k below =
-      after_each state call (IsLogIn (8 * k)) (8 * k / setup.segment_size) (here k below)
+      after_each state call (IsLogIn (8 * k)) (8 * k / opening.setup.segment_size) (here k below)
       (elsewhere k below)
 
   pub ReadsBelow-create : (upto segment geometry : ℕ) (made done : Bool)
-      → upto ≤ segment * setup.segment_size → ReadsBelow setup order upto state
-      → ReadsBelow setup order upto (after_call state (creating geometry segment made done))
+      → upto ≤ segment * opening.setup.segment_size → ReadsBelow opening order upto state
+      → ReadsBelow opening order upto (after_call state (creating geometry segment made done))
   ReadsBelow-create upto segment geometry made done above reads =
       behind_call upto (creating geometry segment made done)
-      (λ k below same. absurd (below_segment setup.segment_size valid (8 * k) segment
+      (λ k below same. absurd (below_segment opening.setup.segment_size valid (8 * k) segment
       (omega (arith, below, above)) same))
       (λ k below other. reads k below)
 
   pub ReadsBelow-sync : (upto segment geometry : ℕ) (done : Bool)
-      → ReadsBelow setup order upto state
-      → ReadsBelow setup order upto (after_call state (syncing geometry segment done))
+      → ReadsBelow opening order upto state
+      → ReadsBelow opening order upto (after_call state (syncing geometry segment done))
   ReadsBelow-sync upto segment geometry done reads =
       behind_call upto (syncing geometry segment done)
-      (λ k below same. word_synced setup.segment_size geometry (8 * k) done
-      (state (8 * k / setup.segment_size)) ∙ reads k below)
+      (λ k below same. word_synced opening.setup.segment_size geometry (8 * k) done
+      (state (8 * k / opening.setup.segment_size)) ∙ reads k below)
       (λ k below other. reads k below)
 
   -- a page of the log is written: the words below an address on it, and those before it, are the
   -- log's
   module _ (segment page number low high geometry : ℕ) (bytes : PageBytes) (done : Bool)
-      (within : page < pages_of setup.segment_size)
-      (number_is : segment * pages_of setup.segment_size + page ≡ number)
+      (within : page < pages_of opening.setup.segment_size)
+      (number_is : segment * pages_of opening.setup.segment_size + page ≡ number)
       (there : IsSomeAnd (state segment)
-      (λ (s : Segment). s.pages ≡ pages_of setup.segment_size))
+      (λ (s : Segment). s.pages ≡ pages_of opening.setup.segment_size))
       (reaches : number * 8192 ≤ low) (ends : high ≤ (number + 1) * 8192)
       (words : (n : ℕ) → n < 1024 → number * 8192 + 8 * n < high → word_of bytes.bytes n
-      ≡ log_word_bytes setup.segment_size setup.sysid order (number * 8192 + 8 * n))
-      (reads : ReadsBelow setup order low state) where
+      ≡ log_bytes_of opening order (number * 8192 + 8 * n))
+      (reads : ReadsBelow opening order low state) where
     abbrev size : ℕ
-    size = setup.segment_size
+    size = opening.setup.segment_size
 
     on_page : (k : ℕ) → 8 * k < high → 8 * k / 8192 ≡ number
         → IsLogIn (8 * k) (segment_after (Write page bytes) geometry done (state (8 * k / size)))
@@ -185,12 +185,12 @@ module _ (setup : Setup) (valid : IsSegmentSize setup.segment_size) (order : Lis
         (subst (λ (m : ℕ). IsSomeAnd (state m) (λ (s : Segment). s.pages ≡ pages_of size))
         (sym place.0) there) place.1 within
         ∙ words n (omega (arith, parts.2)) (omega (arith, is, below))
-        ∙ ap (λ (a : ℕ). log_word_bytes size setup.sysid order a) is
+        ∙ ap (λ (a : ℕ). log_bytes_of opening order a) is
 
     before : (k : ℕ) → 8 * k < high → 8 * k / 8192 ≢ number → 8 * k < low
     before k below apart = omega (arith, apart, below, ends, reaches)
 
-    pub ReadsBelow-write : ReadsBelow setup order high
+    pub ReadsBelow-write : ReadsBelow opening order high
         (after_call state (writing geometry segment page bytes done))
     ReadsBelow-write = behind_call high (writing geometry segment page bytes done)
         (λ k below same. dite (ℕ_discrete (8 * k / 8192) number)

@@ -5,8 +5,8 @@ use mathlib.Core.Logic.{dite}
 use mathlib.Core.Option.{Option}
 use native.Mathlib.Decide.{ℕ_discrete}
 use Rattle.segment_disk.specs.Tape.{DiskState}
-use Rattle.wal_page.specs.Order.{Entry, end_position}
-use Rattle.wal_core.specs.Words.{Opening, position_word, lock_word, mapping_turn, write_turn, down_word}
+use Rattle.wal_page.specs.Order.{Entry}
+use Rattle.wal_core.specs.Words.{Opening, position_word, lock_word, mapping_turn, write_turn, down_word, order_end}
 use Rattle.wal_core.specs.Views.{HasAt, Away, Free, Hold, Idle, Joined, Plain, Reserving, Stage, View, Working, reserving_of, working_of, mapper_of, writer_of}
 use Rattle.wal_core.specs.Failed.{KnowsOfFault}
 use Rattle.wal_core.specs.Ordered.{entries_under, Role, active, spare, ended, unborn, IsUnused, TookIn}
@@ -176,12 +176,9 @@ module _ {first second : DiskState} (opening : Opening) (words later : List ℕ)
       by_first (inr (inr none)) = by_second none
           (whose opening later home_later views_later m other w there still n)
 
-  abbrev size : ℕ
-  size = (opening.setup).segment_size
-
   same_order : k.order ≡ m.order
-  same_order = one_order size opening.found k.order m.order (k.reserved).chained
-      (m.reserved).chained (k.reserved).found_first (m.reserved).found_first agree
+  same_order = one_order opening k.order m.order (k.reserved).chained
+      (m.reserved).chained (k.reserved).owned (m.reserved).owned agree
 
   even : (ws : List ℕ) (u : View) → HasAllThatIsHeld ws u → (u.reserving).place ≡ Free
       → position_word ws % 2 ≡ 0
@@ -197,5 +194,5 @@ module _ {first second : DiskState} (opening : Opening) (words later : List ℕ)
       (has_all opening later home_later views_later m other w there still) free_still in
       let end = (shared opening words home views k).end in
       let end_later = (shared opening later home_later views_later m).end in
-      let orders = ap (λ (es : List Entry). end_position size es) same_order in
+      let orders = ap (λ (es : List Entry). order_end opening es) same_order in
       omega (arith, one, two, end, end_later, orders)

@@ -7,9 +7,9 @@ use mathlib.Core.Option.{Option, none, some}
 use Rattle.byte_position.proofs.EndAddresses.{end_address_of-mono_lt}
 use Rattle.byte_position.proofs.SegmentSizes.{segment_size_in_pages}
 use Rattle.wal_types.specs.declared.record.Record.{Record}
-use Rattle.wal_page.specs.Order.{Entry, end_position, position_behind, prev_of}
+use Rattle.wal_page.specs.Order.{Entry, position_behind}
 use Rattle.wal_page.proofs.OrderLaws.{room_at-pos}
-use Rattle.wal_core.specs.Words.{flushed_word, moment_word, write_turn, mapping_turn_number, write_turn_number, flushed_number, moment_number, lock_number}
+use Rattle.wal_core.specs.Words.{flushed_word, moment_word, write_turn, mapping_turn_number, write_turn_number, flushed_number, moment_number, lock_number, order_end, last_start}
 use Rattle.wal_core.specs.Views.{HasAt, FlushPromise, Place, Locked, Plain, Lent, Hold, Idle, Turned, Out, Taken, View, reserving_of, receipts_of, working_of, writer_of, writing_of}
 use Rattle.wal_core.specs.Ordered.{AtPlace}
 use Rattle.wal_core.specs.Locked.{StandsTo}
@@ -269,11 +269,11 @@ module _ {first : DiskState} (words : List ℕ) (home : Option Plain) (views : L
       let x : Promised = promised_of v in
       let w : Plain = k.writer in
       let place = subst
-      (AtPlace size (end_position size k.order) (prev_of size 0 k.order) _ _ _ _) may.2
+      (AtPlace size (order_end v.opening k.order) (last_start v.opening k.order) _ _ _ _) may.2
       ((k.reserved).places id v.reserving (part_at reserving_of views id v here) live) in
-      let at : may.0 ≡ end_position size k.order = place.2 in
+      let at : may.0 ≡ order_end v.opening k.order = place.2 in
       let e : Entry = entry_reserved (v.reserving).number may.0 value in
-      let above = end_address_of-mono_lt size (k.setup_is).size (end_position size k.order)
+      let above = end_address_of-mono_lt size (k.setup_is).size (order_end v.opening k.order)
       (position_behind size e) (omega (arith, at, room_at-pos size e)) in
       let same : promised_of (left (store_position locks value)) ≡ with_entry e x =
       subst (λ (p : Place). promised_of (after_store_position locks value (with_place p v))

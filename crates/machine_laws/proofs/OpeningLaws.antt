@@ -1,4 +1,4 @@
--- A log begins, or goes on behind what was found, in a state that keeps the invariant: each part by
+-- A log begins, or goes on behind what was none, in a state that keeps the invariant: each part by
 -- itself.
 use Rattle.std.proofs.Common.{◌≡◌, ◌≢◌, ℕ, zero, suc, ◌+◌, ◌-◌, ◌*◌, ◌/◌, ◌%◌, ◌<◌, ◌≤◌, All, Bool, true, false, List, [], ◌∷◌, length, take, Option, Some, None, IfSome, nat_lt, if◌then◌else◌, append-nil, refl, sym, ap, ◌∙◌, subst, inl, inr, arith}
 use Rattle.std.specs.Int.{w64, to_le_bytes}
@@ -12,21 +12,19 @@ use mathlib.Core.Option.{some, some-injective, some-ne-none}
 use Rattle.byte_position.specs.Position.{first_position}
 use Rattle.byte_position.specs.Geometry.{pages_of}
 use Rattle.byte_position.proofs.SegmentSizes.{segment_size_in_pages}
-use Rattle.wal_page.specs.Log.{log_word_bytes}
 use Rattle.wal_page.specs.EntryWords.{address_of_word}
 use Rattle.wal_page.specs.Order.{Entry}
 use Rattle.wal_page.proofs.WordPositions.{end_address_of-first_position}
-use Rattle.wal_page.proofs.LogWordLaws.{log_word-behind, log_word-unowned}
-use Rattle.wal_page.proofs.OwnerLaws.{owner_at-none_before, end_position-whole}
+use Rattle.wal_page.proofs.PlaceLaws.{end-whole_from, word_from-before, word_from-behind}
 use Rattle.byte_position.proofs.EndAddresses.{end_address_of-mono}
 use Rattle.byte_position.proofs.Words.{end_address_of-mod_word}
 use Rattle.wal_core.specs.declared.setup.Setup.{Setup}
-use Rattle.wal_core.specs.Words.{Opening, position_word, prev_word, lock_word, mapping_turn, write_turn, initialised_word, written_word, flushed_word, moment_word, down_word, end_word, word_of_ring, async_word, found_end, found_position, mapping_turn_number, write_turn_number, lock_number}
+use Rattle.wal_core.specs.Words.{end_form, order_end, Opening, position_word, prev_word, lock_word, mapping_turn, write_turn, initialised_word, written_word, flushed_word, moment_word, down_word, end_word, word_of_ring, async_word, found_end, found_position, mapping_turn_number, write_turn_number, lock_number}
 use Rattle.wal_core.specs.Views.{HasAt, Plain, Away, Landed, Copying, IsLoadedLast, Out, AreSomeOf, View, mapper_of, receipts_of, writer_of}
 use Rattle.wal_core.specs.Opened.{AreFirstWords, IsFirstWriter, IsOpenable, first_view}
 use Rattle.wal_core.specs.Ordered.{HasLive, IsUnused, entries_under, is_pass, OrderHolds, Role, active, spare, ended, unborn}
 use Rattle.wal_core.specs.Locked.{LocksHold, ProgressHolds, StandsAlone, SwitchesStandAlone, most_told}
-use Rattle.wal_core.specs.Ringed.{RingHolds, IsOfOrder, log_word_of}
+use Rattle.wal_core.specs.Ringed.{RingHolds, IsOfOrder, log_word_of, log_bytes_of}
 use Rattle.wal_core.specs.Paged.{PagesHold}
 use Rattle.wal_core.specs.Watched.{IsCopiedToBound, WatchHolds}
 use Rattle.wal_core.specs.Positioned.{PositionsHold}
@@ -61,15 +59,6 @@ only_one : {A : Type 0} (x : A) (P : ℕ → A → Type 0) → P 0 x → (id : �
 only_one x P here zero y e = subst (P 0) (some-injective x y e) here
 only_one x P here (suc id) y e = absurd (some-ne-none y (sym e))
 
--- nobody reserved what was found
-none_under : (n : ℕ) (es : List Entry) → All (λ (e : Entry). e.pass ≡ None) es
-    → entries_under n es ≡ []
-none_under n [] all = refl
-none_under n (e ∷ es) all =
-    ap (λ (p : Option ℕ). if is_pass n p then e ∷ entries_under n es else entries_under n es)
-    (All-head (λ (x : Entry). x.pass ≡ None) e es all)
-    ∙ none_under n es (All-tail (λ (x : Entry). x.pass ≡ None) e es all)
-
 module _ (opening : Opening) (words : List ℕ) (writer : Plain) (log : IsOpenable opening)
     (zeroed : AreFirstWords opening words) (begins : IsFirstWriter opening writer) where
   abbrev setup : Setup
@@ -78,11 +67,19 @@ module _ (opening : Opening) (words : List ℕ) (writer : Plain) (log : IsOpenab
   abbrev valid : IsSetup setup
   valid = log.setup_is
 
-  abbrev found : List Entry
-  found = opening.found
+  -- nothing is reserved yet
+  abbrev none : List Entry
+  none = []
 
   abbrev end : ℕ
   end = found_end opening
+
+  -- an order of nothing ends at the place
+  none_ends : order_end opening none ≡ found_position opening
+  none_ends = omega arith
+
+  none_ends_there : end_form setup (order_end opening none) ≡ end
+  none_ends_there = ap (end_form setup) none_ends
 
   abbrev view : View
   view = first_view opening
@@ -128,7 +125,7 @@ module _ (opening : Opening) (words : List ℕ) (writer : Plain) (log : IsOpenab
   none_ended zero id is = cc
   none_ended (suc n) id is = nobody n (ended id) is
 
-  pub order_begins : OrderHolds setup found found (position_word words) (prev_word words)
+  pub order_begins : OrderHolds opening none (position_word words) (prev_word words)
       (view.reserving ∷ [])
   unfolding role
   order_begins = record {
@@ -136,17 +133,18 @@ module _ (opening : Opening) (words : List ℕ) (writer : Plain) (log : IsOpenab
     locked = 0;
     holder = 0;
     keeper = 0;
-    found_first = ([], sym (append-nil found), All-nil _, log.nobodys);
-    chained = log.chained;
-    within = log.within;
-    position_is = omega (arith, zeroed.position);
+    placed = log.placed;
+    owned = All-nil _;
+    chained = tt;
+    within = omega (arith, none_ends, log.within);
+    position_is = omega (arith, none_ends, zeroed.position);
     one_bit = omega arith;
     at_rest = λ free. zeroed.prev;
-    unused = λ n unused. none_under n found log.nobodys;
+    unused = λ n unused. refl;
     beyond = role_beyond;
     views = only_one view.reserving _ (λ live. record {
       own = refl;
-      entries_are = sym (none_under 0 found log.nobodys);
+      entries_are = refl;
       spares = role_spare;
       seen = omega arith;
       stops = All-nil _;
@@ -188,18 +186,18 @@ module _ (opening : Opening) (words : List ℕ) (writer : Plain) (log : IsOpenab
     };
   }
 
-  progress_begins : ProgressHolds setup.segment_size end (lock_word words) (view.working ∷ [])
+  progress_begins : ProgressHolds setup.segment_size (end_form setup (order_end opening none))
+      (lock_word words) (view.working ∷ [])
   progress_begins = λ id i w at. only_one view.working
       (λ j u. Contains u.locks i → lock_word words i
-      ≤ most_told setup.segment_size end i
-      u.flight)
+      ≤ most_told setup.segment_size (end_form setup (order_end opening none)) i u.flight)
       (λ has. let none = has.1 in absurd (omega arith)) id w at
 
   alone_begins : SwitchesStandAlone setup.segment_size (view.working ∷ [])
   alone_begins = only_one view.working (λ j u. StandsAlone setup.segment_size u.flight)
       (landed_alone setup.segment_size)
 
-  -- how many pages lie below the one in which the log that was found ends, and the first page
+  -- how many pages lie below the one in which the log that was none ends, and the first page
   -- behind the ring's
   abbrev low : ℕ
   low = end / 8192
@@ -210,11 +208,12 @@ module _ (opening : Opening) (words : List ℕ) (writer : Plain) (log : IsOpenab
   -- the log ends at a word, behind where it begins
   end_aligned : end % 8 ≡ 0
   end_aligned = end_address_of-mod_word setup.segment_size valid.size (found_position opening)
-      (end_position-whole setup.segment_size valid.size found log.chained)
+      log.placed.whole
 
   end_high : setup.segment_size ≤ end
   end_high =
-      let up : first_position setup.segment_size ≤ found_position opening = omega arith in
+      let up : first_position setup.segment_size ≤ found_position opening =
+      omega (arith, log.placed.from) in
       let start = end_address_of-first_position setup.segment_size valid.size in
       let rises = end_address_of-mono setup.segment_size valid.size
       (first_position setup.segment_size) (found_position opening) up in
@@ -222,29 +221,28 @@ module _ (opening : Opening) (words : List ℕ) (writer : Plain) (log : IsOpenab
 
   -- the log's words in memory
   abbrev memory : ℕ → ℕ
-  memory k = log_word_of setup found (8 * k)
+  memory k = log_word_of opening none (8 * k)
 
   -- behind its end, and below its start, there is none
   none_behind : (k : ℕ) → end ≤ 8 * k → memory k ≡ 0
-  none_behind k behind = log_word-behind setup.segment_size setup.sysid valid.size found log.chained
-      (8 * k) behind
+  none_behind k behind = word_from-behind setup.segment_size setup.sysid valid.size opening.place
+      none tt (8 * k) (omega (arith, none_ends_there, behind))
 
   none_before : (k : ℕ) → 8 * k < setup.segment_size → memory k ≡ 0
-  none_before k before = log_word-unowned setup.segment_size setup.sysid valid.size found
-      log.chained (8 * k) (omega arith)
-      (owner_at-none_before setup.segment_size valid.size found log.chained (8 * k) before)
+  none_before k before = word_from-before setup.segment_size setup.sysid valid.size opening.place
+      log.placed none (8 * k) before
 
-  ring_begins : RingHolds setup found reach memory (Landed ∷ [])
+  ring_begins : RingHolds opening none reach memory (Landed ∷ [])
   ring_begins = record {
     in_flight = λ id c at. only_one Landed
-        (λ j u. u ≡ Copying c → IsOfOrder setup.segment_size found c) (λ is. absurd (cc)) id
+        (λ j u. u ≡ Copying c → IsOfOrder opening none c) (λ is. absurd (cc)) id
         (Copying c) at refl;
     alone = λ i j c d at. only_one Landed
         (λ n u. u ≡ Copying c → HasAt (Landed ∷ []) j (Copying d)
         → (c.entry).start ≡ (d.entry).start → i ≡ j) (λ is. absurd (cc)) i (Copying c) at refl;
     words = λ k. inl refl;
     ahead = λ k behind from to.
-        let ring = valid.ring_low in absurd (omega arith);
+        let ring = valid.ring_low in absurd (omega (arith, none_ends_there, to));
   }
 
   page_is : (p : ℕ) → low ≤ p → p < reach
@@ -275,9 +273,9 @@ module _ (opening : Opening) (words : List ℕ) (writer : Plain) (log : IsOpenab
         mapping = (refl, zeroed.initialised);
       }
 
-  watching_begins : WatchHolds setup.segment_size end (view.working ∷ []) (view.watching ∷ [])
+  watching_begins : WatchHolds setup.segment_size (end_form setup (order_end opening none)) (view.working ∷ []) (view.watching ∷ [])
   watching_begins = record {
-    reserved = only_one view.watching (λ id x. (x.end ≤ end) × (x.bound ≤ x.end))
+    reserved = only_one view.watching (λ id x. (x.end ≤ end_form setup (order_end opening none)) × (x.bound ≤ x.end))
         (omega arith, omega arith);
     behind = λ id j x w at there. only_one view.watching
         (λ i y. IsCopiedToBound setup.segment_size y w)
@@ -306,11 +304,12 @@ module _ (opening : Opening) (words : List ℕ) (writer : Plain) (log : IsOpenab
         });
       }
 
-  async_begins : AsyncHolds (async_word setup words) end (0 ∷ [])
+  async_begins : AsyncHolds (async_word setup words) (end_form setup (order_end opening none))
+      (0 ∷ [])
   async_begins =
       let aligned = end_aligned in
       let begins_at = zeroed.async in record {
-        reserved = omega arith;
+        reserved = omega (arith, none_ends_there);
         aligned = omega arith;
         met = only_one 0 (λ id n. (n ≤ async_word setup words) × (n % 8 ≡ 0)) (omega arith, refl);
       }
@@ -327,7 +326,7 @@ module _ (opening : Opening) (words : List ℕ) (writer : Plain) (log : IsOpenab
   WasMade segment = (1 ≤ segment) × (segment ≤ opening.made)
 
   abbrev Holds : ℕ → Option Segment → Type 0
-  Holds n o = SegmentAssures setup.segment_size WasMade (IsLogAt setup found) n o
+  Holds n o = SegmentAssures setup.segment_size WasMade (IsLogAt opening none) n o
 
   -- the segments that have bytes of it were made
   made_below : (n upto : ℕ) → upto ≡ end → IsMadeUpto setup.segment_size upto n → WasMade n
@@ -344,16 +343,16 @@ module _ (opening : Opening) (words : List ℕ) (writer : Plain) (log : IsOpenab
   -- so the log is durable up to there
   firm_now : (upto : ℕ) → upto ≡ end → (t : Tape) → IsSuited opening (state_now t) → (n : ℕ)
       → SegmentAssures setup.segment_size (IsMadeUpto setup.segment_size upto)
-      (IsLogBelow setup found upto) n (state_now t n)
+      (IsLogBelow opening none upto) n (state_now t n)
   firm_now upto is t suited n = SegmentAssures-weaker setup.segment_size WasMade
-      (IsMadeUpto setup.segment_size upto) (IsLogAt setup found) (IsLogBelow setup found upto) n
+      (IsMadeUpto setup.segment_size upto) (IsLogAt opening none) (IsLogBelow opening none upto) n
       (λ made. made_below n upto is made) (λ page word within low bytes own below. own)
       (state_now t n) (suited n)
 
   lawful_now : (t : Tape) → IsSuited opening (state_now t) → (n : ℕ)
-      → SegmentAssures setup.segment_size IsNowhere (IsLawfulAt setup found) n (state_now t n)
+      → SegmentAssures setup.segment_size IsNowhere (IsLawfulAt opening none) n (state_now t n)
   lawful_now t suited n = SegmentAssures-weaker setup.segment_size WasMade IsNowhere
-      (IsLogAt setup found) (IsLawfulAt setup found) n (λ nowhere. absurd nowhere)
+      (IsLogAt opening none) (IsLawfulAt opening none) n (λ nowhere. absurd nowhere)
       (λ page word within low bytes own. inr own) (state_now t n) (suited n)
 
   there_now : (n : ℕ) (o : Option Segment) → Holds n o → WasMade n
@@ -364,7 +363,7 @@ module _ (opening : Opening) (words : List ℕ) (writer : Plain) (log : IsOpenab
   -- as it is read, the disk holds the log in each segment that is there
   read_there : (k : ℕ) (s : Segment) → Holds (8 * k / setup.segment_size) (Some s)
       → segment_word (image_as_read (λ (n : ℕ). Some s) 0) (8 * k % setup.segment_size)
-      ≡ log_word_bytes setup.segment_size setup.sysid found (8 * k)
+      ≡ log_bytes_of opening none (8 * k)
   read_there k s holds =
       let size = setup.segment_size in
       let whole = segment_size_in_pages size valid.size in
@@ -385,13 +384,13 @@ module _ (opening : Opening) (words : List ℕ) (writer : Plain) (log : IsOpenab
       ap (λ (b : Bool). if b then bytes else zero_word) (lt-ltb page s.pages there)
       ∙ holds.1 page word on_page small bytes
       (read_word s.writes page word (s.durable page) bytes refl)
-      ∙ ap (log_word_bytes size setup.sysid found) at
+      ∙ ap (log_bytes_of opening none) at
 
   -- as it is read, the disk holds the log below its end
   reads_now : (k : ℕ) → 8 * k < end → (o : Option Segment)
       → Holds (8 * k / setup.segment_size) o
       → segment_word (image_as_read (λ (n : ℕ). o) 0) (8 * k % setup.segment_size)
-      ≡ log_word_bytes setup.segment_size setup.sysid found (8 * k)
+      ≡ log_bytes_of opening none (8 * k)
   reads_now k below None holds =
       let size = setup.segment_size in
       let high = log.reaches in
@@ -410,7 +409,7 @@ module _ (opening : Opening) (words : List ℕ) (writer : Plain) (log : IsOpenab
 
   -- and nothing but zeros in each other one
   reads_at_most : (k : ℕ) (o : Option Segment) → Holds (8 * k / setup.segment_size) o
-      → IsZeroOr (to_le_bytes w64 (log_word_of setup found (8 * k)))
+      → IsZeroOr (to_le_bytes w64 (log_word_of opening none (8 * k)))
       (segment_word (image_as_read (λ (n : ℕ). o) 0) (8 * k % setup.segment_size))
   reads_at_most k None holds = inl refl
   reads_at_most k (Some s) holds = inr (read_there k s holds)
@@ -420,7 +419,7 @@ module _ (opening : Opening) (words : List ℕ) (writer : Plain) (log : IsOpenab
     counted : IfSome (tape_from first writer.calls) (λ t. writer.moment ≡ length t.calls)
     counted = counted_tape first writer.moment writer.calls begins.counted
 
-    positions_begin : PositionsHold first opening found (written_word words) (flushed_word words)
+    positions_begin : PositionsHold first opening none (written_word words) (flushed_word words)
         (down_word words) (some writer) writer (Landed ∷ []) (view.writing ∷ [])
     positions_begin =
         let written_is = zeroed.written in
@@ -432,7 +431,7 @@ module _ (opening : Opening) (words : List ℕ) (writer : Plain) (log : IsOpenab
           flushed_low = omega arith;
           written_low = omega arith;
           at_home = λ home up. omega arith;
-          reserved = omega arith;
+          reserved = omega (arith, none_ends_there, at_start);
           copied = λ id c at left. only_one Landed (λ j u. u ≡ Copying c
               → writer.written ≤ address_of_word setup.segment_size c.entry c.copied) (λ is. absurd
               (cc)) id (Copying c) at refl;
@@ -448,7 +447,7 @@ module _ (opening : Opening) (words : List ℕ) (writer : Plain) (log : IsOpenab
           });
         }
 
-    reading_begins : ReadingHolds first opening (λ k. log_word_of setup found (8 * k)) writer
+    reading_begins : ReadingHolds first opening (λ k. log_word_of opening none (8 * k)) writer
         (view.writing ∷ [])
     reading_begins = record {
       adds = IfSome_then (tape_from first writer.calls) counted (λ t count suited.
@@ -461,11 +460,11 @@ module _ (opening : Opening) (words : List ℕ) (writer : Plain) (log : IsOpenab
           (held (8 * k / setup.segment_size)));
       staged = λ id x l at. only_one view.writing
           (λ j u. u.hold ≡ Out l → (k word : ℕ) → IsLoadedLast k word l.staged
-          → IsLoadedRightly first opening (λ n. log_word_of setup found (8 * n)) writer k word)
+          → IsLoadedRightly first opening (λ n. log_word_of opening none (8 * n)) writer k word)
           (λ is. absurd (cc)) id x at;
     }
 
-    told_begins : IsToldRightly first opening found (flushed_word words) (moment_word words)
+    told_begins : IsToldRightly first opening none (flushed_word words) (moment_word words)
         (down_word words) writer (receipts_of view)
     told_begins = record {
       own_promised = All-nil _;
@@ -478,7 +477,7 @@ module _ (opening : Opening) (words : List ℕ) (writer : Plain) (log : IsOpenab
       up_in_hand = λ l is. absurd (cc);
     }
 
-    durable_begins : DurabilityHolds first opening found (flushed_word words) (moment_word words)
+    durable_begins : DurabilityHolds first opening none (flushed_word words) (moment_word words)
         (down_word words) (some writer) writer (receipts_of view ∷ [])
     durable_begins = record {
       counted = begins.counted;
@@ -490,18 +489,18 @@ module _ (opening : Opening) (words : List ℕ) (writer : Plain) (log : IsOpenab
       made = found_in_turn opening writer begins.made (IfSome_then writer.calls begins.counted
           (λ calls count. sym begins.moment_is ∙ count));
       lawful = IfSome_then (tape_from first writer.calls) counted (λ t count suited.
-          TapeAssures-now setup.segment_size IsNowhere (IsLawfulAt setup found) opening.moment t
+          TapeAssures-now setup.segment_size IsNowhere (IsLawfulAt opening none) opening.moment t
           (sym begins.moment_is ∙ count)
           (lawful_now t (suited_now t count suited)));
       found_low = omega (arith, zeroed.flushed);
       found = IfSome_then (tape_from first writer.calls) counted (λ t count suited.
           TapeAssures-now setup.segment_size (IsMadeUpto setup.segment_size end)
-          (IsLogBelow setup found end) opening.moment t (sym begins.moment_is ∙ count)
+          (IsLogBelow opening none end) opening.moment t (sym begins.moment_is ∙ count)
           (firm_now end refl t (suited_now t count suited)));
       firm = IfSome_then (tape_from first writer.calls) counted (λ t count suited.
           TapeAssures-now setup.segment_size
           (IsMadeUpto setup.segment_size (flushed_word words))
-          (IsLogBelow setup found (flushed_word words)) (moment_word words) t
+          (IsLogBelow opening none (flushed_word words)) (moment_word words) t
           (zeroed.moment ∙ sym begins.moment_is ∙ count)
           (firm_now (flushed_word words) zeroed.flushed t (suited_now t count suited)));
       on_disk = IfSome_then (tape_from first writer.calls) counted (λ t count suited. record {
@@ -516,7 +515,7 @@ module _ (opening : Opening) (words : List ℕ) (writer : Plain) (log : IsOpenab
       views = only_one (receipts_of view) _ told_begins;
     }
 
--- where nothing was found and no segment is there, a disk that holds nothing is one on which a log
+-- where nothing was none and no segment is there, a disk that holds nothing is one on which a log
 -- may begin
 pub suited_begins : (first : DiskState) (opening : Opening) (writer : Plain) → opening.made ≡ 0
     → IsFirstWriter opening writer → HoldsNothing (tape_from first writer.calls)
@@ -527,10 +526,10 @@ suited_begins first opening writer none_made begins holds = both (tape_from firs
     nothing_is : (o : Option Segment) (n : ℕ) → o ≡ None
         → SegmentAssures (opening.setup).segment_size
         (λ segment. (1 ≤ segment) × (segment ≤ opening.made))
-        (IsLogAt opening.setup opening.found) n o
+        (IsLogAt opening []) n o
     nothing_is o n is = subst (SegmentAssures (opening.setup).segment_size
         (λ segment. (1 ≤ segment) × (segment ≤ opening.made))
-        (IsLogAt opening.setup opening.found) n) (sym is) (λ made. omega (arith, made.0, made.1))
+        (IsLogAt opening []) n) (sym is) (λ made. omega (arith, made.0, made.1))
 
     both : (tape : Option Tape) → IfSome tape (λ t. writer.moment ≡ length t.calls)
         → HoldsNothing tape → IfSome tape (BeganSuited opening)
@@ -546,8 +545,8 @@ pub logs_begin : (first : DiskState) (opening : Opening) (words : List ℕ) (wri
     → AreFirstWords opening words → IsFirstWriter opening writer
     → IsSound first opening words (some writer) (first_view opening ∷ [])
 logs_begin first opening words writer log zeroed begins = record {
-  order = opening.found;
-  memory = λ k. log_word_of opening.setup opening.found (8 * k);
+  order = [];
+  memory = λ k. log_word_of opening [] (8 * k);
   reach = reach opening words writer log zeroed begins;
   stage = Away;
   writer = writer;

@@ -37,7 +37,7 @@ module _ {first : DiskState} (words : List ℕ) (home : Option Plain) (views : L
 
     -- the order over the words and views behind
     abbrev pub HasOrder : List Entry → Type 0
-    HasOrder es = OrderHolds (v.opening).setup (v.opening).found es (position_word (later s))
+    HasOrder es = OrderHolds v.opening es (position_word (later s))
         (prev_word (later s)) (map reserving_of (views_later s))
 
     position_stored : (es : List Entry) → s.i ≡ 0
@@ -49,7 +49,7 @@ module _ {first : DiskState} (words : List ℕ) (home : Option Plain) (views : L
         let prev : prev_word (later s) ≡ prev_word words =
         word_else words s.i s.n 1 (λ e. omega arith) in
         subst (λ (x : ℕ × ℕ × List Reserving).
-        OrderHolds (v.opening).setup (v.opening).found es x.0 x.1 x.2)
+        OrderHolds v.opening es x.0 x.1 x.2)
         (λ j. (sym stored j, sym prev j, sym (part_set reserving_of views id s.w) j)) holds
 
     prev_stored : s.i ≡ 1
@@ -62,7 +62,7 @@ module _ {first : DiskState} (words : List ℕ) (home : Option Plain) (views : L
         let position : position_word (later s) ≡ position_word words =
         word_else words s.i s.n 0 (λ e. omega arith) in
         subst (λ (x : ℕ × ℕ × List Reserving).
-        OrderHolds (v.opening).setup (v.opening).found k.order x.0 x.1 x.2)
+        OrderHolds v.opening k.order x.0 x.1 x.2)
         (λ j. (sym position j, sym stored j, sym (part_set reserving_of views id s.w) j)) holds
 
     -- where neither is stored, but the view may know more
@@ -76,7 +76,7 @@ module _ {first : DiskState} (words : List ℕ) (home : Option Plain) (views : L
         let prev : prev_word (later s) ≡ prev_word words =
         word_else words s.i s.n 1 (λ e. omega arith) in
         subst (λ (x : ℕ × ℕ × List Reserving).
-        OrderHolds (v.opening).setup (v.opening).found k.order x.0 x.1 x.2)
+        OrderHolds v.opening k.order x.0 x.1 x.2)
         (λ j. (sym position j, sym prev j, sym (part_set reserving_of views id s.w) j)) holds
 
   -- a step that leaves the part

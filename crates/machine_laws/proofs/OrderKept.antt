@@ -7,9 +7,8 @@ use Rattle.atomic_table.proofs.Lists.{set_again}
 use Rattle.wal_types.specs.declared.record.Record.{Record}
 use Rattle.byte_position.proofs.EndAddresses.{position_of-end_address_of}
 use Rattle.byte_position.proofs.Rising.{position_of-mono}
-use Rattle.wal_page.specs.Order.{Entry, end_position}
-use Rattle.wal_core.specs.declared.setup.Setup.{Setup}
-use Rattle.wal_core.specs.Words.{end_form}
+use Rattle.wal_page.specs.Order.{Entry}
+use Rattle.wal_core.specs.Words.{end_form, order_end}
 use Rattle.wal_core.specs.Views.{HasAt, Place, Free, Locked, LogFull, AtSegmentStart, Plain, Reserving, View}
 use Rattle.wal_core.specs.Ordered.{OrderHolds}
 use Rattle.wal_core.specs.Moves.{with_place, entry_reserved, after_split, split_off, after_join, spent, without_work, orphan_of}
@@ -19,15 +18,9 @@ use Rattle.machine_laws.proofs.OrderSteps.{unlocked-is, sees, locks, loads_prev,
 use Rattle.machine_laws.proofs.OrderPassSteps.{splits, joins}
 
 module _ (order : List Entry) (position prev : ℕ) (parts : List Reserving) (id : ℕ) (v : View) where
-  abbrev setup : Setup
-  setup = (v.opening).setup
-
-  abbrev found : List Entry
-  found = (v.opening).found
-
   -- where the view stays as it is
   still : TakesPart order position prev parts id v → HoldsWith order position prev parts id v v
-  still t = subst (λ (rs : List Reserving). OrderHolds setup found order position prev rs)
+  still t = subst (λ (rs : List Reserving). OrderHolds v.opening order position prev rs)
       (sym (set_again parts id v.reserving t.here)) t.holds
 
   -- the view, and what it does, where its place is told
@@ -41,7 +34,7 @@ module _ (order : List Entry) (position prev : ℕ) (parts : List Reserving) (id
       (view_behind v (lock_position expected) position home)
   lock_position_keeps home expected t may = dite (ℕ_discrete position expected)
       (λ hit. subst Behind (sym (eq-eqb position expected hit))
-      (locks setup found order position prev parts t.holds id v.reserving t.here t.live t.size
+      (locks v.opening order position prev parts t.holds id v.reserving t.here t.live t.size
       expected hit may.1))
       (λ miss. subst Behind (sym (ne_eqb position expected miss)) (still t))
     where
@@ -55,7 +48,7 @@ module _ (order : List Entry) (position prev : ℕ) (parts : List Reserving) (id
   load_prev_keeps home t may = subst
       (AtPlaceOf (λ _. position) (λ _. prev) (λ (w : View). view_behind w load_prev prev home))
       (sym may.1)
-      (loads_prev setup found order position prev parts t.holds id v.reserving t.here t.live
+      (loads_prev v.opening order position prev parts t.holds id v.reserving t.here t.live
       may.0 may.1)
 
   pub store_prev_keeps : (home : Option Plain) → TakesPart order position prev parts id v
@@ -66,7 +59,7 @@ module _ (order : List Entry) (position prev : ℕ) (parts : List Reserving) (id
       (AtPlaceOf (λ _. position) (λ (w : View). value_behind w store_prev prev)
       (λ (w : View). view_behind w store_prev prev home))
       (sym may.2)
-      (stores_prev setup found order position prev parts t.holds id v.reserving t.here t.live
+      (stores_prev v.opening order position prev parts t.holds id v.reserving t.here t.live
       may.0 may.1 may.2)
 
   pub give_position_back_keeps : (home : Option Plain) (value : Record)
@@ -77,7 +70,7 @@ module _ (order : List Entry) (position prev : ℕ) (parts : List Reserving) (id
       (AtPlaceOf (λ (w : View). value_behind w (give_position_back value) position) (λ _. prev)
       (λ (w : View). view_behind w (give_position_back value) position home))
       (sym may.1)
-      (gives_back setup found order position prev parts t.holds id v.reserving t.here t.live
+      (gives_back v.opening order position prev parts t.holds id v.reserving t.here t.live
       LogFull may.0 may.1 (λ is. absurd (cc)))
 
   pub stay_keeps : (home : Option Plain) → TakesPart order position prev parts id v
@@ -88,7 +81,7 @@ module _ (order : List Entry) (position prev : ℕ) (parts : List Reserving) (id
       (AtPlaceOf (λ (w : View). value_behind w stay position) (λ _. prev)
       (λ (w : View). view_behind w stay position home))
       (sym may.1)
-      (gives_back setup found order position prev parts t.holds id v.reserving t.here t.live
+      (gives_back v.opening order position prev parts t.holds id v.reserving t.here t.live
       AtSegmentStart may.0 may.1 (λ is. may.2))
 
   -- ---- what is seen
@@ -97,23 +90,22 @@ module _ (order : List Entry) (position prev : ℕ) (parts : List Reserving) (id
       → TakesPart order position prev parts id v
       → HoldsWith order position prev parts id v
       (view_behind v load_position position home)
-  load_position_keeps home t = sees setup found order position prev parts t.holds id
+  load_position_keeps home t = sees v.opening order position prev parts t.holds id
       v.reserving t.here t.live _
-      (omega (arith, unlocked-is setup found order position prev parts t.holds t.size))
+      (omega (arith, unlocked-is v.opening order position prev parts t.holds t.size))
 
   pub load_flushed_keeps : (home : Option Plain) (met : ℕ)
       → TakesPart order position prev parts id v
-      → met ≤ end_form (v.opening).setup
-      (end_position ((v.opening).setup).segment_size order)
+      → met ≤ end_form (v.opening).setup (order_end v.opening order)
       → HoldsWith order position prev parts id v (view_behind v load_flushed met home)
   load_flushed_keeps home met t low =
       let size : ℕ = ((v.opening).setup).segment_size in
-      sees setup found order position prev parts t.holds id v.reserving t.here t.live _
+      sees v.opening order position prev parts t.holds id v.reserving t.here t.live _
       (omega (
         arith,
         position_of-mono size met
-            (end_form (v.opening).setup (end_position size order)) low,
-        position_of-end_address_of size t.size (end_position size order),
+            (end_form (v.opening).setup (order_end v.opening order)) low,
+        position_of-end_address_of size t.size (order_end v.opening order),
       ))
 
   -- ---- an entry is reserved
@@ -131,29 +123,29 @@ module _ (order : List Entry) (position prev : ℕ) (parts : List Reserving) (id
       (value_behind v (store_position locks value) position) prev parts id v
       (view_behind v (store_position locks value) position home)
   store_position_keeps home locks value t may = subst (AddedAt locks value) (sym may.2)
-      (reserves setup found order position prev parts t.holds id v.reserving t.here t.live
+      (reserves v.opening order position prev parts t.holds id v.reserving t.here t.live
       value may.0 may.1 may.2 (may.3).logged may.4)
 
   -- ---- passes
 
   pub split_keeps : TakesPart order position prev parts id v
       → (v.reserving).spare < (v.reserving).spare_end
-      → OrderHolds setup found order position prev
+      → OrderHolds v.opening order position prev
       (set parts id (after_split v).reserving ++ (split_off v).reserving ∷ [])
-  split_keeps t some_left = splits setup found order position prev parts t.holds id
+  split_keeps t some_left = splits v.opening order position prev parts t.holds id
       v.reserving t.here t.live some_left
 
   pub join_keeps : (other : ℕ) (w : View) → TakesPart order position prev parts id v
       → HasAt parts other w.reserving → (w.reserving).live ≡ true → id ≢ other
       → (w.reserving).place ≡ Free
-      → OrderHolds setup found order position prev
+      → OrderHolds v.opening order position prev
       (set (set parts other (spent w).reserving) id (after_join v w).reserving)
-  join_keeps other w t there alive apart rests = joins setup found order position prev parts
+  join_keeps other w t there alive apart rests = joins v.opening order position prev parts
       t.holds id v.reserving t.here t.live other w.reserving there alive apart rests
       (w.writing).promises (w.writing).down_set (spent w).reserving refl
 
   pub give_up_keeps : TakesPart order position prev parts id v
-      → OrderHolds setup found order position prev
+      → OrderHolds v.opening order position prev
       (set parts id (without_work v).reserving ++ (orphan_of v).reserving ∷ [])
-  give_up_keeps t = gives_up setup found order position prev parts t.holds id v.reserving
+  give_up_keeps t = gives_up v.opening order position prev parts t.holds id v.reserving
       t.here t.live (orphan_of v).reserving refl

@@ -5,7 +5,7 @@ use Rattle.std.proofs.lemmas.List.Kept.{AllPairs-cons}
 use mathlib.Core.Logic.{dite}
 use native.Mathlib.Decide.{ℕ_discrete}
 use Rattle.wal_page.specs.Order.{Entry}
-use Rattle.wal_core.specs.declared.setup.Setup.{Setup}
+use Rattle.wal_core.specs.Words.{Opening}
 use Rattle.wal_core.specs.Views.{HasAt, Free, Joined, FlushPromise, Reserving}
 use Rattle.wal_core.specs.Ordered.{entries_under, Role, active, spare, ended, unborn, IsUnused, FrontEndsAt, IsEnded, AreApart, HasLive, TookIn, OrderHolds}
 use Rattle.wal_core.specs.Moves.{has_spares}
@@ -73,11 +73,11 @@ handed_ended from to j (ended i) h = dite (ℕ_discrete i from)
 handed_ended from to j unborn h = absurd (cc)
 
 -- while what is ended with one view stays ended, or is so with another one
-IsEnded-still : (size : ℕ) (found order : List Entry) (role role' : ℕ → Role) (by by' : ℕ)
+IsEnded-still : (opening : Opening) (order : List Entry) (role role' : ℕ → Role) (by by' : ℕ)
     → ((n : ℕ) → role n ≡ ended by → role' n ≡ ended by') → (js : List Joined)
-    → All (IsEnded size found order role by) js → All (IsEnded size found order role' by') js
-IsEnded-still size found order role role' by by' keep js h =
-    All-weaker (IsEnded size found order role by) (IsEnded size found order role' by')
+    → All (IsEnded opening order role by) js → All (IsEnded opening order role' by') js
+IsEnded-still opening order role role' by by' keep js h =
+    All-weaker (IsEnded opening order role by) (IsEnded opening order role' by')
     (λ j t. record {
       role_is = keep j.number t.role_is;
       entries_are = t.entries_are;
@@ -95,29 +95,30 @@ AllPairs-append R (x ∷ xs) ys p q cross = AllPairs-cons R x (xs ++ ys)
     (λ i j d low high. p (suc i) (suc j) d (omega (arith, low)) (omega (arith, high)))
     q (All-tail (λ y. All (R y) ys) x xs cross))
 
-module _ (setup : Setup) (found order : List Entry) (position prev : ℕ) (parts : List Reserving)
-    (k : OrderHolds setup found order position prev parts)
+module _ (opening : Opening) (order : List Entry) (position prev : ℕ) (parts : List Reserving)
+    (k : OrderHolds opening order position prev parts)
     (id : ℕ) (r : Reserving) (here : HasAt parts id r) (live : r.live ≡ true) where
   abbrev PlacedWith : (ℕ → Role) → ℕ → ℕ → Reserving → Type 0
   PlacedWith role keeper j u = u.live ≡ true
-      → IsPlaced setup.segment_size found order prev role k.locked k.holder keeper j u
+      → IsPlaced opening order prev role k.locked k.holder keeper j u
 
   -- where words and order stay, and roles change
   with_roles : (role : ℕ → Role) (keeper : ℕ) (parts' : List Reserving)
       → ((n : ℕ) → IsUnused (role n) → entries_under n order ≡ [])
-      → ((n : ℕ) → setup.passes ≤ n → role n ≡ unborn)
+      → ((n : ℕ) → opening.setup.passes ≤ n → role n ≡ unborn)
       → ((j : ℕ) (u : Reserving) → HasAt parts' j u → PlacedWith role keeper j u)
       → ((n j : ℕ) → role n ≡ active j → HasLive parts' j (λ u. u.number ≡ n))
       → ((n j : ℕ) → role n ≡ ended j → HasLive parts' j (TookIn n))
       → (k.locked ≡ 1 → HasLive parts' k.holder (λ u. u.place ≢ Free))
-      → OrderHolds setup found order position prev parts'
+      → OrderHolds opening order position prev parts'
   with_roles role keeper parts' unused beyond each goes_by took_in held = record {
     role = role;
     locked = k.locked;
     holder = k.holder;
     keeper = keeper;
+    placed = k.placed;
     chained = k.chained;
-    found_first = k.found_first;
+    owned = k.owned;
     within = k.within;
     position_is = k.position_is;
     one_bit = k.one_bit;
@@ -132,8 +133,8 @@ module _ (setup : Setup) (found order : List Entry) (position prev : ℕ) (parts
     held = held;
   }
 
-  mine : IsPlaced setup.segment_size found order prev k.role k.locked k.holder k.keeper id r
-  mine = placed setup found order position prev parts k id r here live
+  mine : IsPlaced opening order prev k.role k.locked k.holder k.keeper id r
+  mine = placed opening order position prev parts k id r here live
 
   -- ---- the least spare number becomes that of a new view
 
@@ -172,7 +173,7 @@ module _ (setup : Setup) (found order : List Entry) (position prev : ℕ) (parts
     other_splits : (j : ℕ) (u : Reserving) → j ≢ id → HasAt parts j u
         → PlacedWith split_role k.keeper j u
     other_splits j u apart there alive =
-        let t = placed setup found order position prev parts k j u there alive in
+        let t = placed opening order position prev parts k j u there alive in
         let p = t.part in
         record {
           part = record {
@@ -183,7 +184,7 @@ module _ (setup : Setup) (found order : List Entry) (position prev : ℕ) (parts
                 ∙ p.spares m low high;
             seen = p.seen;
             stops = p.stops;
-            joined = IsEnded-still setup.segment_size found order k.role split_role j j
+            joined = IsEnded-still opening order k.role split_role j j
                 (λ m. keep_ended m j) u.joined
                 p.joined;
             apart = p.apart;
@@ -200,7 +201,7 @@ module _ (setup : Setup) (found order : List Entry) (position prev : ℕ) (parts
         spares = λ m low high. keep m (λ e. omega arith) ∙ p.spares m (omega arith) high;
         seen = p.seen;
         stops = p.stops;
-        joined = IsEnded-still setup.segment_size found order k.role split_role id id
+        joined = IsEnded-still opening order k.role split_role id id
             (λ m. keep_ended m id) r.joined
             p.joined;
         apart = p.apart;
@@ -216,8 +217,8 @@ module _ (setup : Setup) (found order : List Entry) (position prev : ℕ) (parts
         entries_are = sym (k.unused r.spare (subst (λ (q : Role). IsUnused q) (sym was) tt));
         spares = λ m low high. absurd (omega arith);
         seen = p.seen;
-        stops = All-nil (FrontEndsAt setup.segment_size r.spare found order []);
-        joined = All-nil (IsEnded setup.segment_size found order split_role new);
+        stops = All-nil (FrontEndsAt opening r.spare order []);
+        joined = All-nil (IsEnded opening order split_role new);
         apart = λ i j d low high. absurd (omega (arith, high));
       };
       place = tt;
@@ -259,7 +260,7 @@ module _ (setup : Setup) (found order : List Entry) (position prev : ℕ) (parts
         (λ e. took_in_still parts (set parts id left ++ right ∷ []) on_as n j
         (k.took_in n j (sym (keep n e) ∙ is)))
 
-    pub splits : OrderHolds setup found order position prev (set parts id left ++ right ∷ [])
+    pub splits : OrderHolds opening order position prev (set parts id left ++ right ∷ [])
     splits = with_roles split_role k.keeper (set parts id left ++ right ∷ [])
         (λ m unused. dite (ℕ_discrete m r.spare)
         (λ e. k.unused m (subst (λ (q : Role). IsUnused q) (sym (ap k.role e ∙ was)) tt))
@@ -293,8 +294,8 @@ module _ (setup : Setup) (found order : List Entry) (position prev : ℕ) (parts
       joined = r.joined ++ log ∷ s.joined;
     }
 
-    theirs : IsPlaced setup.segment_size found order prev k.role k.locked k.holder k.keeper other s
-    theirs = placed setup found order position prev parts k other s there_s alive_s
+    theirs : IsPlaced opening order prev k.role k.locked k.holder k.keeper other s
+    theirs = placed opening order position prev parts k other s there_s alive_s
 
     abbrev join_role : ℕ → Role
     join_role = given (λ (m : ℕ). handed other id (k.role m)) s.number (ended id)
@@ -341,7 +342,7 @@ module _ (setup : Setup) (found order : List Entry) (position prev : ℕ) (parts
     other_joins : (j : ℕ) (u : Reserving) → j ≢ other → HasAt parts j u
         → PlacedWith join_role join_keeper j u
     other_joins j u apart there alive =
-        let t = placed setup found order position prev parts k j u there alive in
+        let t = placed opening order position prev parts k j u there alive in
         let p = t.part in
         record {
           part = record {
@@ -350,7 +351,7 @@ module _ (setup : Setup) (found order : List Entry) (position prev : ℕ) (parts
             spares = λ m low high. hold_spare m j (p.spares m low high) apart;
             seen = p.seen;
             stops = p.stops;
-            joined = IsEnded-still setup.segment_size found order k.role join_role j j
+            joined = IsEnded-still opening order k.role join_role j j
                 (λ m is. hold_ended m j is apart) u.joined p.joined;
             apart = p.apart;
           };
@@ -376,21 +377,21 @@ module _ (setup : Setup) (found order : List Entry) (position prev : ℕ) (parts
     Differ i j = i.number ≢ j.number
 
     own_apart : All (Differ log) s.joined
-    own_apart = All-weaker (IsEnded setup.segment_size found order k.role other) (Differ log)
+    own_apart = All-weaker (IsEnded opening order k.role other) (Differ log)
         (λ j h e. cc ((theirs.part).own, h.role_is)) s.joined (theirs.part).joined
 
-    from_theirs : (i : Joined) → IsEnded setup.segment_size found order k.role id i
+    from_theirs : (i : Joined) → IsEnded opening order k.role id i
         → All (Differ i) (log ∷ s.joined)
     from_theirs i own = All-cons (Differ i) log s.joined
         (λ e. cc (ap k.role e, own.role_is, (theirs.part).own))
-        (All-weaker (IsEnded setup.segment_size found order k.role other) (Differ i)
+        (All-weaker (IsEnded opening order k.role other) (Differ i)
         (λ j h e. apart_s (cc (ap k.role e, own.role_is, h.role_is))) s.joined
         (theirs.part).joined)
 
     all_apart : AreApart (r.joined ++ log ∷ s.joined)
     all_apart = AllPairs-append Differ r.joined (log ∷ s.joined) (mine.part).apart
         (AllPairs-cons Differ log s.joined own_apart (theirs.part).apart)
-        (All-weaker (IsEnded setup.segment_size found order k.role id)
+        (All-weaker (IsEnded opening order k.role id)
         (λ i. All (Differ i) (log ∷ s.joined)) from_theirs r.joined (mine.part).joined)
 
     both_joins : PlacedWith join_role join_keeper id both
@@ -404,18 +405,18 @@ module _ (setup : Setup) (found order : List Entry) (position prev : ℕ) (parts
             spares = both_spares (has_spares r) refl;
             seen = omega (arith, p.seen, q.seen);
             stops = p.stops;
-            joined = All-append (IsEnded setup.segment_size found order join_role id) r.joined
+            joined = All-append (IsEnded opening order join_role id) r.joined
                 (log ∷ s.joined)
-                (IsEnded-still setup.segment_size found order k.role join_role id id
+                (IsEnded-still opening order k.role join_role id id
                 (λ m is. hold_ended m id is apart_s) r.joined p.joined)
-                (All-cons (IsEnded setup.segment_size found order join_role id) log s.joined
+                (All-cons (IsEnded opening order join_role id) log s.joined
                 (record {
                   role_is = given_same (λ (m : ℕ). handed other id (k.role m)) s.number s.number
                       (ended id) refl;
                   entries_are = q.entries_are;
                   stops = q.stops;
                 })
-                (IsEnded-still setup.segment_size found order k.role join_role other id
+                (IsEnded-still opening order k.role join_role other id
                 hand_ended s.joined q.joined));
             apart = all_apart;
           };
@@ -514,7 +515,7 @@ module _ (setup : Setup) (found order : List Entry) (position prev : ℕ) (parts
         (is_other k.holder h.0 h.1 o) ∙ rests)) h.1 in
         (x.0, x.1, ((x.2).goes_on).live h.2, (x.2).placed h.3)
 
-    pub joins : OrderHolds setup found order position prev (set (set parts other gone) id both)
+    pub joins : OrderHolds opening order position prev (set (set parts other gone) id both)
     joins = with_roles join_role join_keeper (set (set parts other gone) id both)
         (λ m unused. dite (ℕ_discrete m s.number)
         (λ e. absurd (subst (λ (q : Role). IsUnused q)

@@ -3,8 +3,8 @@ use Rattle.std.proofs.Common.{◌≡◌, ◌≢◌, ◌⊎◌, inl, inr, ⊎_eli
 use Rattle.std.proofs.lemmas.Bool.{cases_lt}
 use Rattle.std.proofs.lemmas.List.Elements.{All-contains, All-weaker, Contains-append_cases, Contains-append_right, Contains-push_cases}
 use mathlib.Core.Option.{Option}
-use Rattle.wal_page.specs.Order.{Entry, end_position, prev_of}
-use Rattle.wal_core.specs.Words.{Opening, position_word, prev_word}
+use Rattle.wal_page.specs.Order.{Entry}
+use Rattle.wal_core.specs.Words.{Opening, position_word, prev_word, order_end, last_start}
 use Rattle.wal_core.specs.Views.{HasAt, Place, Free, Locked, Loaded, Stored, Joined, Plain, Reserving, View, reserving_of}
 use Rattle.wal_core.specs.Ordered.{is_pass, entries_under, Role, active, spare, ended, unborn, IsUnused, IsEnded, IsPartOf, HasLive, TookIn, FrontEndsAt, AtPlace, OrderHolds}
 use Rattle.wal_core.specs.Sound.{IsSound}
@@ -54,9 +54,10 @@ among n e is (x ∷ xs) has = ⊎_elim
 
 -- a view that has the position locked: its bit is set, the holder is this view, and it tells how
 -- the word of the last start stands
-module _ (size : ℕ) (order : List Entry) (prev locked holder id : ℕ) where
+module _ (opening : Opening) (order : List Entry) (prev locked holder id : ℕ) where
   abbrev IsAt : Place → Type 0
-  IsAt p = AtPlace size (end_position size order) (prev_of size 0 order) prev locked holder id p
+  IsAt p = AtPlace opening.setup.segment_size (order_end opening order) (last_start opening order)
+      prev locked holder id p
 
   bit_set : (p : Place) → p ≢ Free → IsAt p → locked ≡ 1
   bit_set Free some t = absurd (some refl)
@@ -70,7 +71,7 @@ module _ (size : ℕ) (order : List Entry) (prev locked holder id : ℕ) where
   is_holder (Loaded at met) some t = t.1
   is_holder (Stored at met) some t = t.1
 
-  tells_start : (p : Place) → p ≢ Free → IsAt p → TellsLastStart size order prev p
+  tells_start : (p : Place) → p ≢ Free → IsAt p → TellsLastStart opening order prev p
   tells_start Free some t = some refl
   tells_start (Locked at) some t = (t.2, t.3)
   tells_start (Loaded at met) some t = (t.2, t.3, t.4)
@@ -78,22 +79,19 @@ module _ (size : ℕ) (order : List Entry) (prev locked holder id : ℕ) where
 
 module _ {first : DiskState} (opening : Opening) (words : List ℕ) (home : Option Plain) (views : List View)
     (s : IsSound first opening words home views) where
-  abbrev size : ℕ
-  size = (opening.setup).segment_size
-
-  k : OrderHolds opening.setup opening.found s.order (position_word words) (prev_word words)
+  k : OrderHolds opening s.order (position_word words) (prev_word words)
       (map reserving_of views)
   k = s.reserved
 
   -- ---- one live view
 
   module _ (id : ℕ) (v : View) (here : HasAt views id v) (live : (v.reserving).live ≡ true) where
-    part : IsPartOf size opening.found s.order k.role id v.reserving
+    part : IsPartOf opening s.order k.role id v.reserving
     part = k.views id v.reserving (part_at reserving_of views id v here) live
 
     taken_role : (n : ℕ) → TookIn n v.reserving → k.role n ≡ ended id
     taken_role n t =
-        let e = All-contains (IsEnded size opening.found s.order k.role id)
+        let e = All-contains (IsEnded opening s.order k.role id)
         (v.reserving).joined t.0 part.joined t.1 in
         ap k.role (sym t.2) ∙ e.role_is
 
@@ -122,12 +120,12 @@ module _ {first : DiskState} (opening : Opening) (words : List ℕ) (home : Opti
       };
       seen = part.seen;
       entries = part.entries_are;
-      joined = All-weaker (IsEnded size opening.found s.order k.role id)
+      joined = All-weaker (IsEnded opening s.order k.role id)
           (λ j. j.entries ≡ entries_under j.number s.order) (λ j h. h.entries_are)
           (v.reserving).joined part.joined;
       stops = part.stops;
-      joined_stops = All-weaker (IsEnded size opening.found s.order k.role id)
-          (λ j. All (FrontEndsAt size j.number opening.found s.order j.entries) j.stops)
+      joined_stops = All-weaker (IsEnded opening s.order k.role id)
+          (λ j. All (FrontEndsAt opening j.number s.order j.entries) j.stops)
           (λ j h. h.stops) (v.reserving).joined part.joined;
     }
 
@@ -150,8 +148,7 @@ module _ {first : DiskState} (opening : Opening) (words : List ℕ) (home : Opti
     mine = among n e is s.order has
 
     abbrev IsOfSome : Type 0
-    IsOfSome = Contains opening.found e
-        ⊎ SomeLive opening s.order words views (λ r. Contains r.entries e)
+    IsOfSome = SomeLive opening s.order words views (λ r. Contains r.entries e)
         ⊎ SomeLive opening s.order words views
         (λ r. (j : Joined) × Contains r.joined j × Contains j.entries e)
 
@@ -170,7 +167,7 @@ module _ {first : DiskState} (opening : Opening) (words : List ℕ) (home : Opti
         let h = k.took_in n id was in
         let p = k.views id h.0 h.1 h.2 in
         let t = h.3 in
-        let x = All-contains (IsEnded size opening.found s.order k.role id) (h.0).joined t.0
+        let x = All-contains (IsEnded opening s.order k.role id) (h.0).joined t.0
         p.joined t.1 in
         let are : entries_under n s.order ≡ (t.0).entries =
         ap (λ (m : ℕ). entries_under m s.order) (sym t.2) ∙ sym x.entries_are in
@@ -183,50 +180,46 @@ module _ {first : DiskState} (opening : Opening) (words : List ℕ) (home : Opti
 
     of_role : (q : Role) → k.role n ≡ q → IsOfSome
     of_role (active id) was =
-        inr (inl (some_live id (λ r. Contains r.entries e) (of_active id was)))
+        inl (some_live id (λ r. Contains r.entries e) (of_active id was))
     of_role (spare id) was =
         of_nobody (subst (λ (q : Role). IsUnused q) (sym was) tt)
-    of_role (ended id) was = inr (inr (some_live id
-        (λ r. (j : Joined) × Contains r.joined j × Contains j.entries e) (of_ended id was)))
+    of_role (ended id) was = inr (some_live id
+        (λ r. (j : Joined) × Contains r.joined j × Contains j.entries e) (of_ended id was))
     of_role unborn was = of_nobody (subst (λ (q : Role). IsUnused q) (sym was) tt)
 
-  entry_is_of : (e : Entry) → Contains s.order e → Contains opening.found e
-      ⊎ SomeLive opening s.order words views (λ r. Contains r.entries e)
+  entry_is_of : (e : Entry) → Contains s.order e
+      → SomeLive opening s.order words views (λ r. Contains r.entries e)
       ⊎ SomeLive opening s.order words views
       (λ r. (j : Joined) × Contains r.joined j × Contains j.entries e)
   entry_is_of e has =
-      let f = k.found_first in
-      ⊎_elim (λ (t : Contains opening.found e). inl t)
-      (λ (t : Contains f.0 e).
-      let n = named e.pass (All-contains (λ (x : Entry). IsSome x.pass) f.0 e f.2 t) in
-      of_role e n.0 n.1 has (k.role n.0) refl)
-      (Contains-append_cases opening.found f.0 e
-      (subst (λ (es : List Entry). Contains es e) f.1 has))
+      let n = named e.pass (All-contains (λ (x : Entry). IsSome x.pass) s.order e k.owned has) in
+      of_role e n.0 n.1 has (k.role n.0) refl
 
   -- ---- where the order ends
 
-  even : end_position size s.order % 8 ≡ 0
-  even = end_even opening.setup opening.found s.order (position_word words) (prev_word words)
+  even : order_end opening s.order % 8 ≡ 0
+  even = end_even opening s.order (position_word words) (prev_word words)
       (map reserving_of views) k (s.setup_is).size
 
   at_place : (id : ℕ) (v : View) → HasAt views id v → (v.reserving).live ≡ true
-      → IsAt size s.order (prev_word words) k.locked k.holder id (v.reserving).place
+      → IsAt opening s.order (prev_word words) k.locked k.holder id (v.reserving).place
   at_place id v here live = k.places id v.reserving (part_at reserving_of views id v here) live
 
   tells : (id : ℕ) (v : View) → HasAt views id v → (v.reserving).live ≡ true
       → (v.reserving).place ≢ Free → (position_word words % 2 ≡ 1)
-      × TellsLastStart size s.order (prev_word words) (v.reserving).place
+      × TellsLastStart opening s.order (prev_word words) (v.reserving).place
   tells id v here live some =
       let t = at_place id v here live in
-      let set_is : k.locked ≡ 1 = bit_set size s.order (prev_word words) k.locked k.holder id
+      let set_is : k.locked ≡ 1 = bit_set opening s.order (prev_word words) k.locked k.holder id
       (v.reserving).place some t in (
         omega (arith, set_is, even, k.position_is),
-        tells_start size s.order (prev_word words) k.locked k.holder id (v.reserving).place some t,
+        tells_start opening s.order (prev_word words) k.locked k.holder id (v.reserving).place
+            some t,
       )
 
   holds : (id : ℕ) (v : View) → HasAt views id v → (v.reserving).live ≡ true
       → (v.reserving).place ≢ Free → k.holder ≡ id
-  holds id v here live some = is_holder size s.order (prev_word words) k.locked k.holder id
+  holds id v here live some = is_holder opening s.order (prev_word words) k.locked k.holder id
       (v.reserving).place some (at_place id v here live)
 
   pub shared : OrderIsShared opening s.order words views
@@ -235,8 +228,8 @@ module _ {first : DiskState} (opening : Opening) (words : List ℕ) (home : Opti
     one_owner = λ id other v w n here live there alive h g. names_one id other (k.role n)
         (names id v here live n h) (names other w there alive n g);
     chained = k.chained;
-    found_first = k.found_first;
-    end = sym (unlocked-is opening.setup opening.found s.order (position_word words)
+    owned = k.owned;
+    end = sym (unlocked-is opening s.order (position_word words)
         (prev_word words) (map reserving_of views) k (s.setup_is).size);
     within = k.within;
     last = λ free. k.at_rest (omega (arith, free, even, k.position_is, k.one_bit));

@@ -6,17 +6,16 @@ use Rattle.byte_position.specs.Geometry.{IsSegmentSize}
 use Rattle.byte_position.specs.Position.{address_of, end_address_of}
 use Rattle.wal_types.specs.declared.record.Record.{Record}
 use Rattle.record_spelling.specs.Spelling.{IsLogRecord}
-use Rattle.wal_page.specs.Order.{Entry, end_position, position_behind, prev_of, room_at}
-use Rattle.wal_page.proofs.OrderLaws.{IsChained_push, prev_of_push}
-use Rattle.wal_page.proofs.OwnerLaws.{end_position-whole}
-use Rattle.wal_core.specs.declared.setup.Setup.{Setup}
-use Rattle.wal_core.specs.Words.{log_limit}
+use Rattle.wal_page.specs.Order.{Entry, position_behind, room_at}
+use Rattle.wal_page.proofs.OrderLaws.{FollowsFrom_push, prev_of_push}
+use Rattle.wal_page.proofs.PlaceLaws.{end-whole_from}
+use Rattle.wal_core.specs.Words.{Opening, last_start, log_limit, order_end}
 use Rattle.wal_core.specs.Views.{HasAt, Place, Free, Locked, Loaded, Stored, AtSegmentStart, Stop, StopCause, Joined, Reserving}
 use Rattle.wal_core.specs.Ordered.{is_pass, Role, active, ended, IsUnused, FrontEndsAt, IsEnded, IsPartOf, HasLive, TookIn, AtPlace, OrderHolds}
 use Rattle.wal_core.specs.Moves.{entry_reserved}
 use Rattle.wal_core.proofs.Lists.{one_set, one_added, at_place}
 use Rattle.machine_laws.proofs.OrderGoing.{GoesOn, StaysPlaced, goes_as, placed_as, Each, each_set, each_added, each_goes_on, goes_by_still, took_in_still, held_still}
-use Rattle.machine_laws.proofs.OrderedEntries.{is_pass_own, is_pass_other, entries_of-hit, entries_of-miss, end_position_push, FrontEndsAt-longer, FrontEndsAt-more}
+use Rattle.machine_laws.proofs.OrderedEntries.{is_pass_own, is_pass_other, entries_of-hit, entries_of-miss, order_end_push, FrontEndsAt-longer, FrontEndsAt-more}
 
 -- ---- where the position is locked
 
@@ -54,37 +53,37 @@ not_ended role m n id j is was e = cc (ap role e)
 -- ---- what was taken in stays as it is
 
 -- while an active pass reserves
-IsEnded-longer : (size : ℕ) (found order : List Entry) (e : Entry) (role : ℕ → Role) (n id : ℕ)
+IsEnded-longer : (opening : Opening) (order : List Entry) (e : Entry) (role : ℕ → Role) (n id : ℕ)
     → e.pass ≡ Some n → role n ≡ active id → (by : ℕ) (j : Joined)
-    → IsEnded size found order role by j → IsEnded size found (order ++ e ∷ []) role by j
-IsEnded-longer size found order e role n id is active_is by j h = record {
+    → IsEnded opening order role by j → IsEnded opening (order ++ e ∷ []) role by j
+IsEnded-longer opening order e role n id is active_is by j h = record {
   role_is = h.role_is;
   entries_are = h.entries_are ∙ sym (entries_of-miss j.number order e
       (ap (is_pass j.number) is
       ∙ is_pass_other j.number n (not_ended role n j.number id by active_is h.role_is)));
-  stops = All-weaker (FrontEndsAt size j.number found order j.entries)
-      (FrontEndsAt size j.number found (order ++ e ∷ []) j.entries)
-      (λ full. FrontEndsAt-longer size j.number found order (e ∷ []) j.entries full) j.stops
+  stops = All-weaker (FrontEndsAt opening j.number order j.entries)
+      (FrontEndsAt opening j.number (order ++ e ∷ []) j.entries)
+      (λ full. FrontEndsAt-longer opening j.number order (e ∷ []) j.entries full) j.stops
       h.stops;
 }
 
 -- ---- all that is said of one live view
 
-pub record IsPlaced (size : ℕ) (found order : List Entry) (prev : ℕ) (role : ℕ → Role)
+pub record IsPlaced (opening : Opening) (order : List Entry) (prev : ℕ) (role : ℕ → Role)
     (locked holder keeper id : ℕ) (r : Reserving) : Type 0 where
-  pub part : IsPartOf size found order role id r
-  pub place : AtPlace size (end_position size order) (prev_of size 0 order) prev locked holder id
-      r.place
+  pub part : IsPartOf opening order role id r
+  pub place : AtPlace opening.setup.segment_size (order_end opening order)
+      (last_start opening order) prev locked holder id r.place
   pub spare : r.spare < r.spare_end → id ≡ keeper
 
-module _ (setup : Setup) (found order : List Entry) (position prev : ℕ) (parts : List Reserving)
-    (k : OrderHolds setup found order position prev parts) where
-  size : ℕ
-  size = setup.segment_size
+module _ (opening : Opening) (order : List Entry) (position prev : ℕ) (parts : List Reserving)
+    (k : OrderHolds opening order position prev parts) where
+  abbrev size : ℕ
+  size = opening.setup.segment_size
 
   abbrev Placed : ℕ → Reserving → Type 0
   Placed id r = r.live ≡ true
-      → IsPlaced setup.segment_size found order prev k.role k.locked k.holder k.keeper id r
+      → IsPlaced opening order prev k.role k.locked k.holder k.keeper id r
 
   pub placed : (id : ℕ) (r : Reserving) → HasAt parts id r → Placed id r
   placed id r here live = record {
@@ -96,14 +95,15 @@ module _ (setup : Setup) (found order : List Entry) (position prev : ℕ) (parts
   -- where the words and the order stay, each view may change as it likes within what is said of it
   same_words : (parts' : List Reserving) → Each StaysPlaced parts parts'
       → ((id : ℕ) (r : Reserving) → HasAt parts' id r → Placed id r)
-      → OrderHolds setup found order position prev parts'
+      → OrderHolds opening order position prev parts'
   same_words parts' on each = record {
     role = k.role;
     locked = k.locked;
     holder = k.holder;
     keeper = k.keeper;
+    placed = k.placed;
     chained = k.chained;
-    found_first = k.found_first;
+    owned = k.owned;
     within = k.within;
     position_is = k.position_is;
     one_bit = k.one_bit;
@@ -120,28 +120,27 @@ module _ (setup : Setup) (found order : List Entry) (position prev : ℕ) (parts
     held = λ is. held_still parts parts' on k.holder (k.held is);
   }
 
-  pub end_even : IsSegmentSize setup.segment_size → end_position setup.segment_size order % 8 ≡ 0
-  end_even valid = end_position-whole setup.segment_size valid order k.chained
+  pub end_even : IsSegmentSize opening.setup.segment_size → order_end opening order % 8 ≡ 0
+  end_even valid = end-whole_from size valid opening.place.position order k.chained k.placed.whole
 
   -- the position word without its lock bit is the order's end
-  pub unlocked-is : IsSegmentSize setup.segment_size
-      → position - position % 2 ≡ end_position setup.segment_size order
+  pub unlocked-is : IsSegmentSize opening.setup.segment_size
+      → position - position % 2 ≡ order_end opening order
   unlocked-is valid = omega (arith, end_even valid, k.position_is, k.one_bit)
 
   module _ (id : ℕ) (r : Reserving) (here : HasAt parts id r) (live : r.live ≡ true) where
-    mine : IsPlaced setup.segment_size found order prev k.role k.locked k.holder k.keeper id r
+    mine : IsPlaced opening order prev k.role k.locked k.holder k.keeper id r
     mine = placed id r here live
 
     -- the place of a view, told what it is
     at : (p : Place) → r.place ≡ p
-        → AtPlace setup.segment_size (end_position setup.segment_size order)
-        (prev_of setup.segment_size 0 order) prev k.locked k.holder id p
-    at p is = subst (λ (q : Place). AtPlace setup.segment_size
-        (end_position setup.segment_size order)
-        (prev_of setup.segment_size 0 order) prev k.locked k.holder id q) is mine.place
+        → AtPlace opening.setup.segment_size (order_end opening order)
+        (last_start opening order) prev k.locked k.holder id p
+    at p is = subst (λ (q : Place). AtPlace opening.setup.segment_size (order_end opening order)
+        (last_start opening order) prev k.locked k.holder id q) is mine.place
 
     moved_to : (p : Place)
-        → IsPartOf setup.segment_size found order k.role id (record r { place = p })
+        → IsPartOf opening order k.role id (record r { place = p })
     moved_to p = let m = mine.part in record {
       own = m.own;
       entries_are = m.entries_are;
@@ -170,8 +169,8 @@ module _ (setup : Setup) (found order : List Entry) (position prev : ℕ) (parts
     at_work p = record { live = λ alive. alive; number = refl; took = λ j has. has }
 
     -- a reserved end is seen
-    pub sees : (seen : ℕ) → seen ≤ end_position setup.segment_size order
-        → OrderHolds setup found order position prev
+    pub sees : (seen : ℕ) → seen ≤ order_end opening order
+        → OrderHolds opening order position prev
         (set parts id (record r { seen = max r.seen seen }))
     sees seen low = same_words (set parts id (record r { seen = max r.seen seen }))
         (on (record r { seen = max r.seen seen }) (record {
@@ -195,16 +194,15 @@ module _ (setup : Setup) (found order : List Entry) (position prev : ℕ) (parts
         }))
 
     -- the even word becomes one more
-    pub locks : IsSegmentSize setup.segment_size → (expected : ℕ) → position ≡ expected
+    pub locks : IsSegmentSize opening.setup.segment_size → (expected : ℕ) → position ≡ expected
         → expected % 2 ≡ 0
-        → OrderHolds setup found order (expected + 1) prev
+        → OrderHolds opening order (expected + 1) prev
         (set parts id (record r { place = Locked expected }))
     locks valid expected hit even =
         let free : k.locked ≡ 0 = omega (arith, end_even valid, k.position_is, k.one_bit) in
-        let is : expected ≡ end_position setup.segment_size order =
-        omega (arith, k.position_is) in
+        let is : expected ≡ order_end opening order = omega (arith, k.position_is) in
         let each = one_set (λ (j : ℕ) (u : Reserving). u.live ≡ true
-        → IsPlaced setup.segment_size found order prev k.role 1 id k.keeper j u)
+        → IsPlaced opening order prev k.role 1 id k.keeper j u)
         parts id (record r { place = Locked expected })
         (λ j u apart there alive. let t = placed j u there alive in record {
           part = t.part;
@@ -221,8 +219,9 @@ module _ (setup : Setup) (found order : List Entry) (position prev : ℕ) (parts
           locked = 1;
           holder = id;
           keeper = k.keeper;
+          placed = k.placed;
           chained = k.chained;
-          found_first = k.found_first;
+          owned = k.owned;
           within = k.within;
           position_is = omega (arith, is);
           one_bit = omega arith;
@@ -244,7 +243,7 @@ module _ (setup : Setup) (found order : List Entry) (position prev : ℕ) (parts
 
     -- the word of the last start is loaded
     pub loads_prev : (expected : ℕ) → r.place ≡ Locked expected
-        → OrderHolds setup found order position prev
+        → OrderHolds opening order position prev
         (set parts id (record r { place = Loaded expected prev }))
     loads_prev expected is =
         let pl = at (Locked expected) is in
@@ -261,12 +260,12 @@ module _ (setup : Setup) (found order : List Entry) (position prev : ℕ) (parts
 
     -- and the own start is stored there
     pub stores_prev : (expected met : ℕ) → r.place ≡ Loaded expected met
-        → OrderHolds setup found order position (address_of setup.segment_size expected)
+        → OrderHolds opening order position (address_of opening.setup.segment_size expected)
         (set parts id (record r { place = Stored expected met }))
     stores_prev expected met is =
         let pl = at (Loaded expected met) is in
         let each = one_set (λ (j : ℕ) (u : Reserving). u.live ≡ true
-        → IsPlaced setup.segment_size found order (address_of setup.segment_size expected) k.role
+        → IsPlaced opening order (address_of opening.setup.segment_size expected) k.role
         k.locked k.holder k.keeper j u)
         parts id (record r { place = Stored expected met })
         (λ j u apart there alive. let t = placed j u there alive in record {
@@ -284,8 +283,9 @@ module _ (setup : Setup) (found order : List Entry) (position prev : ℕ) (parts
           locked = k.locked;
           holder = k.holder;
           keeper = k.keeper;
+          placed = k.placed;
           chained = k.chained;
-          found_first = k.found_first;
+          owned = k.owned;
           within = k.within;
           position_is = k.position_is;
           one_bit = k.one_bit;
@@ -309,8 +309,8 @@ module _ (setup : Setup) (found order : List Entry) (position prev : ℕ) (parts
     -- the log is full, or stands at a segment's start: the position is as it was
     pub gives_back : (cause : StopCause) (expected : ℕ) → r.place ≡ Locked expected
         → (cause ≡ AtSegmentStart
-        → end_address_of setup.segment_size expected % setup.segment_size ≡ 0)
-        → OrderHolds setup found order expected prev (set parts id (record r {
+        → end_address_of opening.setup.segment_size expected % opening.setup.segment_size ≡ 0)
+        → OrderHolds opening order expected prev (set parts id (record r {
           stops = r.stops ++ (record {
             cause = cause;
             position = expected;
@@ -327,19 +327,17 @@ module _ (setup : Setup) (found order : List Entry) (position prev : ℕ) (parts
         } in
         let m = mine.part in
         let w : Reserving = record r { stops = r.stops ++ stop ∷ []; place = Free } in
-        let ends : FrontEndsAt setup.segment_size r.number found order r.entries stop = record {
+        let ends : FrontEndsAt opening r.number order r.entries stop = record {
           front = order;
           back = [];
           are = sym (append-nil order);
           end = pl.2;
           own = sym m.entries_are ∙ sym (take_all (length r.entries) r.entries (omega arith));
           within = omega arith;
-          found_within = let f = k.found_first in
-              omega (arith, ap length f.1, length-append found f.0);
           at_start = starts;
         } in
         let each = one_set (λ (j : ℕ) (u : Reserving). u.live ≡ true
-        → IsPlaced setup.segment_size found order prev k.role 0 k.holder k.keeper j u)
+        → IsPlaced opening order prev k.role 0 k.holder k.keeper j u)
         parts id w
         (λ j u apart there alive. let t = placed j u there alive in record {
           part = t.part;
@@ -352,7 +350,7 @@ module _ (setup : Setup) (found order : List Entry) (position prev : ℕ) (parts
             entries_are = m.entries_are;
             spares = m.spares;
             seen = m.seen;
-            stops = All-push (FrontEndsAt setup.segment_size r.number found order r.entries)
+            stops = All-push (FrontEndsAt opening r.number order r.entries)
                 r.stops stop m.stops ends;
             joined = m.joined;
             apart = m.apart;
@@ -365,8 +363,9 @@ module _ (setup : Setup) (found order : List Entry) (position prev : ℕ) (parts
           locked = 0;
           holder = k.holder;
           keeper = k.keeper;
+          placed = k.placed;
           chained = k.chained;
-          found_first = k.found_first;
+          owned = k.owned;
           within = k.within;
           position_is = omega (arith, pl.2);
           one_bit = omega arith;
@@ -385,7 +384,8 @@ module _ (setup : Setup) (found order : List Entry) (position prev : ℕ) (parts
     -- an entry is added at the end: the position is unlocked behind it
     module _ (value : Record) (expected met : ℕ) (is : r.place ≡ Stored expected met)
         (logged : IsLogRecord value)
-        (fits : expected + room_at setup.segment_size expected value ≤ log_limit setup) where
+        (fits : expected + room_at opening.setup.segment_size expected value
+        ≤ log_limit opening.setup) where
       abbrev e : Entry
       e = entry_reserved r.number expected value
 
@@ -395,27 +395,27 @@ module _ (setup : Setup) (found order : List Entry) (position prev : ℕ) (parts
       own_is : k.role r.number ≡ active id
       own_is = mine.part.own
 
-      at_end : expected ≡ end_position setup.segment_size order
+      at_end : expected ≡ order_end opening order
       at_end = let pl = at (Stored expected met) is in pl.2
 
       others_grow : (j : ℕ) (u : Reserving) → j ≢ id
-          → IsPartOf setup.segment_size found order k.role j u
-          → IsPartOf setup.segment_size found longer k.role j u
+          → IsPartOf opening order k.role j u
+          → IsPartOf opening longer k.role j u
       others_grow j u apart t = record {
         own = t.own;
         entries_are = t.entries_are ∙ sym (entries_of-miss u.number order e
             (is_pass_other u.number r.number
             (not_other k.role r.number u.number id j own_is t.own apart)));
         spares = t.spares;
-        seen = omega (arith, t.seen, end_position_push setup.segment_size order e);
-        stops = All-weaker (FrontEndsAt setup.segment_size u.number found order u.entries)
-            (FrontEndsAt setup.segment_size u.number found longer u.entries)
-            (λ full. FrontEndsAt-longer setup.segment_size u.number found order (e ∷ [])
+        seen = omega (arith, t.seen, order_end_push opening order e);
+        stops = All-weaker (FrontEndsAt opening u.number order u.entries)
+            (FrontEndsAt opening u.number longer u.entries)
+            (λ full. FrontEndsAt-longer opening u.number order (e ∷ [])
             u.entries full)
             u.stops t.stops;
-        joined = All-weaker (IsEnded setup.segment_size found order k.role j)
-            (IsEnded setup.segment_size found longer k.role j)
-            (IsEnded-longer setup.segment_size found order e k.role r.number id refl own_is j)
+        joined = All-weaker (IsEnded opening order k.role j)
+            (IsEnded opening longer k.role j)
+            (IsEnded-longer opening order e k.role r.number id refl own_is j)
             u.joined t.joined;
         apart = t.apart;
       }
@@ -423,36 +423,36 @@ module _ (setup : Setup) (found order : List Entry) (position prev : ℕ) (parts
       abbrev grown : Reserving
       grown = record r {
         entries = r.entries ++ e ∷ [];
-        seen = position_behind setup.segment_size e;
+        seen = position_behind opening.setup.segment_size e;
         place = Free;
       }
 
-      mine_grows : IsPartOf setup.segment_size found longer k.role id grown
+      mine_grows : IsPartOf opening longer k.role id grown
       mine_grows = let m = mine.part in record {
         own = m.own;
         entries_are = ap (λ (es : List Entry). es ++ e ∷ []) m.entries_are
             ∙ sym (entries_of-hit r.number order e (is_pass_own r.number));
         spares = m.spares;
-        seen = omega (arith, at_end, end_position_push setup.segment_size order e);
-        stops = All-weaker (FrontEndsAt setup.segment_size r.number found order r.entries)
-            (FrontEndsAt setup.segment_size r.number found longer grown.entries)
-            (λ full h. FrontEndsAt-more setup.segment_size r.number found longer r.entries
+        seen = omega (arith, at_end, order_end_push opening order e);
+        stops = All-weaker (FrontEndsAt opening r.number order r.entries)
+            (FrontEndsAt opening r.number longer grown.entries)
+            (λ full h. FrontEndsAt-more opening r.number longer r.entries
             (e ∷ []) full
-            (FrontEndsAt-longer setup.segment_size r.number found order (e ∷ []) r.entries full h))
+            (FrontEndsAt-longer opening r.number order (e ∷ []) r.entries full h))
             r.stops m.stops;
-        joined = All-weaker (IsEnded setup.segment_size found order k.role id)
-            (IsEnded setup.segment_size found longer k.role id)
-            (IsEnded-longer setup.segment_size found order e k.role r.number id refl own_is id)
+        joined = All-weaker (IsEnded opening order k.role id)
+            (IsEnded opening longer k.role id)
+            (IsEnded-longer opening order e k.role r.number id refl own_is id)
             r.joined m.joined;
         apart = m.apart;
       }
 
-      pub reserves : OrderHolds setup found longer
-          (expected + room_at setup.segment_size expected value) prev (set parts id grown)
+      pub reserves : OrderHolds opening longer
+          (expected + room_at opening.setup.segment_size expected value) prev (set parts id grown)
       reserves =
           let pl = at (Stored expected met) is in
           let each = one_set (λ (j : ℕ) (u : Reserving). u.live ≡ true
-          → IsPlaced setup.segment_size found longer prev k.role 0 k.holder k.keeper j u)
+          → IsPlaced opening longer prev k.role 0 k.holder k.keeper j u)
           parts id grown
           (λ j u apart there alive. let t = placed j u there alive in record {
             part = others_grow j u apart t.part;
@@ -465,18 +465,13 @@ module _ (setup : Setup) (found order : List Entry) (position prev : ℕ) (parts
             locked = 0;
             holder = k.holder;
             keeper = k.keeper;
-            chained = IsChained_push setup.segment_size order e k.chained at_end logged;
-            found_first =
-                let f = k.found_first in (
-                  f.0 ++ e ∷ [],
-                  ap (λ (es : List Entry). es ++ e ∷ []) f.1 ∙ append_assoc found f.0 (e ∷ []),
-                  All-push (λ (x : Entry). IsSome x.pass) f.0 e f.2 refl,
-                  f.3,
-                );
-            within = omega (arith, fits, at_end, end_position_push setup.segment_size order e);
-            position_is = omega (arith, at_end, end_position_push setup.segment_size order e);
+            placed = k.placed;
+            chained = FollowsFrom_push size opening.place.position order e k.chained at_end logged;
+            owned = All-push (λ (x : Entry). IsSome x.pass) order e k.owned refl;
+            within = omega (arith, fits, at_end, order_end_push opening order e);
+            position_is = omega (arith, at_end, order_end_push opening order e);
             one_bit = omega arith;
-            at_rest = λ _. pl.3 ∙ sym (prev_of_push setup.segment_size 0 order e);
+            at_rest = λ _. pl.3 ∙ sym (prev_of_push size opening.place.prev order e);
             unused = λ n unused. entries_of-miss n order e
                 (is_pass_other n r.number (not_unused k.role r.number n id own_is unused))
                 ∙ k.unused n unused;
@@ -493,7 +488,7 @@ module _ (setup : Setup) (found order : List Entry) (position prev : ℕ) (parts
 
     -- a pass that gives up leaves a view that is not live
     pub gives_up : (gone : Reserving) → gone.live ≡ false
-        → OrderHolds setup found order position prev (set parts id r ++ gone ∷ [])
+        → OrderHolds opening order position prev (set parts id r ++ gone ∷ [])
     gives_up gone dead = same_words (set parts id r ++ gone ∷ [])
         (each_added StaysPlaced parts (set parts id r) gone (on r (placed_as r)))
         (one_added Placed (set parts id r) gone

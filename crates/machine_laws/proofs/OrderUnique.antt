@@ -2,10 +2,10 @@
 -- are theirs.
 use Rattle.std.proofs.Common.{◌≡◌, ℕ, ◌≤◌, cond, Bool, true, false, All, List, [], ◌∷◌, Option, Some, None, IsSome, true≢false, ◌++◌, refl, sym, ap, ◌∙◌, subst, arith}
 use Rattle.std.proofs.lemmas.List.Elements.{All-head, All-tail}
-use Rattle.byte_position.specs.Position.{first_position}
-use Rattle.wal_page.specs.Order.{Entry, FollowsFrom, IsChained, position_behind}
+use Rattle.wal_page.specs.Order.{Entry, FollowsFrom, position_behind}
 use Rattle.wal_page.proofs.OrderLaws.{room_at-pos, FollowsFrom-parts}
-use Rattle.wal_core.specs.Ordered.{is_pass, entries_under, BeginsWith}
+use Rattle.wal_core.specs.Words.{Opening, GoesOnAtPlace}
+use Rattle.wal_core.specs.Ordered.{is_pass, entries_under}
 use Rattle.machine_laws.proofs.OrderedEntries.{is_pass_own}
 
 abbrev IsNamed : Entry → Type 0
@@ -87,32 +87,8 @@ follows_one size position (e ∷ es) (f ∷ fs) c d p q same =
     λ i. is i ∷ follows_one size (position_behind size f) es fs behind d.2
     (All-tail IsNamed e es p) (All-tail IsNamed f fs q) rest i
 
-entries_of-append : (n : ℕ) (es fs : List Entry)
-    → entries_under n (es ++ fs) ≡ entries_under n es ++ entries_under n fs
-entries_of-append n [] fs = refl
-entries_of-append n (x ∷ xs) fs =
-    ap (λ (l : List Entry). cond (is_pass n x.pass) (x ∷ l) l) (entries_of-append n xs fs)
-    ∙ put_before (is_pass n x.pass) x (entries_under n xs) (entries_under n fs)
-  where
-    put_before : (b : Bool) (x : Entry) (l m : List Entry)
-        → cond b (x ∷ (l ++ m)) (l ++ m) ≡ cond b (x ∷ l) l ++ m
-    put_before true x l m = refl
-    put_before false x l m = refl
-
-cancel : (l m n : List Entry) → l ++ m ≡ l ++ n → m ≡ n
-cancel [] m n e = e
-cancel (x ∷ l) m n e = cancel l m n (cc)
-
-pub one_order : (size : ℕ) (found es fs : List Entry) → IsChained size es → IsChained size fs
-    → BeginsWith found es → BeginsWith found fs
+pub one_order : (opening : Opening) (es fs : List Entry) → GoesOnAtPlace opening es
+    → GoesOnAtPlace opening fs → All IsNamed es → All IsNamed fs
     → ((n : ℕ) → entries_under n es ≡ entries_under n fs) → es ≡ fs
-one_order size found es fs c d p q same =
-    let of = λ (l : List Entry). FollowsFrom size (first_position size) l in
-    let c' = FollowsFrom-parts size (first_position size) found p.0 (subst of p.1 c) in
-    let d' = FollowsFrom-parts size (first_position size) found q.0 (subst of q.1 d) in
-    let agree : (n : ℕ) → entries_under n p.0 ≡ entries_under n q.0 =
-    λ n. cancel (entries_under n found) (entries_under n p.0) (entries_under n q.0)
-    (sym (entries_of-append n found p.0) ∙ ap (entries_under n) (sym p.1) ∙ same n
-    ∙ ap (entries_under n) q.1 ∙ entries_of-append n found q.0) in
-    p.1 ∙ ap (λ (l : List Entry). found ++ l)
-    (follows_one size _ p.0 q.0 c'.1 d'.1 p.2 q.2 agree) ∙ sym q.1
+one_order opening es fs c d p q same =
+    follows_one opening.setup.segment_size opening.place.position es fs c d p q same

@@ -1,10 +1,11 @@
 -- One entry more at the end of an order, and what each pass has of it.
 use Rattle.std.proofs.Common.{◌≡◌, ◌≢◌, ℕ, ◌+◌, eq-eqb, ne_eqb, cond, Bool, true, false, List, [], ◌∷◌, ◌++◌, Some, append_assoc, arith, refl, sym, ap, ◌∙◌}
 use Rattle.std.proofs.lemmas.List.{take-append-le, length-append}
-use Rattle.wal_page.specs.Order.{Entry, end_position, room_at}
+use Rattle.wal_page.specs.Order.{Entry, room_at}
 use Rattle.wal_page.proofs.OrderLaws.{rooms_of_push}
 use Rattle.wal_core.specs.Views.{Stop}
 use Rattle.wal_core.specs.Ordered.{is_pass, entries_under, FrontEndsAt}
+use Rattle.wal_core.specs.Words.{Opening, order_end}
 
 pub is_pass_own : (n : ℕ) → is_pass n (Some n) ≡ true
 is_pass_own n = eq-eqb n n refl
@@ -30,35 +31,35 @@ entries_of-miss n [] e h = ap (λ (b : Bool). cond b (e ∷ []) []) h
 entries_of-miss n (x ∷ xs) e h =
     ap (λ (l : List Entry). cond (is_pass n x.pass) (x ∷ l) l) (entries_of-miss n xs e h)
 
-pub end_position_push : (size : ℕ) (es : List Entry) (e : Entry)
-    → end_position size (es ++ e ∷ []) ≡ end_position size es + room_at size e.start e.value
-end_position_push size es e = omega (arith, rooms_of_push size es e)
+pub order_end_push : (opening : Opening) (es : List Entry) (e : Entry) → order_end opening
+    (es ++ e ∷ []) ≡ order_end opening es + room_at opening.setup.segment_size e.start e.value
+order_end_push opening es e = omega (arith, rooms_of_push opening.setup.segment_size es e)
 
 -- a front of an order is one of a longer order, for a log that grew too
-pub FrontEndsAt-longer : (size number : ℕ) (found order back entries : List Entry) (full : Stop)
-    → FrontEndsAt size number found order entries full
-    → FrontEndsAt size number found (order ++ back) entries full
-FrontEndsAt-longer size number found order back entries full h = record {
+pub FrontEndsAt-longer : (opening : Opening) (number : ℕ) (order back entries : List Entry)
+    (full : Stop)
+    → FrontEndsAt opening number order entries full
+    → FrontEndsAt opening number (order ++ back) entries full
+FrontEndsAt-longer opening number order back entries full h = record {
   front = h.front;
   back = h.back ++ back;
   are = ap (λ (es : List Entry). es ++ back) h.are ∙ append_assoc h.front h.back back;
   end = h.end;
   own = h.own;
   within = h.within;
-  found_within = h.found_within;
   at_start = h.at_start;
 }
 
-pub FrontEndsAt-more : (size number : ℕ) (found order entries more : List Entry) (full : Stop)
-    → FrontEndsAt size number found order entries full
-    → FrontEndsAt size number found order (entries ++ more) full
-FrontEndsAt-more size number found order entries more full h = record {
+pub FrontEndsAt-more : (opening : Opening) (number : ℕ) (order entries more : List Entry)
+    (full : Stop)
+    → FrontEndsAt opening number order entries full
+    → FrontEndsAt opening number order (entries ++ more) full
+FrontEndsAt-more opening number order entries more full h = record {
   front = h.front;
   back = h.back;
   are = h.are;
   end = h.end;
   own = h.own ∙ sym (take-append-le full.entries entries more h.within);
   within = omega (arith, h.within, length-append entries more);
-  found_within = h.found_within;
   at_start = h.at_start;
 }

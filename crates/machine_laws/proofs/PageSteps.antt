@@ -154,19 +154,19 @@ module _ {first : DiskState} (v : View) (words : List ℕ) (home : Option Plain)
       writer_is = (subst (StandsTo _ _ _ _ _ _) out
           (((s.locks).writing).each id (writer_of v) (part_at writer_of views id v here))).3
 
-      pub staged_behind : IsStaged setup s.order l.known
+      pub staged_behind : IsStaged v.opening s.order l.known
           (n, met_by v words home views id (load_ring_word n))
       staged_behind = loads_staged v.opening s.order s.reach s.memory (map flight_of views) s.stage
           (initialised_word words) (written_word words) _ _ (end_word words)
           (word_of_ring setup words) all_met home s.writer (map writing_of views) id n v.writing l
-          (s.setup_is).size (s.reserved).chained s.ring s.pages s.positions
+          (s.setup_is).size (s.reserved).placed (s.reserved).chained s.ring s.pages s.positions
           (part_at writing_of views id v here) out writer_is to_be_written
 
       pub memory_met : met_by v words home views id (load_ring_word n) ≡ s.memory n
       memory_met = memory_loaded v.opening s.order s.reach s.memory (map flight_of views) s.stage
           (initialised_word words) (written_word words) _ _ (end_word words)
           (word_of_ring setup words) all_met home s.writer (map writing_of views) id n v.writing l
-          (s.setup_is).size (s.reserved).chained s.ring s.pages s.positions
+          (s.setup_is).size (s.reserved).placed (s.reserved).chained s.ring s.pages s.positions
           (part_at writing_of views id v here) out writer_is to_be_written
 
   -- ---- the turn

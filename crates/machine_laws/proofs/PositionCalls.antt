@@ -6,9 +6,8 @@ use Rattle.byte_position.specs.Geometry.{pages_of}
 use Rattle.byte_position.proofs.SegmentSizes.{segment_size_in_pages}
 use Rattle.segment_disk.specs.declared.disk.Call.{Call}
 use Rattle.segment_disk.specs.Tape.{Tape, create_call, state_now, sync_call, write_call}
-use Rattle.wal_page.specs.Order.{end_position}
 use Rattle.wal_core.specs.declared.setup.Setup.{Setup}
-use Rattle.wal_core.specs.Words.{end_form}
+use Rattle.wal_core.specs.Words.{end_form, order_end}
 use Rattle.wal_core.specs.Views.{HasAt, Plain, Lent, Hold, Out, Receipts, View, flight_of, receipts_of}
 use Rattle.wal_core.specs.Suited.{tape_from, BeganSuited, IfSuited}
 use Rattle.wal_core.proofs.Tapes.{at_suited, counted_on, began_behind, on_tape, tape_behind}
@@ -42,7 +41,7 @@ module _ (p : Positions) (id : ℕ) (v : View) (t : HasPositions p id v) where
   size = setup.segment_size
 
   abbrev ReadUpto : ℕ → Tape → Type 0
-  ReadUpto address tape = ReadsBelow setup p.order address (state_now tape)
+  ReadUpto address tape = ReadsBelow v.opening p.order address (state_now tape)
 
   -- the view with the writer in hand, behind a call that makes another one of it
   abbrev CalledOn : (Plain → Plain) → Lent → Plain → Type 0
@@ -52,7 +51,7 @@ module _ (p : Positions) (id : ℕ) (v : View) (t : HasPositions p id v) where
 
   called : (f : Plain → Plain) (l : Lent) → (v.writing).hold ≡ Out l
       → (p.writer).written ≤ (f p.writer).written
-      → (f p.writer).written ≤ end_form setup (end_position size p.order)
+      → (f p.writer).written ≤ end_form setup (order_end v.opening p.order)
       → IsCopiedBelow size p.flights (f p.writer).written
       → IfSuited p.first v.opening (f p.writer) (ReadUpto (f p.writer).written)
       → CalledOn f l l.writer
@@ -105,7 +104,7 @@ module _ (p : Positions) (id : ℕ) (v : View) (t : HasPositions p id v) where
         (stays_there (after_sync (sync_call size segment) outcome) (may.0).0 (may.0).1
         (same_written (sync_call size segment) outcome p.writer)
         (read_behind (sync_call size segment) outcome (p.writer).written
-        (λ tape is suited. sync_reads setup t.size p.order p.writer segment outcome tape
+        (λ tape is suited. sync_reads v.opening t.size p.order p.writer segment outcome tape
         (read_now tape is suited))))
 
     pub create_keeps : (met segment : ℕ) (outcome : CallOutcome) → MayStep v (create segment outcome)
@@ -127,7 +126,7 @@ module _ (p : Positions) (id : ℕ) (v : View) (t : HasPositions p id v) where
         (stays_there (after_create segment (create_call size segment) outcome) l is
         (same_written (create_call size segment) outcome p.writer)
         (read_behind (create_call size segment) outcome (p.writer).written
-        (λ tape told suited. create_reads setup t.size p.order p.writer segment outcome
+        (λ tape told suited. create_reads v.opening t.size p.order p.writer segment outcome
         (omega (arith, at, d.reached)) tape (read_now tape told suited))))
 
     -- the page under way lies in a segment of the log
@@ -178,10 +177,10 @@ module _ (p : Positions) (id : ℕ) (v : View) (t : HasPositions p id v) where
         (IsCopiedBelow-lower size _ l.known p.flights (omega (arith, both.1, n.copied)) known.1)
         (read_behind (write_call size segment page bytes) outcome
         (if is_done outcome then upto else (p.writer).written)
-        (λ tape told suited. write_reads setup t.size p.order p.writer segment page upto bytes
+        (λ tape told suited. write_reads v.opening t.size p.order p.writer segment page upto bytes
         n.on_segment n.page_is n.rises n.within
-        (λ k low below. loaded_words setup p.order l.known ((p.writer).written / 8192) bytes
+        (λ k low below. loaded_words v.opening p.order l.known ((p.writer).written / 8192) bytes
         l.staged n.loaded hand.staged k low (omega (arith, below, n.copied)))
         tape (read_now tape told suited)
-        ((at_suited p.first v.opening p.writer (IsOnDisk setup p.order p.writer) tape told suited
-        d.on_disk).there segment first n.is_made) outcome)))
+        ((at_suited p.first v.opening p.writer (IsOnDisk v.opening p.order p.writer) tape told
+        suited d.on_disk).there segment first n.is_made) outcome)))

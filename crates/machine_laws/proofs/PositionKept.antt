@@ -5,10 +5,9 @@ use mathlib.Core.Logic.{dite}
 use mathlib.Core.Option.{Option, none}
 use native.Mathlib.Decide.{ℕ_discrete}
 use Rattle.wal_types.specs.declared.record.Record.{Record}
-use Rattle.wal_page.specs.Order.{end_position, prev_of}
 use Rattle.wal_page.specs.EntryWords.{address_of_word}
 use Rattle.wal_core.specs.declared.setup.Setup.{Setup}
-use Rattle.wal_core.specs.Words.{end_form}
+use Rattle.wal_core.specs.Words.{end_form, order_end, last_start}
 use Rattle.wal_core.specs.Views.{HasAt, Place, Reserving, Watching, Copying, Flight, Plain, Hold, Idle, Turned, Out, Lent, Writing, View, flight_of, working_of, watching_of, writing_of}
 use Rattle.wal_core.specs.Ordered.{OrderHolds, AtPlace}
 use Rattle.wal_core.specs.Locked.{AreHeld, StandsTo}
@@ -184,7 +183,7 @@ module _ (p : Positions) (id : ℕ) (v : View) (t : HasPositions p id v) where
       (value_behind v set_down p.down) (stands (Out may.0) may.1).2
       (writing_of (view_behind v set_down p.down p.home)) refl refl refl
 
-  pub flushed_is_reserved : p.flushed ≤ end_form setup (end_position setup.segment_size p.order)
+  pub flushed_is_reserved : p.flushed ≤ end_form setup (order_end v.opening p.order)
   flushed_is_reserved =
       let k = t.holds in omega (arith, k.flushed_low, k.written_low, k.reserved)
 
@@ -207,7 +206,7 @@ module _ (p : Positions) (id : ℕ) (v : View) (t : HasPositions p id v) where
 
   pub hard_is_reserved : MayStep v store_flushed
       → number_lent v (λ l. l.hard) (v.writing).hold
-      ≤ end_form setup (end_position setup.segment_size p.order)
+      ≤ end_form setup (order_end v.opening p.order)
   hard_is_reserved may =
       let number : number_lent v (λ l. l.hard) (v.writing).hold ≡ (may.0).hard =
       ap (number_lent v (λ l. l.hard)) may.1 in
@@ -219,14 +218,14 @@ module _ (p : Positions) (id : ℕ) (v : View) (t : HasPositions p id v) where
   pub slot_out_keeps : (lock : ℕ → ℕ) (views : List View) → p.flights ≡ map flight_of views
       → HasAt views id v → AreHeld lock (map working_of views)
       → WatchHolds setup.segment_size
-      (end_form setup (end_position setup.segment_size p.order)) (map working_of views)
+      (end_form setup (order_end v.opening p.order)) (map working_of views)
       (map watching_of views)
       → MayStep v slot_out
       → HoldBehind (record p { home = home_behind v slot_out p.home }) id v
       (view_behind v slot_out p.turn p.home)
   slot_out_keeps lock views are here held watch may =
       let known = watched_known setup.segment_size
-      (end_form setup (end_position setup.segment_size p.order)) lock views id v here held watch in
+      (end_form setup (order_end v.opening p.order)) lock views id v here held watch in
       let copied = subst (λ (fs : List Flight).
       IsCopiedBelow setup.segment_size fs (copied_below v.watching)) (sym are) known.1 in
       subst (λ (o : Option Plain). HoldBehind (record p { home = none }) id v
@@ -251,7 +250,7 @@ module _ (p : Positions) (id : ℕ) (v : View) (t : HasPositions p id v) where
 
   pub store_position_keeps : (position prev : ℕ) (reservings : List Reserving)
       (locks : List ℕ) (value : Record)
-      → OrderHolds setup (v.opening).found p.order position prev reservings
+      → OrderHolds v.opening p.order position prev reservings
       → HasAt reservings id v.reserving → (v.reserving).live ≡ true
       → MayStep v (store_position locks value)
       → HoldBehind (record p {
@@ -260,8 +259,8 @@ module _ (p : Positions) (id : ℕ) (v : View) (t : HasPositions p id v) where
       }) id v (view_behind v (store_position locks value) position p.home)
   store_position_keeps position prev reservings locks value k there live may =
       let size : ℕ = setup.segment_size in
-      let at = subst (λ (q : Place). AtPlace size (end_position size p.order)
-      (prev_of size 0 p.order) prev k.locked k.holder id q) may.2
+      let at = subst (λ (q : Place). AtPlace size (order_end v.opening p.order)
+      (last_start v.opening p.order) prev k.locked k.holder id q) may.2
       (k.places id v.reserving there live) in
       subst (λ (q : Place). HoldBehind (record p {
         order = p.order ++ entry_reserved (v.reserving).number (place_at v q) value ∷ [];

@@ -41,11 +41,11 @@ module _ {first : DiskState} (opening : Opening) (words : List ℕ) (home : Opti
 
   -- below the written word the writer's disk reads as the log
   reads : IfSuited first opening k.writer
-      (λ t. ReadsBelow opening.setup k.order (written_word words) (state_now t))
+      (λ t. ReadsBelow opening k.order (written_word words) (state_now t))
   reads = told_suited first opening k.writer (λ t is suited n below.
       let low = (k.positions).written_low in
       at_suited first opening k.writer
-      (λ t. ReadsBelow opening.setup k.order (k.writer).written (state_now t)) t is suited
+      (λ t. ReadsBelow opening k.order (k.writer).written (state_now t)) t is suited
       (k.positions).reads n (omega arith))
 
   pub positions_are_ordered : PositionsAreOrdered first opening k.order words home views
@@ -66,6 +66,6 @@ module _ {first : DiskState} (opening : Opening) (words : List ℕ) (home : Opti
         let within = (k.positions).reserved in omega arith;
     copied = copied;
     reads = λ w is. subst (λ (x : Plain). IfSuited first opening x
-        (λ t. ReadsBelow opening.setup k.order (written_word words) (state_now t)))
+        (λ t. ReadsBelow opening k.order (written_word words) (state_now t)))
         (sym (is_writer opening words home views k w is)) reads;
   }

@@ -8,17 +8,17 @@ use Rattle.byte_position.specs.Geometry.{IsSegmentSize}
 use Rattle.byte_position.proofs.EndAddresses.{end_address_of-mono}
 use Rattle.record_spelling.specs.Spelling.{assembled}
 use Rattle.segment_disk.specs.Tape.{Tape, state_now}
-use Rattle.wal_page.specs.Order.{Entry, IsChained, end_position}
+use Rattle.wal_page.specs.Order.{Entry}
 use Rattle.wal_page.specs.Placed.{Owns}
-use Rattle.wal_page.proofs.LogWordLaws.{log_word_push}
 use Rattle.wal_page.proofs.OrderLaws.{rooms_of_push}
 use Rattle.wal_page.proofs.OwnerLaws.{Owns-between}
-use Rattle.wal_page.specs.Log.{log_word_bytes}
+use Rattle.wal_page.proofs.PlaceLaws.{word_from_push}
 use Rattle.wal_core.specs.declared.setup.Setup.{Setup}
-use Rattle.wal_core.specs.Words.{Opening, end_form}
+use Rattle.wal_core.specs.Words.{Opening, end_form, order_end, GoesOnAtPlace}
 use Rattle.wal_core.specs.Suited.{tape_from, IfSuited}
 use Rattle.wal_core.specs.Views.{HasAt, Copy, Flight, Copying, Plain, Lent, Hold, Idle, Turned, Out, Writing}
 use Rattle.wal_core.specs.Moves.{no_writing, with_lent}
+use Rattle.wal_core.specs.Ringed.{log_bytes_of}
 use Rattle.wal_core.specs.Positioned.{IsCopiedBelow, ReadsBelow, IsWithin, PositionsHold}
 use Rattle.wal_core.proofs.Lists.{one_set}
 use Rattle.machine_laws.specs.PositionParts.{Positions}
@@ -77,7 +77,7 @@ module _ (opening : Opening) (p : Positions) (k : PositionsHold p.first opening 
   parts = p.parts
 
   abbrev end : ℕ
-  end = end_form setup (end_position setup.segment_size order)
+  end = end_form setup (order_end opening order)
 
   abbrev pub Within : Writing → Type 0
   Within x = IsWithin setup.segment_size end written flushed flights x
@@ -322,7 +322,7 @@ module _ (opening : Opening) (p : Positions) (k : PositionsHold p.first opening 
       pub calls : (l : Lent) → x.hold ≡ Out l → home ≡ none → (after : Plain)
           → writer.written ≤ after.written → after.written ≤ end
           → IsCopiedBelow setup.segment_size flights after.written
-          → IfSuited p.first opening after (λ (t : Tape). ReadsBelow setup order after.written
+          → IfSuited p.first opening after (λ (t : Tape). ReadsBelow opening order after.written
           (state_now t))
           → PositionsHold p.first opening order written flushed down home after (set flights id f)
           (set parts id (record x { hold = Out (record l { writer = after }) }))
@@ -345,22 +345,22 @@ module _ (opening : Opening) (p : Positions) (k : PositionsHold p.first opening 
 
   -- ---- the order grows
 
-  module _ (valid : IsSegmentSize setup.segment_size) (chained : IsChained setup.segment_size order)
-      (e : Entry) (start : e.start ≡ end_position setup.segment_size order) where
+  module _ (valid : IsSegmentSize setup.segment_size) (chained : GoesOnAtPlace opening order)
+      (e : Entry) (start : e.start ≡ order_end opening order) where
     abbrev longer : List Entry
     longer = order ++ e ∷ []
 
-    grown_end : end ≤ end_form setup (end_position setup.segment_size longer)
+    grown_end : end ≤ end_form setup (order_end opening longer)
     grown_end = end_address_of-mono setup.segment_size valid
-        (end_position setup.segment_size order) (end_position setup.segment_size longer)
+        (order_end opening order) (order_end opening longer)
         (omega (arith, rooms_of_push setup.segment_size order e))
 
     -- the log's words below its end stay
     word_stays : (k : ℕ) → 8 * k < end
-        → log_word_bytes setup.segment_size setup.sysid longer (8 * k)
-        ≡ log_word_bytes setup.segment_size setup.sysid order (8 * k)
+        → log_bytes_of opening longer (8 * k) ≡ log_bytes_of opening order (8 * k)
     word_stays k below = ap (to_le_bytes w64)
-        (log_word_push setup.segment_size setup.sysid valid order e chained start (8 * k) (omega arith)
+        (word_from_push setup.segment_size setup.sysid valid opening.place order e chained start
+        (8 * k)
         (λ (owns : Owns setup.segment_size (assembled e.value) e.start (8 * k)).
         let between = Owns-between setup.segment_size valid (assembled e.value) e.start (8 * k)
         owns in

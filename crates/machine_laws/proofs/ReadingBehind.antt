@@ -121,9 +121,9 @@ module _ {first : DiskState} (words : List ℕ) (home : Option Plain) (views : L
       → (segment : ℕ) (s : Segment) → state_now t segment ≡ Some s → s.pages ≡ pages_of size
   has_pages t is suited segment s there =
       let lawful = at_suited first o k.writer
-      (TapeAssures size IsNowhere (IsLawfulAt o.setup k.order) o.moment) t is suited
+      (TapeAssures size IsNowhere (IsLawfulAt o k.order) o.moment) t is suited
       (k.durable).lawful in
-      (subst (SegmentAssures size IsNowhere (IsLawfulAt o.setup k.order) segment) there
+      (subst (SegmentAssures size IsNowhere (IsLawfulAt o k.order) segment) there
       (lawful.now segment)).0
 
   writes : (segment page upto : ℕ) (bytes : List ℕ) (l : Lent) → (v.writing).hold ≡ Out l

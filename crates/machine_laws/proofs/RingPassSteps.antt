@@ -30,7 +30,7 @@ module _ {W : Type 0} (f : View → W) where
 module _ {first : DiskState} (opening : Opening) (words : List ℕ) (home : Option Plain) (views : List View)
     (s : IsSound first opening words home views) (id : ℕ) (v : View) (here : HasAt views id v) where
   abbrev Ring : List Flight → Type 0
-  Ring fs = RingHolds opening.setup s.order s.reach s.memory fs
+  Ring fs = RingHolds opening s.order s.reach s.memory fs
 
   abbrev Pages : List ℕ → Type 0
   Pages cs = PagesHold (opening.setup).ring_pages s.reach s.stage
@@ -46,7 +46,7 @@ module _ {first : DiskState} (opening : Opening) (words : List ℕ) (home : Opti
   pub ring-split : HasRingWith opening words home views s
       (set views id (after_split v) ++ split_off v ∷ [])
   ring-split = subst Ring (sym (part_set_added flight_of views id (after_split v) (split_off v)))
-      (ring.splits opening.setup s.order s.reach s.memory (map flight_of views) s.ring id
+      (ring.splits opening s.order s.reach s.memory (map flight_of views) s.ring id
       (v.working).flight flies)
 
   pub pages-split : HasPagesWith opening words home views s
@@ -61,7 +61,7 @@ module _ {first : DiskState} (opening : Opening) (words : List ℕ) (home : Opti
       (set views id (without_work v) ++ orphan_of v ∷ [])
   ring-given_up = subst Ring
       (sym (part_set_added flight_of views id (without_work v) (orphan_of v)))
-      (ring.gives_up opening.setup s.order s.reach s.memory (map flight_of views) s.ring id
+      (ring.gives_up opening s.order s.reach s.memory (map flight_of views) s.ring id
       (v.working).flight flies)
 
   pub pages-given_up : HasPagesWith opening words home views s
@@ -78,7 +78,7 @@ module _ {first : DiskState} (opening : Opening) (words : List ℕ) (home : Opti
         (after_join v u))
     ring-taken_in rests = subst Ring
         (sym (part_set_twice flight_of views other id (spent u) (after_join v u)))
-        (ring.takes_in opening.setup s.order s.reach s.memory (map flight_of views) s.ring id
+        (ring.takes_in opening s.order s.reach s.memory (map flight_of views) s.ring id
         (v.working).flight flies other (subst (λ (f : Flight). HasAt (map flight_of views) other f)
         rests.flight (part_at flight_of views other u there)))
 

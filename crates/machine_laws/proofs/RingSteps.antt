@@ -3,9 +3,9 @@
 use Rattle.std.proofs.Common.{◌≡◌, ◌⊎◌, ℕ, ◌+◌, true, List, [], ◌∷◌, ◌++◌, map, set, sym, refl, ap, ◌∙◌, subst, arith}
 use mathlib.Core.Option.{Option}
 use Rattle.wal_types.specs.declared.record.Record.{Record}
-use Rattle.wal_page.specs.Order.{Entry, end_position, prev_of}
+use Rattle.wal_page.specs.Order.{Entry}
 use Rattle.wal_core.specs.declared.setup.Setup.{Setup}
-use Rattle.wal_core.specs.Words.{initialised_word, written_word, end_word, word_of_ring}
+use Rattle.wal_core.specs.Words.{initialised_word, written_word, end_word, word_of_ring, order_end, last_start}
 use Rattle.wal_core.specs.Views.{HasAt, Place, Flight, Copying, Plain, View, reserving_of, flight_of, confirmed_of}
 use Rattle.wal_core.specs.Ordered.{AtPlace}
 use Rattle.wal_core.specs.Ringed.{RingHolds}
@@ -20,8 +20,8 @@ use Rattle.machine_laws.proofs.RingLaws as ring
 use Rattle.machine_laws.proofs.StoredWords.{is_mapped}
 use Rattle.segment_disk.specs.Tape.{DiskState}
 
-module _ {first : DiskState} (v : View) (words : List ℕ) (home : Option Plain) (views : List View) (id : ℕ)
-    (s : IsSound first v.opening words home views) (here : HasAt views id v) where
+module _ {first : DiskState} (v : View) (words : List ℕ) (home : Option Plain) (views : List View)
+    (id : ℕ) (s : IsSound first v.opening words home views) (here : HasAt views id v) where
   abbrev setup : Setup
   setup = (v.opening).setup
 
@@ -31,11 +31,11 @@ module _ {first : DiskState} (v : View) (words : List ℕ) (home : Option Plain)
   -- the ring behind a step, by the flight that its view has then
   ring_by : (e : StepKind) (order : List Entry) (reach : ℕ) (memory : ℕ → ℕ) (f : Flight)
       → flight_of (view_behind v e (met_by v words home views id e) home) ≡ f
-      → RingHolds setup order reach memory (set flights id f)
+      → RingHolds v.opening order reach memory (set flights id f)
       → HasRing v words home views id e order reach memory
   ring_by e order reach memory f is holds =
       let w : View = view_behind v e (met_by v words home views id e) home in
-      subst (λ (fs : List Flight). RingHolds setup order reach memory fs)
+      subst (λ (fs : List Flight). RingHolds v.opening order reach memory fs)
       (sym (part_set flight_of views id w ∙ ap (λ (x : Flight). set flights id x) is)) holds
 
   flies : HasAt flights id (v.working).flight
@@ -48,14 +48,14 @@ module _ {first : DiskState} (v : View) (words : List ℕ) (home : Option Plain)
   ring_behind-reserved locks value live may =
       let e : Entry = entry_reserved (v.reserving).number may.0 value in
       let place = subst
-      (AtPlace setup.segment_size (end_position setup.segment_size s.order)
-      (prev_of setup.segment_size 0 s.order) _ _ _ _) may.2
+      (AtPlace setup.segment_size (order_end v.opening s.order)
+      (last_start v.opening s.order) _ _ _ _) may.2
       ((s.reserved).places id v.reserving (part_at reserving_of views id v here) live) in
       ring_by (store_position locks value) (s.order ++ e ∷ []) s.reach s.memory
       (Copying (record { entry = e; prev = may.1; locks = locks; copied = 0 }))
       (subst (λ (p : Place). flight_of (after_store_position locks value (with_place p v))
       ≡ Copying (record { entry = e; prev = may.1; locks = locks; copied = 0 })) (sym may.2) refl)
-      (ring.reserves setup s.order s.reach s.memory flights s.ring (s.setup_is).size
+      (ring.reserves v.opening s.order s.reach s.memory flights s.ring (s.setup_is).size
       (s.reserved).chained id e may.1 locks
       (subst (λ (f : Flight). HasAt flights id f) may.6 flies) place.2 place.4)
 
@@ -63,8 +63,8 @@ module _ {first : DiskState} (v : View) (words : List ℕ) (home : Option Plain)
       → HasRing v words home views id (release lock) s.order s.reach s.memory
   ring_behind-released lock may = ring_by (release lock) s.order s.reach s.memory
       (landed lock (v.working).flight) refl
-      (ring.releases setup s.order s.reach s.memory flights s.ring (s.setup_is).size
-      (s.reserved).chained id (v.working).flight flies lock may.1)
+      (ring.releases v.opening s.order s.reach s.memory flights s.ring (s.setup_is).size
+      (s.reserved).chained (s.reserved).placed id (v.working).flight flies lock may.1)
 
   module _ (may : MayStep v store_ring_word) where
     copy_flies : HasAt flights id (Copying may.0)
@@ -82,8 +82,9 @@ module _ {first : DiskState} (v : View) (words : List ℕ) (home : Option Plain)
     ring_behind-stored =
         ring_by store_ring_word s.order s.reach (memory_stored v s.memory)
         (one_more (Copying may.0)) (ap one_more may.1)
-        (ring.copies setup s.order s.reach s.memory flights s.ring (s.setup_is).size
-        (s.reserved).chained id may.0 (memory_stored v s.memory) copy_flies (may.2).left
+        (ring.copies v.opening s.order s.reach s.memory flights s.ring (s.setup_is).size
+        (s.reserved).chained (s.reserved).placed id may.0 (memory_stored v s.memory) copy_flies
+        (may.2).left
         (is_mapped setup s.reach s.stage (initialised_word words) (written_word words)
         (end_word words) (word_of_ring setup words) s.memory (map confirmed_of views) s.pages may.0
         id (v.mapping).confirmed (part_at confirmed_of views id v here) may.2)
@@ -91,13 +92,13 @@ module _ {first : DiskState} (v : View) (words : List ℕ) (home : Option Plain)
 
     -- in memory the word turns from 0, or stays
     pub memory_turns : (n : ℕ) → (s.memory n ≡ 0) ⊎ (s.memory n ≡ memory_stored v s.memory n)
-    memory_turns = ring.memory_grows setup s.order s.reach s.memory flights s.ring
-        (s.setup_is).size (s.reserved).chained id may.0 copy_flies (may.2).left
+    memory_turns = ring.memory_grows v.opening s.order s.reach s.memory flights s.ring
+        (s.setup_is).size (s.reserved).chained (s.reserved).placed id may.0 copy_flies (may.2).left
         (memory_stored v s.memory) next_put
 
   pub ring_behind-published : HasRing v words home views id publish_end s.order (s.reach + 1)
       s.memory
   ring_behind-published = ring_by publish_end s.order (s.reach + 1) s.memory (v.working).flight refl
-      (ring.reaches setup s.order s.reach s.memory (set flights id (v.working).flight)
-      (ring.stays setup s.order s.reach s.memory flights s.ring id (v.working).flight flies)
+      (ring.reaches v.opening s.order s.reach s.memory (set flights id (v.working).flight)
+      (ring.stays v.opening s.order s.reach s.memory flights s.ring id (v.working).flight flies)
       (s.reach + 1) (omega arith))

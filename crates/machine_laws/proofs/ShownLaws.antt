@@ -176,7 +176,7 @@ module _ {first : DiskState} (opening : Opening) (words : List ℕ) (home : Opti
       u.2 under.1 (omega arith) (omega arith) in
       omega arith
 
-  pub words_are_logs : WordsAreLogs setup s.order words views
+  pub words_are_logs : WordsAreLogs opening s.order words views
   words_are_logs = record {
     ring = λ n here. let same = word_is n here in
         ⊎_elim (λ t. inl (same ∙ t)) (λ t. inr (same ∙ t.0, t.1)) ((s.ring).words n);
@@ -202,8 +202,8 @@ module _ {first : DiskState} (opening : Opening) (words : List ℕ) (home : Opti
 
   -- where a page is present, what is the log's in memory is so in the ring
   in_ring : (address : ℕ)
-      → s.memory (address / 8) ≡ log_word_of setup s.order address
-      → HasLogWord setup s.order words address
+      → s.memory (address / 8) ≡ log_word_of opening s.order address
+      → HasLogWord opening s.order words address
   in_ring address is here = word_is (address / 8)
       (subst (λ (page : ℕ). IsPresent setup words page) (omega arith) here) ∙ is
 
@@ -213,28 +213,29 @@ module _ {first : DiskState} (opening : Opening) (words : List ℕ) (home : Opti
   flies id v c here is = subst (λ (f : Flight). HasAt (map flight_of views) id f) is
       (part_at flight_of views id v here)
 
-  pub entries_are_copied : EntriesAreCopied setup s.order words views
+  pub entries_are_copied : EntriesAreCopied opening s.order words views
   entries_are_copied = record {
     once = λ i j v w c d one other copies this.
         (s.ring).alone i j c d (flies i v c one copies) (flies j w d other this);
     copied = λ id v c n here is low. in_ring (address_of_word setup.segment_size c.entry n)
-        (copied-stored setup s.order s.reach s.memory (map flight_of views) s.ring
-        (s.setup_is).size (s.reserved).chained id c (flies id v c here is) n low);
+        (copied-stored opening s.order s.reach s.memory (map flight_of views) s.ring
+        (s.setup_is).size (s.reserved).placed (s.reserved).chained id c (flies id v c here is) n
+        low);
     landed = λ front back e n are nowhere owned. in_ring (address_of_word setup.segment_size e n)
-        (landed-stored setup s.order s.reach s.memory (map flight_of views) s.ring
-        (s.setup_is).size (s.reserved).chained front back e are n owned
+        (landed-stored opening s.order s.reach s.memory (map flight_of views) s.ring
+        (s.setup_is).size (s.reserved).placed (s.reserved).chained front back e are n owned
         (λ id c there. let u = view_from flight_of views id (Copying c) there in
         nowhere id u.0 c u.1 u.2));
   }
 
-  pub pages_are_present : PagesArePresent setup s.order words views
+  pub pages_are_present : PagesArePresent opening s.order words views
   pages_are_present = record {
     mapped = λ page low past.
         in_window page past (⊎_elim (λ e. omega arith) (λ t. let e = t.0 in omega arith) upto);
     met = λ id v page address here confirmed from to w.
         let seen = k.seen id (v.mapping).confirmed (part_at confirmed_of views id v here) in
-        let left = awaited-left setup s.order s.reach s.memory (map flight_of views) s.ring
-        (s.setup_is).size (s.reserved).chained address w in
+        let left = awaited-left opening s.order s.reach s.memory (map flight_of views) s.ring
+        (s.setup_is).size (s.reserved).chained (s.reserved).placed address w in
         let unwritten = (s.positions).copied w.id w.copy w.in_flight left in
         let written_low = (s.positions).written_low in
         let next = w.from in
@@ -262,7 +263,7 @@ module _ {first : DiskState} (opening : Opening) (words : List ℕ) (home : Opti
         upto;
   }
 
-  pub mappers_are_next : MappersAreNext setup s.order words views
+  pub mappers_are_next : MappersAreNext opening s.order words views
   mappers_are_next = record {
     page = λ id v here looked.
         page_is pages k.low s.reach initialised written (word_of_ring setup words)

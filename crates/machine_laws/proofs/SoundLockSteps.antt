@@ -1,8 +1,7 @@
 -- What a step rests on, in a sound state.
 use Rattle.std.proofs.Common.{◌≡◌, ℕ, true, List, map, slice_index, ap, subst}
 use mathlib.Core.Option.{Option}
-use Rattle.wal_page.specs.Order.{end_position, prev_of}
-use Rattle.wal_core.specs.Words.{Opening, prev_word}
+use Rattle.wal_core.specs.Words.{Opening, prev_word, order_end, last_start}
 use Rattle.wal_core.specs.Views.{HasAt, Place, Plain, Reserving, View, reserving_of}
 use Rattle.wal_core.specs.Ordered.{AtPlace}
 use Rattle.wal_core.specs.Steps.{StepKind, MayStep, word_of_step, home_behind}
@@ -16,7 +15,7 @@ use Rattle.segment_disk.specs.Tape.{DiskState}
 module _ {first : DiskState} (opening : Opening) (words : List ℕ) (home : Option Plain) (views : List View)
     (k : IsSound first opening words home views) where
   -- what a sound state says of locks, watches and turns
-  pub works_now : WorksHold opening.setup k.order words views
+  pub works_now : WorksHold opening k.order words views
   works_now = record {
     held = (k.locks).locks;
     told = k.progress;
@@ -28,7 +27,7 @@ module _ {first : DiskState} (opening : Opening) (words : List ℕ) (home : Opti
 
   module _ (id : ℕ) (v : View) (here : HasAt views id v) (live : (v.reserving).live ≡ true) where
     -- a live view stands well in it
-    pub stands_now : StepsFrom opening.setup k.order words views id v
+    pub stands_now : StepsFrom opening k.order words views id v
     stands_now =
         let size : ℕ = (opening.setup).segment_size in
         let r : Reserving = v.reserving in
@@ -39,19 +38,19 @@ module _ {first : DiskState} (opening : Opening) (words : List ℕ) (home : Opti
           wide = k.wide;
           setup_is = ap (λ (o : Opening). o.setup) ((k.grounded id v here).opening_is live);
           seen = ((k.reserved).views id r part live).seen;
-          starts = λ at prev is. (subst (λ (p : Place). AtPlace size (end_position size k.order)
-              (prev_of size 0 k.order) (prev_word words) (k.reserved).locked
+          starts = λ at prev is. (subst (λ (p : Place). AtPlace size (order_end opening k.order)
+              (last_start opening k.order) (prev_word words) (k.reserved).locked
               (k.reserved).holder id p) is ((k.reserved).places id r part live)).2;
         }
 
     pub locks_behind : (e : StepKind) → MayStep v e
-        → WorksHold opening.setup (order_behind v e k.order) (words_behind words v e)
+        → WorksHold opening (order_behind v e k.order) (words_behind words v e)
         (views_behind words home views id v e)
         × TurnsHold (words_behind words v e) (home_behind v e home)
         (stage_behind v e (slice_index words (word_of_step v e)) k.stage)
         (writer_behind v e k.writer) (views_behind words home views id v e)
     locks_behind e may = (
-      works_behind opening.setup k.order words home views id v stands_now works_now e may,
+      works_behind opening k.order words home views id v stands_now works_now e may,
       turns_behind opening.setup words home k.stage k.writer views id v here k.wide (k.locks).locks
           turns_now e may,
     )

@@ -1,15 +1,15 @@
 -- A segment switch is reserved while nothing is in flight, and nothing else comes in flight before
 -- its last word is copied; the ring is zeros behind it.
-use Rattle.std.proofs.Common.{◌≡◌, ℕ, ◌+◌, ◌*◌, ◌/◌, ◌<◌, ◌≤◌, Bool, Contains, IsTrue, List, cond, refl, sym, ap, ◌∙◌, subst, ⊎_elim, arith}
+use Rattle.std.proofs.Common.{◌≡◌, ℕ, ◌+◌, ◌*◌, ◌/◌, ◌<◌, ◌≤◌, Bool, Contains, IsTrue, List, cond, refl, sym, ap, ◌∙◌, subst, ⊎_elim}
 use mathlib.Core.Option.{Option}
 use Rattle.segment_disk.specs.Tape.{DiskState}
 use Rattle.wal_types.specs.declared.record.Record.{Record}
 use Rattle.record_spelling.specs.Record.{is_switch, switch_record}
 use Rattle.record_spelling.proofs.SwitchLaws.{told_switched}
 use Rattle.wal_page.specs.EntryWords.{address_of_word, words_owned}
-use Rattle.wal_page.specs.Order.{Entry, IsChained, end_position}
-use Rattle.wal_page.proofs.LogWordLaws.{log_word-behind_switch}
-use Rattle.wal_core.specs.Words.{Opening, end_form, lock_word, word_of_ring}
+use Rattle.wal_page.specs.Order.{Entry}
+use Rattle.wal_page.proofs.PlaceLaws.{word_from-behind_switch}
+use Rattle.wal_core.specs.Words.{Opening, end_form, lock_word, word_of_ring, order_end, GoesOnAtPlace}
 use Rattle.wal_core.specs.Views.{HasAt, Copy, Flight, Landed, Copying, Plain, View, working_of}
 use Rattle.wal_core.specs.Locked.{most_told}
 use Rattle.wal_core.specs.Ringed.{log_word_of}
@@ -57,7 +57,7 @@ module _ {first : DiskState} (opening : Opening) (words : List ℕ) (home : Opti
       → CopiesBehindAllLocks (opening.setup).segment_size words views id v c
   stands_alone id v c k here copies switches left =
       let size = (opening.setup).segment_size in
-      let end = end_form opening.setup (end_position size k.order) in
+      let end = end_form opening.setup (order_end opening k.order) in
       let mine = part_at working_of views id v here in
       let under : (lock : ℕ) → lock < 8 → Contains c.locks lock =
       k.alone id v.working mine c copies switches left in
@@ -85,10 +85,10 @@ module _ {first : DiskState} (opening : Opening) (words : List ℕ) (home : Opti
       → word_of_ring opening.setup words (ring_place opening.setup k) ≡ 0
   zeros_behind s k b present =
       let size = (opening.setup).segment_size in
-      let zero : log_word_of opening.setup s.order (8 * k) ≡ 0 =
-      ap (λ (es : List Entry). log_word_of opening.setup es (8 * k)) b.are
-      ∙ log_word-behind_switch size (opening.setup).sysid (s.setup_is).size b.front b.back b.entry
-      (subst (IsChained size) b.are (s.reserved).chained) b.switches (8 * k) (omega arith) b.behind
-      b.before_next in
+      let zero : log_word_of opening s.order (8 * k) ≡ 0 =
+      ap (λ (es : List Entry). log_word_of opening es (8 * k)) b.are
+      ∙ word_from-behind_switch size (opening.setup).sysid (s.setup_is).size opening.place b.front
+      b.back b.entry (subst (GoesOnAtPlace opening) b.are (s.reserved).chained) b.switches (8 * k)
+      b.behind b.before_next in
       ⊎_elim (λ own. own ∙ zero) (λ awaited. awaited.0)
       ((words_are_logs opening words home views s).ring k present)

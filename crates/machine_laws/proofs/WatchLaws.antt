@@ -8,11 +8,11 @@ use native.Mathlib.Decide.{ℕ_discrete}
 use Rattle.atomic_table.proofs.Lists.{set_again, set_else}
 use Rattle.byte_position.specs.Geometry.{IsSegmentSize}
 use Rattle.byte_position.proofs.EndAddresses.{end_address_of-mono}
-use Rattle.wal_page.specs.Order.{Entry, end_position}
+use Rattle.wal_page.specs.Order.{Entry}
 use Rattle.wal_page.specs.EntryWords.{address_of_word}
 use Rattle.wal_page.proofs.OrderLaws.{rooms_of_push}
 use Rattle.wal_core.specs.declared.setup.Setup.{Setup}
-use Rattle.wal_core.specs.Words.{end_form}
+use Rattle.wal_core.specs.Words.{end_form, order_end, Opening}
 use Rattle.wal_core.specs.Views.{HasAt, Copy, Flight, Landed, Copying, Working, is_among, Watching, View, working_of, watching_of, flight_of}
 use Rattle.wal_core.specs.Locked.{AreHeld, ProgressHolds, most_told}
 use Rattle.wal_core.specs.Moves.{landed, one_more, is_landed, is_own, begun, visited_on, copied_below, with_working, after_load_lock, after_take_lock}
@@ -257,21 +257,22 @@ module _ (size : ℕ) (lock : ℕ → ℕ) (works : List Working) (held : AreHel
         (word_tells i (min x.bound (lock i - 1)) (λ some. omega arith)))))
         (λ other. stands)
 
-  module _ (setup : Setup) (valid : IsSegmentSize setup.segment_size) (order : List Entry) where
+  module _ (opening : Opening) (valid : IsSegmentSize opening.setup.segment_size)
+      (order : List Entry) where
     pub watch_visits : (watches : List Watching) (id i limit : ℕ) (v : View)
-        → (v.opening).setup ≡ setup
-        → (v.reserving).seen ≤ end_position setup.segment_size order
-        → WatchHolds size (end_form setup (end_position setup.segment_size order)) works watches
+        → (v.opening).setup ≡ opening.setup
+        → (v.reserving).seen ≤ order_end opening order
+        → WatchHolds size (end_form opening.setup (order_end opening order)) works watches
         → HasAt works id v.working → HasAt watches id v.watching
-        → WatchHolds size (end_form setup (end_position setup.segment_size order)) works
+        → WatchHolds size (end_form opening.setup (order_end opening order)) works
         (set watches id (watching_of (after_load_lock i limit (lock i) v)))
     watch_visits watches id i limit v known seen k mine here =
-        let end : ℕ = end_form setup (end_position setup.segment_size order) in
+        let end : ℕ = end_form opening.setup (order_end opening order) in
         let e : ℕ = min limit (end_form (v.opening).setup (v.reserving).seen) in
         let met : end_form (v.opening).setup (v.reserving).seen ≤ end
         = subst (λ (s : Setup). end_form s (v.reserving).seen ≤ end) (sym known)
-        (end_address_of-mono setup.segment_size valid (v.reserving).seen
-        (end_position setup.segment_size order) seen) in
+        (end_address_of-mono opening.setup.segment_size valid (v.reserving).seen
+        (order_end opening order) seen) in
         let first : Watching = record { end = e; visited = 0; bound = e } in
         let before : Stands end (begun i limit v) = met_cases
         (λ (b : Bool). Stands end (cond b first v.watching)) i 0
@@ -329,26 +330,27 @@ module _ (size end : ℕ) (lock : ℕ → ℕ) (views : List View)
 
 -- ---- an entry more
 
-pub watched_reserved : (setup : Setup) (order : List Entry) (works : List Working)
+pub watched_reserved : (opening : Opening) (order : List Entry) (works : List Working)
     (watches : List Watching) (id : ℕ) (c : Copy) (locks : List ℕ)
-    → IsSegmentSize setup.segment_size
-    → WatchHolds setup.segment_size
-    (end_form setup (end_position setup.segment_size order)) works watches
-    → (c.entry).start ≡ end_position setup.segment_size order
-    → WatchHolds setup.segment_size
-    (end_form setup (end_position setup.segment_size (order ++ c.entry ∷ [])))
+    → IsSegmentSize opening.setup.segment_size
+    → WatchHolds opening.setup.segment_size
+    (end_form opening.setup (order_end opening order)) works watches
+    → (c.entry).start ≡ order_end opening order
+    → WatchHolds opening.setup.segment_size
+    (end_form opening.setup (order_end opening (order ++ c.entry ∷ [])))
     (set works id (record { locks = locks; flight = Copying c })) watches
-watched_reserved setup order works watches id c locks valid k starts =
-    let size : ℕ = setup.segment_size in
+watched_reserved opening order works watches id c locks valid k starts =
+    let size : ℕ = opening.setup.segment_size in
     let rooms = rooms_of_push size order c.entry in
-    let up : end_form setup (end_position size order)
-    ≤ end_form setup (end_position size (order ++ c.entry ∷ []))
-    = end_address_of-mono size valid (end_position size order)
-    (end_position size (order ++ c.entry ∷ [])) (omega arith) in
-    let first : end_form setup (c.entry).start ≡ end_form setup (end_position size order)
-    = ap (λ (n : ℕ). end_form setup n) starts in
-    watched_begun size (end_form setup (end_position size order)) works watches k id
-    (end_form setup (end_position size (order ++ c.entry ∷ []))) c locks up (omega arith)
+    let up : end_form opening.setup (order_end opening order)
+    ≤ end_form opening.setup (order_end opening (order ++ c.entry ∷ []))
+    = end_address_of-mono size valid (order_end opening order)
+    (order_end opening (order ++ c.entry ∷ [])) (omega arith) in
+    let first : end_form opening.setup (c.entry).start
+    ≡ end_form opening.setup (order_end opening order)
+    = ap (λ (n : ℕ). end_form opening.setup n) starts in
+    watched_begun size (end_form opening.setup (order_end opening order)) works watches k id
+    (end_form opening.setup (order_end opening (order ++ c.entry ∷ []))) c locks up (omega arith)
 
 pub watched_asked : (size end : ℕ) (works : List Working) (watches : List Watching) (id i : ℕ)
     (v : View) → WatchHolds size end works watches → HasAt works id v.working → (met : ℕ)

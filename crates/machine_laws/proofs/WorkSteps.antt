@@ -3,11 +3,11 @@
 use Rattle.std.proofs.Common.{◌≡◌, ◌⊎◌, ℕ, ◌+◌, ◌<◌, ◌≤◌, Bool, cond, eqb, List, [], ◌∷◌, ◌++◌, map, set, slice_index, inl, inr, sym, refl, ap, ◌∙◌, subst, arith}
 use mathlib.Core.Option.{Option, none, some}
 use Rattle.wal_types.specs.declared.record.Record.{Record}
-use Rattle.wal_page.specs.Order.{Entry, end_position}
+use Rattle.wal_page.specs.Order.{Entry}
 use Rattle.byte_position.proofs.EndAddresses.{end_address_of-mono}
 use Rattle.wal_page.proofs.OrderLaws.{rooms_of_push}
 use Rattle.wal_core.specs.declared.setup.Setup.{Setup}
-use Rattle.wal_core.specs.Words.{lock_word, end_form, mapping_turn_number, write_turn_number, initialised_number, written_number, flushed_number, moment_number, down_number, ends_number, lock_number}
+use Rattle.wal_core.specs.Words.{lock_word, end_form, mapping_turn_number, write_turn_number, initialised_number, written_number, flushed_number, moment_number, down_number, ends_number, lock_number, order_end, Opening}
 use Rattle.wal_core.specs.Views.{HasAt, Taken, Place, Free, Locked, Loaded, Stored, StopCause, LogFull, AtSegmentStart, Copy, Copying, Hold, Idle, Turned, Out, Plain, Working, Watching, View, working_of, watching_of}
 use Rattle.wal_core.specs.Locked.{AreHeld, ProgressHolds, most_told}
 use Rattle.wal_core.specs.Watched.{WatchHolds}
@@ -75,9 +75,12 @@ watch_on_take lock met v = met_cases
 far : (pages place : ℕ) → mapping_turn_number ≤ ends_number + pages + place
 far pages place = omega arith
 
-module _ (setup : Setup) (order : List Entry) (words : List ℕ) (home : Option Plain)
-    (views : List View) (id : ℕ) (v : View) (s : StepsFrom setup order words views id v)
-    (k : WorksHold setup order words views) where
+module _ (opening : Opening) (order : List Entry) (words : List ℕ) (home : Option Plain)
+    (views : List View) (id : ℕ) (v : View) (s : StepsFrom opening order words views id v)
+    (k : WorksHold opening order words views) where
+  abbrev size : ℕ
+  size = opening.setup.segment_size
+
   abbrev parts : List Working
   parts = map working_of views
 
@@ -85,14 +88,14 @@ module _ (setup : Setup) (order : List Entry) (words : List ℕ) (home : Option 
   watches = map watching_of views
 
   abbrev end : ℕ
-  end = end_form setup (end_position setup.segment_size order)
+  end = end_form opening.setup (order_end opening order)
 
   mine : HasAt parts id v.working
   mine = part_at working_of views id v s.here
 
   -- where a step changes no lock's word, and in its view neither its work nor its watch
   stays : (i n : ℕ) (w : View) → (i < 2) ⊎ (mapping_turn_number ≤ i) → WorksAs v w
-      → WorksHold setup order (set words i n) (set views id w)
+      → WorksHold opening order (set words i n) (set views id w)
   stays i n w away like =
       let same = part_same working_of views id v w s.here like.0 in
       let seen = part_same watching_of views id v w s.here like.1 in
@@ -101,111 +104,111 @@ module _ (setup : Setup) (order : List Entry) (words : List ℕ) (home : Option 
         held = subst (λ (ps : List Working). AreHeld (lock_word (set words i n)) ps) (sym same)
             (held_same (lock_word words) parts k.held (lock_word (set words i n)) others);
         told = subst (λ (ps : List Working).
-            ProgressHolds setup.segment_size end (lock_word (set words i n)) ps) (sym same)
-            (told_same setup.segment_size end (lock_word words) parts k.told k.held
+            ProgressHolds size end (lock_word (set words i n)) ps) (sym same)
+            (told_same size end (lock_word words) parts k.told k.held
             (lock_word (set words i n)) others);
         watched = subst (λ (x : List Working × List Watching).
-            WatchHolds setup.segment_size end x.0 x.1)
+            WatchHolds size end x.0 x.1)
             (λ j. (sym same j, sym seen j)) k.watched;
       }
 
   -- where a step changes its view's work alone
   works : (order' : List Entry) (words' : List ℕ) (w : View) → watching_of w ≡ watching_of v
       → AreHeld (lock_word words') (set parts id (working_of w))
-      → ProgressHolds setup.segment_size (end_form setup (end_position setup.segment_size order'))
+      → ProgressHolds size (end_form opening.setup (order_end opening order'))
       (lock_word words') (set parts id (working_of w))
-      → WatchHolds setup.segment_size
-      (end_form setup (end_position setup.segment_size order'))
+      → WatchHolds size
+      (end_form opening.setup (order_end opening order'))
       (set parts id (working_of w)) watches
-      → WorksHold setup order' words' (set views id w)
+      → WorksHold opening order' words' (set views id w)
   works order' words' w like held told watched =
       let set_as = part_set working_of views id w in
       let seen = part_same watching_of views id v w s.here like in
       record {
         held = subst (λ (ps : List Working). AreHeld (lock_word words') ps) (sym set_as) held;
         told = subst (λ (ps : List Working).
-            ProgressHolds setup.segment_size (end_form setup
-            (end_position setup.segment_size order')) (lock_word words') ps) (sym set_as) told;
-        watched = subst (λ (x : List Working × List Watching). WatchHolds setup.segment_size
-            (end_form setup (end_position setup.segment_size order')) x.0 x.1)
+            ProgressHolds size (end_form opening.setup
+            (order_end opening order')) (lock_word words') ps) (sym set_as) told;
+        watched = subst (λ (x : List Working × List Watching). WatchHolds size
+            (end_form opening.setup (order_end opening order')) x.0 x.1)
             (λ j. (sym set_as j, sym seen j)) watched;
       }
 
   -- where a step changes a lock's word alone
   words_only : (words' : List ℕ) (w : View) → working_of w ≡ working_of v
       → watching_of w ≡ watching_of v → AreHeld (lock_word words') parts
-      → ProgressHolds setup.segment_size end (lock_word words') parts
-      → WorksHold setup order words' (set views id w)
+      → ProgressHolds size end (lock_word words') parts
+      → WorksHold opening order words' (set views id w)
   words_only words' w like watches_on held told =
       let same = part_same working_of views id v w s.here like in
       let seen = part_same watching_of views id v w s.here watches_on in
       record {
         held = subst (λ (ps : List Working). AreHeld (lock_word words') ps) (sym same) held;
-        told = subst (λ (ps : List Working). ProgressHolds setup.segment_size end (lock_word words') ps)
+        told = subst (λ (ps : List Working). ProgressHolds size end (lock_word words') ps)
             (sym same) told;
         watched = subst (λ (x : List Working × List Watching).
-            WatchHolds setup.segment_size end x.0 x.1)
+            WatchHolds size end x.0 x.1)
             (λ j. (sym same j, sym seen j)) k.watched;
       }
 
   -- ---- the steps that change a view's work or its watch
 
   take_lock_works : (lock : ℕ) → MayStep v (take_lock lock)
-      → WorksHold setup order (words_behind words v (take_lock lock))
+      → WorksHold opening order (words_behind words v (take_lock lock))
       (views_behind words home views id v (take_lock lock))
   take_lock_works lock low =
       let e : StepKind = take_lock lock in
       let n : ℕ = value_behind v e (lock_word words lock) in
       let later : ℕ → ℕ = lock_word (set words (lock_number lock) n) in
-      let is : later lock ≡ n = lock_set words setup s.wide lock n low in
+      let is : later lock ≡ n = lock_set words opening.setup s.wide lock n low in
       works order (set words (lock_number lock) n) (after_take_lock lock (lock_word words lock) v)
       (watch_on_take lock (lock_word words lock) v)
       (held_asked (lock_word words) parts k.held id v.working mine v refl later lock low
       (λ j below ne. lock_else words lock n j ne) is)
-      (told_asked setup.segment_size end (lock_word words) parts k.told k.held id v.working mine later
+      (told_asked size end (lock_word words) parts k.told k.held id v.working mine later
       lock (λ j below ne. lock_else words lock n j ne) v refl is)
-      (watched_asked setup.segment_size end parts watches id lock v k.watched mine
+      (watched_asked size end parts watches id lock v k.watched mine
       (lock_word words lock))
 
   advance_works : (lock upto : ℕ) → MayStep v (advance lock upto)
-      → WorksHold setup order (words_behind words v (advance lock upto))
+      → WorksHold opening order (words_behind words v (advance lock upto))
       (views_behind words home views id v (advance lock upto))
   advance_works lock upto may =
       let n : ℕ = upto + 1 in
       let later : ℕ → ℕ = lock_word (set words (lock_number lock) n) in
       let low : lock < 8 = (k.held.each id lock v.working mine may.0).0 in
-      let is : later lock ≡ n = lock_set words setup s.wide lock n low in
-      let up : end_form setup (v.reserving).seen ≤ end
-      = end_address_of-mono setup.segment_size s.size (v.reserving).seen
-      (end_position setup.segment_size order) s.seen in
-      let seen : upto < most_told setup.segment_size (end_form setup (v.reserving).seen) lock
+      let is : later lock ≡ n = lock_set words opening.setup s.wide lock n low in
+      let up : end_form opening.setup (v.reserving).seen ≤ end
+      = end_address_of-mono size s.size (v.reserving).seen
+      (order_end opening order) s.seen in
+      let seen : upto < most_told size (end_form opening.setup (v.reserving).seen) lock
       (v.working).flight
       = subst (λ (x : Setup). upto < most_told x.segment_size (end_form x (v.reserving).seen) lock
       (v.working).flight) s.setup_is may.1 in
-      let least = most_told_later setup.segment_size (end_form setup (v.reserving).seen) end lock
+      let least = most_told_later size (end_form opening.setup (v.reserving).seen) end lock
       (v.working).flight up in
       words_only (set words (lock_number lock) n) (after_advance lock upto v) refl refl
       (held_told (lock_word words) parts k.held id v.working mine later lock may.0
       (λ j below ne. lock_else words lock n j ne) (λ z. let no = sym is ∙ z in omega arith))
-      (told_advanced setup.segment_size end (lock_word words) parts k.told k.held id v.working mine
+      (told_advanced size end (lock_word words) parts k.told k.held id v.working mine
       later lock (λ j below ne. lock_else words lock n j ne) may.0 (omega (arith, least, is)))
 
   release_works : (lock : ℕ) → MayStep v (release lock)
-      → WorksHold setup order (words_behind words v (release lock))
+      → WorksHold opening order (words_behind words v (release lock))
       (views_behind words home views id v (release lock))
   release_works lock may =
       let later : ℕ → ℕ = lock_word (set words (lock_number lock) 0) in
       let low : lock < 8 = (k.held.each id lock v.working mine may.0).0 in
-      let is : later lock ≡ 0 = lock_set words setup s.wide lock 0 low in
+      let is : later lock ≡ 0 = lock_set words opening.setup s.wide lock 0 low in
       works order (set words (lock_number lock) 0) (after_release lock v) refl
       (held_released (lock_word words) parts k.held id v.working mine later lock may.0 is
       (λ j below ne. lock_else words lock 0 j ne))
-      (told_released setup.segment_size end (lock_word words) parts k.told k.held id v.working mine
+      (told_released size end (lock_word words) parts k.told k.held id v.working mine
       later lock (λ j below ne. lock_else words lock 0 j ne) may.0 is)
-      (watched_released setup.segment_size end parts watches k.watched id v.working mine lock
+      (watched_released size end parts watches k.watched id v.working mine lock
       (after_release lock v).working.locks)
 
-  store_word_works : WorksHold setup order (words_behind words v store_ring_word)
+  store_word_works : WorksHold opening order (words_behind words v store_ring_word)
       (views_behind words home views id v store_ring_word)
   store_word_works =
       let i : ℕ = word_of_step v store_ring_word in
@@ -217,20 +220,20 @@ module _ (setup : Setup) (order : List Entry) (words : List ℕ) (home : Option 
       = held_copied_on (lock_word words) parts k.held id v.working mine in
       works order (set words i n) (after_store_word v) refl
       (held_same (lock_word words) after held (lock_word (set words i n)) others)
-      (told_same setup.segment_size end (lock_word words) after
-      (told_copied_on setup.segment_size end (lock_word words) parts k.told id v.working mine)
+      (told_same size end (lock_word words) after
+      (told_copied_on size end (lock_word words) parts k.told id v.working mine)
       held (lock_word (set words i n)) others)
-      (watched_copied_on setup.segment_size end parts watches k.watched id v.working mine)
+      (watched_copied_on size end parts watches k.watched id v.working mine)
 
   -- the entry that is reserved, where the view's place is told
   abbrev ReservedAt : List ℕ → Record → Place → Type 0
-  ReservedAt locks value p = WorksHold setup
+  ReservedAt locks value p = WorksHold opening
       (order ++ entry_reserved (v.reserving).number (place_at v p) value ∷ [])
       (set words 0 (value_behind (with_place p v) (store_position locks value) 0))
       (set views id (after_store_position locks value (with_place p v)))
 
   store_position_works : (locks : List ℕ) (value : Record) → MayStep v (store_position locks value)
-      → WorksHold setup (order_behind v (store_position locks value) order)
+      → WorksHold opening (order_behind v (store_position locks value) order)
       (words_behind words v (store_position locks value))
       (views_behind words home views id v (store_position locks value))
   store_position_works locks value may =
@@ -249,51 +252,52 @@ module _ (setup : Setup) (order : List Entry) (words : List ℕ) (home : Option 
       = set parts id (record { locks = (v.working).locks; flight = Copying c }) in
       let held : AreHeld (lock_word words) after
       = held_begun (lock_word words) parts k.held id v.working mine c may.5 in
-      let starts : at ≡ end_position setup.segment_size order = s.starts at prev may.2 in
-      let first : end_form setup at ≡ end = ap (λ (n : ℕ). end_form setup n) starts in
-      let rooms = rooms_of_push setup.segment_size order c.entry in
-      let later_end : ℕ = end_form setup
-      (end_position setup.segment_size (order ++ c.entry ∷ [])) in
-      let up : end ≤ later_end = end_address_of-mono setup.segment_size s.size
-      (end_position setup.segment_size order)
-      (end_position setup.segment_size (order ++ c.entry ∷ [])) (omega (arith, rooms)) in
+      let starts : at ≡ order_end opening order = s.starts at prev may.2 in
+      let first : end_form opening.setup at ≡ end
+      = ap (λ (n : ℕ). end_form opening.setup n) starts in
+      let rooms = rooms_of_push size order c.entry in
+      let later_end : ℕ = end_form opening.setup
+      (order_end opening (order ++ c.entry ∷ [])) in
+      let up : end ≤ later_end = end_address_of-mono size s.size
+      (order_end opening order)
+      (order_end opening (order ++ c.entry ∷ [])) (omega (arith, rooms)) in
       subst (ReservedAt locks value) (sym may.2)
       (works (order ++ c.entry ∷ []) (set words 0 n)
       (after_store_position locks value (with_place (Stored at prev) v)) refl
       (held_same (lock_word words) after held (lock_word (set words 0 n)) others)
-      (told_same setup.segment_size later_end (lock_word words) after
-      (told_later setup.segment_size end later_end (lock_word words) after up
-      (told_begun setup.segment_size end (lock_word words) parts k.told id v.working mine c may.6
+      (told_same size later_end (lock_word words) after
+      (told_later size end later_end (lock_word words) after up
+      (told_begun size end (lock_word words) parts k.told id v.working mine c may.6
       (omega (arith, first))))
       held (lock_word (set words 0 n)) others)
-      (watched_reserved setup order parts watches id c (v.working).locks s.size k.watched
+      (watched_reserved opening order parts watches id c (v.working).locks s.size k.watched
       starts))
 
-  load_lock_works : (lock limit : ℕ) → WorksHold setup order
+  load_lock_works : (lock limit : ℕ) → WorksHold opening order
       (words_behind words v (load_lock lock limit))
       (views_behind words home views id v (load_lock lock limit))
   load_lock_works lock limit =
       let w : View = after_load_lock lock limit (lock_word words lock) v in
       let same = part_same working_of views id v w s.here refl in
       let seen = part_set watching_of views id w in
-      subst (λ (ws : List ℕ). WorksHold setup order ws (set views id w))
+      subst (λ (ws : List ℕ). WorksHold opening order ws (set views id w))
       (sym (word_again words (lock_number lock)))
       (record {
         held = subst (λ (ps : List Working). AreHeld (lock_word words) ps) (sym same) k.held;
-        told = subst (λ (ps : List Working). ProgressHolds setup.segment_size end (lock_word words) ps)
+        told = subst (λ (ps : List Working). ProgressHolds size end (lock_word words) ps)
             (sym same) k.told;
         watched = subst (λ (x : List Working × List Watching).
-            WatchHolds setup.segment_size end x.0 x.1)
+            WatchHolds size end x.0 x.1)
             (λ j. (sym same j, sym seen j))
-            (watch_visits setup.segment_size (lock_word words) parts k.held end k.told setup s.size
-            order watches id lock limit v s.setup_is s.seen k.watched mine
+            (watch_visits size (lock_word words) parts k.held end k.told
+            opening s.size order watches id lock limit v s.setup_is s.seen k.watched mine
             (part_at watching_of views id v s.here));
       })
 
   -- ---- every step
 
   pub works_behind : (e : StepKind) → MayStep v e
-      → WorksHold setup (order_behind v e order) (words_behind words v e)
+      → WorksHold opening (order_behind v e order) (words_behind words v e)
       (views_behind words home views id v e)
   works_behind load_position may = stays 0 _ _ (inl (omega arith)) (refl, refl)
   works_behind take_write_turn may = stays write_turn_number _ _ (inr (omega arith))

@@ -1,12 +1,12 @@
 -- The end of a log: what holds once one pass has all numbers of it, and is about nothing.
-use Rattle.std.specs.Prelude.{◌≡◌, ◌≢◌, ℕ, ◌*◌, ◌/◌, ◌<◌, ◌≤◌, true, List, [], ◌∷◌, length, IfSome}
+use Rattle.std.specs.Prelude.{◌≡◌, ◌≢◌, ℕ, ◌*◌, ◌/◌, ◌<◌, ◌≤◌, true, List, [], ◌∷◌, length, IfSome, All, IsSome}
 use mathlib.Core.Option.{Option, some}
 use Rattle.segment_disk.specs.Tape.{DiskState, state_now}
-use Rattle.wal_page.specs.Order.{Entry, IsChained, end_position, prev_of}
-use Rattle.wal_core.specs.Words.{Opening, position_word, prev_word, lock_word, mapping_turn, write_turn, written_word, flushed_word, moment_word, down_word, word_of_ring, end_form, log_limit}
+use Rattle.wal_page.specs.Order.{Entry}
+use Rattle.wal_core.specs.Words.{Opening, position_word, prev_word, lock_word, mapping_turn, write_turn, written_word, flushed_word, moment_word, down_word, word_of_ring, end_form, log_limit, order_end, last_start, GoesOnAtPlace}
 use Rattle.wal_core.specs.Suited.{IfSuited}
 use Rattle.wal_core.specs.Views.{HasAt, Landed, Plain, Reserving, View, receipts_of}
-use Rattle.wal_core.specs.Ordered.{entries_under, BeginsWith, TookIn}
+use Rattle.wal_core.specs.Ordered.{entries_under, TookIn}
 use Rattle.wal_core.specs.Ringed.{log_word_of}
 use Rattle.wal_core.specs.Positioned.{ReadsBelow}
 use Rattle.wal_core.specs.Durable.{IsOnDisk, one_if_some, setters_of}
@@ -32,17 +32,16 @@ module _ (opening : Opening) (order : List Entry) (words : List ℕ) where
 
   -- the position is not locked, nobody has a turn, and the words tell the order's end
   pub record WordsAreFree : Type 0 where
-    pub position : position_word words ≡ end_position size order
-    pub last : prev_word words ≡ prev_of size 0 order
+    pub position : position_word words ≡ order_end opening order
+    pub last : prev_word words ≡ last_start opening order
     pub mapping : mapping_turn words ≡ 0
     pub writing : write_turn words ≡ 0
 
-  -- the order is without a gap what was found, what this pass reserved, and what those did that it
-  -- took in
+  -- the order is without a gap what this pass reserved, and what those did that it took in
   pub record OrderIsAccounted (views : List View) (r : Reserving) : Type 0 where
-    pub chained : IsChained size order
-    pub found_first : BeginsWith opening.found order
-    pub within : end_position size order ≤ log_limit opening.setup
+    pub chained : GoesOnAtPlace opening order
+    pub owned : All (λ e. IsSome e.pass) order
+    pub within : order_end opening order ≤ log_limit opening.setup
     -- their logs are their entries of the order, also where one found the log full
     pub part : HasItsPart opening order words views r
     pub no_other : (number : ℕ) → number ≢ r.number → (TookIn number r → ⊥)
@@ -54,11 +53,11 @@ module _ (opening : Opening) (order : List Entry) (words : List ℕ) where
         → ((v.working).locks ≡ []) × ((v.working).flight ≡ Landed)
     pub locks : (lock : ℕ) → lock < 8 → lock_word words lock ≡ 0
     pub unwritten : (k : ℕ) → written_word words ≤ 8 * k
-        → 8 * k < end_form opening.setup (end_position size order)
+        → 8 * k < end_form opening.setup (order_end opening order)
         → IsPresent opening.setup words (k / 1024)
     pub ring : (k : ℕ) → IsPresent opening.setup words (k / 1024)
         → word_of_ring opening.setup words (ring_place opening.setup k)
-        ≡ log_word_of opening.setup order (8 * k)
+        ≡ log_word_of opening order (8 * k)
 
 -- what a disk held at first, with that
 module _ (first : DiskState) (opening : Opening) (order : List Entry) (words : List ℕ) where
@@ -68,10 +67,9 @@ module _ (first : DiskState) (opening : Opening) (order : List Entry) (words : L
     pub flushed_low : flushed_word words ≤ written_word words
     pub written_low : written_word words ≤ writer.written
     pub written_is : down_word words ≡ 0 → written_word words ≡ writer.written
-    pub reserved : writer.written ≤ end_form opening.setup (end_position
-        (opening.setup).segment_size order)
+    pub reserved : writer.written ≤ end_form opening.setup (order_end opening order)
     pub reads : IfSuited first opening writer
-        (λ t. ReadsBelow opening.setup order writer.written (state_now t))
+        (λ t. ReadsBelow opening order writer.written (state_now t))
 
   -- what a crash leaves, whenever it comes, with the promises made to this pass and to those that
   -- it took in; what the down value tells of the disk; and that one of these passes set it, where
@@ -80,7 +78,7 @@ module _ (first : DiskState) (opening : Opening) (order : List Entry) (words : L
     pub counted : IfSome writer.calls (λ calls. writer.moment ≡ length calls)
     pub since : opening.moment ≤ moment_word words
     pub moment_low : moment_word words ≤ writer.moment
-    pub on_disk : IfSuited first opening writer (IsOnDisk opening.setup order writer)
+    pub on_disk : IfSuited first opening writer (IsOnDisk opening order writer)
     pub crashes : IfSuited first opening writer (λ t. CrashesLeave opening order
         (flushed_word words)
         (moment_word words) t (receipts_of v ∷ []))

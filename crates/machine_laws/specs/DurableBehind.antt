@@ -23,7 +23,7 @@ IsInside other = Unit {0}
 -- copied
 abbrev pub LoadsStaged : View → List Entry → StepKind → ℕ → Type 0
 LoadsStaged v order (load_ring_word k) met = (l : Lent) → (v.writing).hold ≡ Out l
-    → IsStaged (v.opening).setup order l.known (k, met)
+    → IsStaged v.opening order l.known (k, met)
 LoadsStaged v order other met = Unit {0}
 
 module _ (words : List ℕ) (home : Option Plain) (views : List View) (id : ℕ) (v : View)

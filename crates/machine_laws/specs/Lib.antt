@@ -18,3 +18,4 @@ pub mod SoundWatches
 pub mod LonePasses
 pub mod Switches
 pub mod Growth
+pub mod WholeOrders

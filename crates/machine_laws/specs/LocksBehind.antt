@@ -4,9 +4,8 @@ use Rattle.std.specs.Prelude.{◌≡◌, ℕ, ◌≤◌, List, [], ◌∷◌, �
 use mathlib.Core.Option.{Option}
 use Rattle.byte_position.specs.Geometry.{IsSegmentSize}
 use Rattle.segment_disk.specs.Tape.{create_call, sync_call, write_call}
-use Rattle.wal_page.specs.Order.{Entry, end_position}
-use Rattle.wal_core.specs.declared.setup.Setup.{Setup}
-use Rattle.wal_core.specs.Words.{lock_word, mapping_turn, write_turn, word_count, end_form}
+use Rattle.wal_page.specs.Order.{Entry}
+use Rattle.wal_core.specs.Words.{lock_word, mapping_turn, write_turn, word_count, end_form, order_end, Opening}
 use Rattle.wal_core.specs.Views.{HasAt, Stored, Stage, Away, Taken, Looked, Ready, Zeroing, Published, Plain, View, working_of, watching_of, mapper_of, writer_of}
 use Rattle.wal_core.specs.Locked.{AreHeld, ProgressHolds, IsMappingTurn, IsWriteTurn}
 use Rattle.wal_core.specs.Watched.{WatchHolds}
@@ -33,27 +32,27 @@ order_behind v other order = order
 
 -- ---- what is said of locks, of what they tell, and of those who watch them
 
-pub record WorksHold (setup : Setup) (order : List Entry) (words : List ℕ) (views : List View)
+pub record WorksHold (opening : Opening) (order : List Entry) (words : List ℕ) (views : List View)
     : Type 0 where
   pub held : AreHeld (lock_word words) (map working_of views)
-  pub told : ProgressHolds setup.segment_size
-      (end_form setup (end_position setup.segment_size order)) (lock_word words)
+  pub told : ProgressHolds opening.setup.segment_size
+      (end_form opening.setup (order_end opening order)) (lock_word words)
       (map working_of views)
-  pub watched : WatchHolds setup.segment_size
-      (end_form setup (end_position setup.segment_size order)) (map working_of views)
+  pub watched : WatchHolds opening.setup.segment_size
+      (end_form opening.setup (order_end opening order)) (map working_of views)
       (map watching_of views)
 
 -- what a step of a view rests on: the view is there, with what is fixed; it has seen no more than
 -- is reserved; and what it is about to reserve begins where the order ends
-pub record StepsFrom (setup : Setup) (order : List Entry) (words : List ℕ) (views : List View)
+pub record StepsFrom (opening : Opening) (order : List Entry) (words : List ℕ) (views : List View)
     (id : ℕ) (v : View) : Type 0 where
   pub here : HasAt views id v
-  pub size : IsSegmentSize setup.segment_size
-  pub wide : length words ≡ word_count setup
-  pub setup_is : (v.opening).setup ≡ setup
-  pub seen : (v.reserving).seen ≤ end_position setup.segment_size order
+  pub size : IsSegmentSize opening.setup.segment_size
+  pub wide : length words ≡ word_count opening.setup
+  pub setup_is : (v.opening).setup ≡ opening.setup
+  pub seen : (v.reserving).seen ≤ order_end opening order
   pub starts : (at prev : ℕ) → (v.reserving).place ≡ Stored at prev
-      → at ≡ end_position setup.segment_size order
+      → at ≡ order_end opening order
 
 -- ---- what is said of the two turns
 

@@ -8,11 +8,10 @@ use Rattle.wal_core.specs.Ordered.{OrderHolds}
 module _ (order : List Entry) (position prev : ℕ) (parts : List Reserving) (id : ℕ) (v : View) where
   pub record TakesPart : Type 0 where
     pub size : IsSegmentSize ((v.opening).setup).segment_size
-    pub holds : OrderHolds (v.opening).setup (v.opening).found order position prev parts
+    pub holds : OrderHolds v.opening order position prev parts
     pub here : HasAt parts id v.reserving
     pub live : (v.reserving).live ≡ true
 
   -- the order holds still where this view has become another one
   abbrev pub HoldsWith : View → Type 0
-  HoldsWith w = OrderHolds (v.opening).setup (v.opening).found order position prev
-      (set parts id w.reserving)
+  HoldsWith w = OrderHolds v.opening order position prev (set parts id w.reserving)

@@ -37,7 +37,7 @@ module _ (v : View) (words : List ℕ) (home : Option Plain) (views : List View)
     -- the log's words in memory, for this order, these pages mapped and this memory
     abbrev pub HasRing : List Entry → ℕ → (ℕ → ℕ) → Type 0
     HasRing order reach memory =
-        RingHolds (v.opening).setup order reach memory (map flight_of views_behind)
+        RingHolds v.opening order reach memory (map flight_of views_behind)
 
     -- the pages in the buffers, for these pages mapped, at this stage, with this memory
     abbrev pub HasPages : ℕ → Stage → (ℕ → ℕ) → Type 0
@@ -50,7 +50,7 @@ module _ {first : DiskState} (opening : Opening) (words : List ℕ) (home : Opti
     (views : List View)
     (s : IsSound first opening words home views) (changed : List View) where
   abbrev pub HasRingWith : Type 0
-  HasRingWith = RingHolds opening.setup s.order s.reach s.memory (map flight_of changed)
+  HasRingWith = RingHolds opening s.order s.reach s.memory (map flight_of changed)
 
   abbrev pub HasPagesWith : Type 0
   HasPagesWith = PagesHold (opening.setup).ring_pages s.reach s.stage (initialised_word words)

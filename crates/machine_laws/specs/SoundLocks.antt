@@ -4,8 +4,7 @@ use Rattle.std.specs.Prelude.{◌≡◌, ◌≢◌, ◌⊎◌, ◌↔◌, ℕ, �
 use mathlib.Core.Option.{Option, none}
 use Rattle.wal_page.specs.Order.{Entry, finish_of}
 use Rattle.wal_page.specs.EntryWords.{address_of_word, words_owned}
-use Rattle.wal_core.specs.declared.setup.Setup.{Setup}
-use Rattle.wal_core.specs.Words.{lock_word, mapping_turn, write_turn}
+use Rattle.wal_core.specs.Words.{lock_word, mapping_turn, write_turn, Opening}
 use Rattle.wal_core.specs.Views.{HasAt, AreSomeOf, Copy, Copying, Lent, Out, Plain, View}
 use Rattle.wal_core.specs.Locked.{HasTurn, HasWriteTurn}
 use Rattle.wal_core.specs.Shown.{HasLogWord, IsInNoFlight}
@@ -62,21 +61,21 @@ HasInFlight e v = (c : Copy) × ((v.working).flight ≡ Copying c) × (c.entry �
     × AreSomeOf c.locks (v.working).locks
 
 -- all words of an entry are copied: each is the log's where the ring has its page
-abbrev pub IsCopiedWhole : Setup → List Entry → List ℕ → Entry → Type 0
-IsCopiedWhole setup order words e = (n : ℕ) → n < words_owned setup.segment_size e
-    → HasLogWord setup order words (address_of_word setup.segment_size e n)
+abbrev pub IsCopiedWhole : Opening → List Entry → List ℕ → Entry → Type 0
+IsCopiedWhole opening order words e = (n : ℕ) → n < words_owned opening.setup.segment_size e
+    → HasLogWord opening order words (address_of_word opening.setup.segment_size e n)
 
 -- an entry of the order is whole and in flight nowhere, or is in flight in one view; and no other
 -- entry is in flight
-pub record EntriesAreWholeOrInFlight (setup : Setup) (order : List Entry) (words : List ℕ)
+pub record EntriesAreWholeOrInFlight (opening : Opening) (order : List Entry) (words : List ℕ)
     (views : List View) : Type 0 where
   pub each : (e : Entry) → Contains order e
-      → (IsInNoFlight views e × IsCopiedWhole setup order words e)
+      → (IsInNoFlight views e × IsCopiedWhole opening order words e)
       ⊎ SomeView views (HasInFlight e)
   pub by_one : (e : Entry) → OneAtMost views (HasInFlight e)
   pub reserved : (id : ℕ) (v : View) (c : Copy) → HasAt views id v
       → (v.working).flight ≡ Copying c → Contains order c.entry × HasInFlight c.entry v
-      × (c.copied ≤ words_owned setup.segment_size c.entry)
+      × (c.copied ≤ words_owned opening.setup.segment_size c.entry)
 
 -- ---- the turns
 

@@ -3,9 +3,9 @@
 use Rattle.std.specs.Prelude.{◌≡◌, ◌⊎◌, ℕ, ◌<◌, ◌≤◌, All, List}
 use Rattle.segment_disk.specs.Tape.{DiskState, state_now}
 use mathlib.Core.Option.{Option, none, some}
-use Rattle.wal_page.specs.Order.{Entry, end_position}
+use Rattle.wal_page.specs.Order.{Entry}
 use Rattle.wal_page.specs.EntryWords.{address_of_word, words_owned}
-use Rattle.wal_core.specs.Words.{Opening, written_word, flushed_word, moment_word, down_word, end_form}
+use Rattle.wal_core.specs.Words.{Opening, written_word, flushed_word, moment_word, down_word, end_form, order_end}
 use Rattle.wal_core.specs.Suited.{IfSuited}
 use Rattle.wal_core.specs.Views.{HasAt, Copy, Copying, Joined, Lent, Out, Plain, View}
 use Rattle.wal_core.specs.Positioned.{ReadsBelow}
@@ -44,11 +44,10 @@ pub record PositionsAreOrdered (first : DiskState) (opening : Opening) (order : 
   pub written_low : (w : Plain) → IsTheWriter home views w → written_word words ≤ w.written
   pub at_home : (w : Plain) → home ≡ some w → down_word words ≡ 0
       → written_word words ≡ w.written
-  pub reserved : written_word words
-      ≤ end_form opening.setup (end_position (opening.setup).segment_size order)
+  pub reserved : written_word words ≤ end_form opening.setup (order_end opening order)
   pub copied : (id : ℕ) (v : View) (c : Copy) (n : ℕ) → HasAt views id v
       → (v.working).flight ≡ Copying c → c.copied ≤ n
       → n < words_owned (opening.setup).segment_size c.entry
       → written_word words ≤ address_of_word (opening.setup).segment_size c.entry n
   pub reads : (w : Plain) → IsTheWriter home views w → IfSuited first opening w
-      (λ t. ReadsBelow opening.setup order (written_word words) (state_now t))
+      (λ t. ReadsBelow opening order (written_word words) (state_now t))

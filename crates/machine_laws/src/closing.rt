@@ -15,10 +15,10 @@ ghost use Rattle.machine_laws.specs.SharedOrders.{HasNumber, IsSpare};
 ghost use Rattle.machine_laws.specs.ClosedLogs.{HasAllNumbers, IsClosed, IsLastPass};
 
 /// Where a pass has all numbers and is about nothing, no other pass is live. Nobody has a turn or
-/// the position locked, and the writer is at home. The order is what was found, what this pass
-/// reserved, and what those did that it took in. Where the disk has not failed, nothing is in
-/// flight, and the ring has the log from the written address on. What crashes leave, and what was
-/// promised to this pass and to those that it took in, is told of this writer's disk.
+/// the position locked, and the writer is at home. The order is what this pass reserved, and what
+/// those did that it took in. Where the disk has not failed, nothing is in flight, and the ring has
+/// the log from the written address on. What crashes leave, and what was promised to this pass and
+/// to those that it took in, is told of this writer's disk.
 pub fn last_passes_close_the_log()
     ensures closed { (first : DiskState) (opening : Opening) (words : List ℕ) (home : Option Plain)
         (views : List View) (k : IsSound first opening words home views) (id : ℕ) (v : View)

@@ -2,12 +2,16 @@
 //! that do nothing. By these alone the users of a log speak of crashes: they need not know how the
 //! pages came to the disk.
 
-ghost use Rattle.std.specs.Prelude.{◌≡◌, ◌≢◌, ℕ, List, IfSome};
+ghost use Rattle.std.specs.Prelude.{◌≡◌, ◌≢◌, ℕ, List, [], ◌++◌, IfSome};
 ghost use Rattle.segment_disk.specs.declared.disk.Call.{Call};
 ghost use mathlib.Core.Option.{Option};
-ghost use Rattle.wal_page.specs.Order.{Entry, IsChained};
+ghost use Rattle.wal_page.specs.Order.{Entry};
+ghost use Rattle.wal_page.specs.LogPlace.{IsPlace, new_place};
+ghost use Rattle.flush_core.specs.Lawful.{IsLawful};
+ghost use Rattle.byte_position.specs.Geometry.{IsSegmentSize};
+ghost use Rattle.segment_disk.specs.DiskImage.{DiskImage};
 ghost use Rattle.segment_disk.specs.Tape.{DiskState};
-ghost use Rattle.wal_core.specs.Words.{Opening};
+ghost use Rattle.wal_core.specs.Words.{Opening, GoesOnAtPlace};
 ghost use Rattle.wal_core.specs.Views.{HasAt, Hold, Plain, Receipts, View, writer_of};
 ghost use Rattle.wal_core.specs.Suited.{BeganSuited, IfSuited, tape_from};
 ghost use Rattle.wal_core.specs.Locked.{IsWriteTurn};
@@ -15,7 +19,8 @@ ghost use Rattle.wal_core.specs.Durable.{DurabilityHolds};
 ghost use Rattle.wal_core.specs.Moves.{CallOutcome, with_outcome};
 ghost use Rattle.wal_core.specs.Sound.{IsSetup};
 ghost use Rattle.wal_core.specs.Steps.{MayStep, create, set_down, sync, value_behind, write};
-ghost use Rattle.machine_laws.specs.Crashes.{CrashesLeave, DownTells};
+ghost use Rattle.machine_laws.specs.Crashes.{CrashesLeave, DownTells, IsLawfulBehind};
+ghost use Rattle.machine_laws.specs.WholeOrders.{IsWholeOrder, LiesBehind};
 
 /// Where the disk tells what it holds, and held at the opening what a log may begin on, a crash at
 /// any moment since the opening leaves nothing but words of the log or zeros; and one at a moment
@@ -26,7 +31,7 @@ pub fn crashes_leave_what_was_promised()
         (flushed moment down : ℕ)
         (home : Option Plain) (writer : Plain) (parts : List Receipts)
         → DurabilityHolds first o order flushed moment down home writer parts → IsSetup o.setup
-        → IsChained (o.setup).segment_size order
+        → IsPlace (o.setup).segment_size o.place
         → IfSuited first o writer (λ t. CrashesLeave o order flushed moment t parts) }
 {}
 
@@ -63,4 +68,18 @@ pub fn down_tells_of_the_fault()
         → (¬ MayStep v (create segment outcome))
         × (¬ MayStep v (write segment page upto bytes outcome))
         × (¬ MayStep v (sync segment outcome)) }
+{}
+
+/// Where what lies below the place is known entry by entry, it is one order with what follows, and
+/// an image of the log behind the place is one of that order. Below a new log's place nothing lies.
+pub fn whole_orders_have_the_same_images()
+    ensures lawful { (opening : Opening) (order whole : List Entry) (image : DiskImage) (upto : ℕ)
+        → IsSegmentSize opening.setup.segment_size → IsWholeOrder opening order whole
+        → IsLawfulBehind opening order image upto
+        → IsLawful opening.setup.segment_size opening.setup.sysid image whole upto }
+    ensures whole { (opening : Opening) (front order : List Entry)
+        → IsSegmentSize opening.setup.segment_size → LiesBehind opening front
+        → GoesOnAtPlace opening order → IsWholeOrder opening order (front ++ order) }
+    ensures fresh { (opening : Opening) → IsSegmentSize opening.setup.segment_size
+        → opening.place ≡ new_place opening.setup.segment_size → LiesBehind opening [] }
 {}

@@ -68,7 +68,7 @@ pub fn loads_keep_durability()
         (id k met : ℕ) (v : View)
         → DurabilityHolds first o order flushed moment down home writer parts
         → HasAt parts id (receipts_of v)
-        → ((l : Lent) → (v.writing).hold ≡ Out l → IsStaged o.setup order l.known (k, met))
+        → ((l : Lent) → (v.writing).hold ≡ Out l → IsStaged o order l.known (k, met))
         → DurabilityHolds first o order flushed moment down home writer
         (set parts id (receipts_of (view_behind v (load_ring_word k) met home))) }
 {}

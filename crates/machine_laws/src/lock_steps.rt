@@ -19,11 +19,11 @@ ghost use Rattle.machine_laws.specs.LocksBehind.{words_behind, views_behind, ord
 /// Whatever a pass does that its view lets it do: no lock has two holders, no lock tells more than
 /// is copied, and what watchers know stays true.
 pub fn every_step_keeps_locks_and_watches()
-    ensures { (setup : Setup) (order : List Entry) (words : List ℕ) (home : Option Plain)
+    ensures { (opening : Opening) (order : List Entry) (words : List ℕ) (home : Option Plain)
         (views : List View) (id : ℕ) (v : View) (e : StepKind)
-        → StepsFrom setup order words views id v → MayStep v e
-        → WorksHold setup order words views
-        → WorksHold setup (order_behind v e order) (words_behind words v e)
+        → StepsFrom opening order words views id v → MayStep v e
+        → WorksHold opening order words views
+        → WorksHold opening (order_behind v e order) (words_behind words v e)
         (views_behind words home views id v e) }
 {}
 
@@ -43,16 +43,16 @@ pub fn every_step_keeps_the_turns()
 /// Passes come and go, with their locks, watches and turns: one is split off, one that is about
 /// nothing is taken in, and one gives up its copy, which stays with a view of its own.
 pub fn passes_come_and_go_with_what_they_hold()
-    ensures split { (setup : Setup) (order : List Entry) (words : List ℕ) (views : List View)
-        (id : ℕ) (v : View) → HasAt views id v → WorksHold setup order words views
-        → WorksHold setup order words (set views id (after_split v) ++ split_off v ∷ []) }
-    ensures joined { (setup : Setup) (order : List Entry) (words : List ℕ) (views : List View)
+    ensures split { (opening : Opening) (order : List Entry) (words : List ℕ) (views : List View)
+        (id : ℕ) (v : View) → HasAt views id v → WorksHold opening order words views
+        → WorksHold opening order words (set views id (after_split v) ++ split_off v ∷ []) }
+    ensures joined { (opening : Opening) (order : List Entry) (words : List ℕ) (views : List View)
         (id other : ℕ) (v w : View) → HasAt views id v → HasAt views other w → id ≢ other
-        → IsResting w → WorksHold setup order words views
-        → WorksHold setup order words (set (set views other (spent w)) id (after_join v w)) }
-    ensures given_up { (setup : Setup) (order : List Entry) (words : List ℕ) (views : List View)
-        (id : ℕ) (v : View) → HasAt views id v → WorksHold setup order words views
-        → WorksHold setup order words (set views id (without_work v) ++ orphan_of v ∷ []) }
+        → IsResting w → WorksHold opening order words views
+        → WorksHold opening order words (set (set views other (spent w)) id (after_join v w)) }
+    ensures given_up { (opening : Opening) (order : List Entry) (words : List ℕ) (views : List View)
+        (id : ℕ) (v : View) → HasAt views id v → WorksHold opening order words views
+        → WorksHold opening order words (set views id (without_work v) ++ orphan_of v ∷ []) }
     ensures split_turns { (words : List ℕ) (home : Option Plain) (stage : Stage)
         (writer : Plain) (views : List View) (id : ℕ) (v : View) → HasAt views id v
         → TurnsHold words home stage writer views
@@ -74,7 +74,7 @@ pub fn sound_states_keep_locks_and_turns()
         (views : List View)
         (id : ℕ) (v : View) (e : StepKind) (k : IsSound first opening words home views)
         → HasAt views id v → v.reserving.live ≡ true → MayStep v e
-        → WorksHold opening.setup (order_behind v e k.order) (words_behind words v e)
+        → WorksHold opening (order_behind v e k.order) (words_behind words v e)
         (views_behind words home views id v e)
         × TurnsHold (words_behind words v e) (home_behind v e home)
         (stage_behind v e (slice_index words (word_of_step v e)) k.stage)

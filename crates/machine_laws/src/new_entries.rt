@@ -6,9 +6,9 @@
 ghost use Rattle.std.specs.Prelude.{◌≡◌, ℕ, List, [], ◌∷◌, ◌++◌, map, set};
 ghost use mathlib.Core.Option.{Option};
 ghost use Rattle.wal_types.specs.declared.record.Record.{Record};
-ghost use Rattle.wal_page.specs.Order.{Entry, IsChained, end_position};
+ghost use Rattle.wal_page.specs.Order.{Entry};
 ghost use Rattle.segment_disk.specs.Tape.{DiskState};
-ghost use Rattle.wal_core.specs.Words.{Opening};
+ghost use Rattle.wal_core.specs.Words.{Opening, order_end, GoesOnAtPlace};
 ghost use Rattle.wal_core.specs.Views.{HasAt, Flight, Plain, Stored, Receipts, View, Writing, receipts_of, writing_of};
 ghost use Rattle.wal_core.specs.Ordered.{AtPlace};
 ghost use Rattle.wal_core.specs.Positioned.{PositionsHold};
@@ -26,8 +26,8 @@ pub fn reserving_keeps_durability()
         (id met : ℕ) (locks : List ℕ) (value : Record) (v : View) (at prev : ℕ)
         (last word locked holder written : ℕ) (flights : List Flight)
         → DurabilityHolds first o order flushed moment down home writer (map receipts_of views)
-        → HasAt views id v → IsSetup o.setup → IsChained (o.setup).segment_size order
-        → AtPlace (o.setup).segment_size (end_position (o.setup).segment_size order) last word
+        → HasAt views id v → IsSetup o.setup → GoesOnAtPlace o order
+        → AtPlace (o.setup).segment_size (order_end o order) last word
         locked holder id (v.reserving).place
         → PositionsHold first o order written flushed down home writer flights
         (map writing_of views)

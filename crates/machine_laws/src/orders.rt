@@ -4,15 +4,15 @@
 //! `view_behind`). Only who has the position (word 0) locked stores into it and into the last start
 //! (word 1): so what it has met of them is so until it unlocks the position, whatever others do.
 
-ghost use Rattle.std.specs.Prelude.{◌≡◌, ◌≢◌, ℕ, ◌<◌, ◌≤◌, true, List, [], ◌∷◌, ◌++◌, set};
+ghost use Rattle.std.specs.Prelude.{◌≡◌, ◌≢◌, ℕ, ◌<◌, ◌≤◌, true, List, [], ◌∷◌, ◌++◌, set, All, IsSome};
 ghost use mathlib.Core.Option.{Option};
 ghost use Rattle.wal_types.specs.declared.record.Record.{Record};
-ghost use Rattle.wal_page.specs.Order.{Entry, IsChained, end_position};
+ghost use Rattle.wal_page.specs.Order.{Entry};
 ghost use Rattle.segment_disk.specs.Tape.{DiskState};
 ghost use Rattle.wal_core.specs.Views.{HasAt, Free, Plain, Reserving, View};
-ghost use Rattle.wal_core.specs.Words.{Opening, end_form};
+ghost use Rattle.wal_core.specs.Words.{Opening, end_form, order_end, GoesOnAtPlace};
 ghost use Rattle.wal_core.specs.Steps.{StepKind, MayStep, value_behind, view_behind};
-ghost use Rattle.wal_core.specs.Ordered.{BeginsWith, OrderHolds, entries_under};
+ghost use Rattle.wal_core.specs.Ordered.{OrderHolds, entries_under};
 ghost use Rattle.wal_core.specs.Moves.{entry_reserved, after_split, split_off, after_join, spent, without_work, orphan_of};
 ghost use Rattle.wal_core.specs.Steps.{place_at, load_position, load_flushed, store_position};
 ghost use Rattle.wal_core.specs.Steps.{lock_position, load_prev, store_prev, give_position_back, stay};
@@ -73,8 +73,7 @@ pub fn seen_positions_are_reserved()
     ensures load_flushed { (order : List Entry) (position prev : ℕ) (parts : List Reserving)
         (id : ℕ) (v : View) (home : Option Plain) (met : ℕ)
         → TakesPart order position prev parts id v
-        → met ≤ end_form (v.opening).setup
-        (end_position ((v.opening).setup).segment_size order)
+        → met ≤ end_form (v.opening).setup (order_end v.opening order)
         → HoldsWith order position prev parts id v (view_behind v load_flushed met home) }
 {}
 
@@ -84,25 +83,25 @@ pub fn passes_share_one_order()
     ensures split { (order : List Entry) (position prev : ℕ) (parts : List Reserving) (id : ℕ)
         (v : View) → TakesPart order position prev parts id v
         → (v.reserving).spare < (v.reserving).spare_end
-        → OrderHolds (v.opening).setup (v.opening).found order position prev
+        → OrderHolds v.opening order position prev
         (set parts id (after_split v).reserving ++ (split_off v).reserving ∷ []) }
     ensures join { (order : List Entry) (position prev : ℕ) (parts : List Reserving) (id : ℕ)
         (v : View) (other : ℕ) (w : View) → TakesPart order position prev parts id v
         → HasAt parts other w.reserving → (w.reserving).live ≡ true → id ≢ other
         → (w.reserving).place ≡ Free
-        → OrderHolds (v.opening).setup (v.opening).found order position prev
+        → OrderHolds v.opening order position prev
         (set (set parts other (spent w).reserving) id (after_join v w).reserving) }
     ensures give_up { (order : List Entry) (position prev : ℕ) (parts : List Reserving) (id : ℕ)
         (v : View) → TakesPart order position prev parts id v
-        → OrderHolds (v.opening).setup (v.opening).found order position prev
+        → OrderHolds v.opening order position prev
         (set parts id (without_work v).reserving ++ (orphan_of v).reserving ∷ []) }
 {}
 
-/// What the passes reserved fixes the order: two orders without a gap that begin with the same
-/// found entries are one, where the entries of each pass agree.
+/// What the passes reserved fixes the order: two orders without a gap from the place on, each entry
+/// some pass's, are one where the entries of each pass agree.
 pub fn passes_fix_the_order()
-    ensures one_order { (size : ℕ) (found es fs : List Entry) → IsChained size es
-        → IsChained size fs → BeginsWith found es → BeginsWith found fs
+    ensures one_order { (opening : Opening) (es fs : List Entry) → GoesOnAtPlace opening es
+        → GoesOnAtPlace opening fs → All (λ e. IsSome e.pass) es → All (λ e. IsSome e.pass) fs
         → ((n : ℕ) → entries_under n es ≡ entries_under n fs) → es ≡ fs }
 {}
 
@@ -112,8 +111,7 @@ pub fn passes_fix_the_order()
 /// more; each position at which a log was full is where a front of the order ends that holds what
 /// that log held by then; the word of the last start is that of the order's last entry, but while
 /// the position is locked the view that locked it says whether the next start is stored; and the
-/// order holds the logs of the live passes, of the passes that they took in, what was found when
-/// the log was opened, and nothing else.
+/// order holds the logs of the live passes and of the passes that they took in, and nothing else.
 pub fn sound_orders_are_shared()
     ensures shared { (first : DiskState) (opening : Opening) (words : List ℕ) (home : Option Plain)
         (views : List View) (s : IsSound first opening words home views)

@@ -8,8 +8,7 @@ ghost use Rattle.std.specs.Prelude.{◌≡◌, ◌≢◌, ℕ, ◌≤◌, true, 
 ghost use mathlib.Core.Option.{Option};
 ghost use Rattle.segment_disk.specs.Tape.{DiskState, create_call, sync_call, write_call};
 ghost use Rattle.wal_types.specs.declared.record.Record.{Record};
-ghost use Rattle.wal_page.specs.Order.{end_position};
-ghost use Rattle.wal_core.specs.Words.{end_form};
+ghost use Rattle.wal_core.specs.Words.{end_form, order_end};
 ghost use Rattle.wal_core.specs.Views.{HasAt, Plain, Reserving, Receipts, View, flight_of, receipts_of, watching_of, working_of, writing_of};
 ghost use Rattle.wal_core.specs.Ordered.{OrderHolds};
 ghost use Rattle.wal_core.specs.Locked.{AreHeld};
@@ -53,7 +52,7 @@ pub fn copies_only_go_on()
         → (lock met : ℕ) → HoldBehind p id v (view_behind v (release lock) met p.home) }
     ensures store_position { (p : Positions) (id : ℕ) (v : View) → HasPositions p id v
         → (position prev : ℕ) (reservings : List Reserving) (locks : List ℕ) (value : Record)
-        → OrderHolds (v.opening).setup (v.opening).found p.order position prev reservings
+        → OrderHolds v.opening p.order position prev reservings
         → HasAt reservings id v.reserving → (v.reserving).live ≡ true
         → MayStep v (store_position locks value)
         → HoldBehind (record p {
@@ -84,8 +83,7 @@ pub fn positions_only_rise()
         → HoldBehind (record p { down = value_behind v set_down p.down }) id v
         (view_behind v set_down p.down p.home) }
     ensures reserved { (p : Positions) (id : ℕ) (v : View) → HasPositions p id v
-        → p.flushed ≤ end_form (v.opening).setup
-        (end_position ((v.opening).setup).segment_size p.order) }
+        → p.flushed ≤ end_form (v.opening).setup (order_end v.opening p.order) }
 {}
 
 /// With the writer out, its holder knows what a watcher knows that visited each lock; and it comes
@@ -95,8 +93,7 @@ pub fn the_writer_goes_out_and_home()
         → (lock : ℕ → ℕ) (views : List View) → p.flights ≡ map flight_of views
         → HasAt views id v → AreHeld lock (map working_of views)
         → WatchHolds ((v.opening).setup).segment_size (end_form (v.opening).setup
-        (end_position ((v.opening).setup).segment_size p.order)) (map working_of views)
-        (map watching_of views)
+        (order_end v.opening p.order)) (map working_of views) (map watching_of views)
         → MayStep v slot_out
         → HoldBehind (record p { home = home_behind v slot_out p.home }) id v
         (view_behind v slot_out p.turn p.home) }

@@ -6,11 +6,11 @@
 ghost use Rattle.std.specs.Prelude.{◌≡◌, ◌≢◌, ℕ, ◌+◌, ◌/◌, ◌<◌, ◌≤◌, Contains, List, [], ◌∷◌, ◌++◌, set};
 ghost use mathlib.Core.Option.{Option};
 ghost use Rattle.byte_position.specs.Geometry.{IsSegmentSize};
-ghost use Rattle.wal_page.specs.Order.{Entry, IsChained, end_position, prev_of};
+ghost use Rattle.wal_page.specs.Order.{Entry};
+ghost use Rattle.wal_page.specs.LogPlace.{IsPlace};
 ghost use Rattle.wal_page.specs.EntryWords.{address_of_word, words_owned};
 ghost use Rattle.segment_disk.specs.Tape.{DiskState};
-ghost use Rattle.wal_core.specs.declared.setup.Setup.{Setup};
-ghost use Rattle.wal_core.specs.Words.{Opening};
+ghost use Rattle.wal_core.specs.Words.{Opening, order_end, last_start, GoesOnAtPlace};
 ghost use Rattle.wal_core.specs.Views.{HasAt, Copy, Flight, Landed, Copying, Stage, Plain, Lent, Out, Writing};
 ghost use Rattle.wal_core.specs.Moves.{landed, one_more};
 ghost use Rattle.wal_core.specs.Steps.{CopiesOn, IsToBeWritten, number_of_next, next_word, ring_place};
@@ -23,79 +23,86 @@ ghost use Rattle.machine_laws.specs.WordsPut.{IsPut};
 /// An entry is reserved, and its copy begins; each of its words is stored; its locks are released
 /// where all of them are copied.
 pub fn copies_keep_the_ring()
-    ensures begun { (setup : Setup) (order : List Entry) (reach : ℕ) (memory : ℕ → ℕ)
+    ensures begun { (opening : Opening) (order : List Entry) (reach : ℕ) (memory : ℕ → ℕ)
         (flights : List Flight) (id : ℕ) (e : Entry) (prev : ℕ) (locks : List ℕ)
-        → IsSegmentSize setup.segment_size → IsChained setup.segment_size order
-        → RingHolds setup order reach memory flights → HasAt flights id Landed
-        → e.start ≡ end_position setup.segment_size order
-        → prev ≡ prev_of setup.segment_size 0 order
-        → RingHolds setup (order ++ e ∷ []) reach memory
+        → IsSegmentSize opening.setup.segment_size → GoesOnAtPlace opening order
+        → RingHolds opening order reach memory flights → HasAt flights id Landed
+        → e.start ≡ order_end opening order
+        → prev ≡ last_start opening order
+        → RingHolds opening (order ++ e ∷ []) reach memory
         (set flights id (Copying (record { entry = e; prev = prev; locks = locks; copied = 0 }))) }
-    ensures stored { (setup : Setup) (order : List Entry) (reach : ℕ) (memory memory_behind : ℕ → ℕ)
-        (flights : List Flight) (stage : Stage) (initialised written : ℕ) (ends ring : ℕ → ℕ)
+    ensures stored { (opening : Opening) (order : List Entry) (reach : ℕ)
+        (memory memory_behind : ℕ → ℕ) (flights : List Flight) (stage : Stage)
+        (initialised written : ℕ) (ends ring : ℕ → ℕ)
         (confirmed : List ℕ) (id met : ℕ) (c : Copy)
-        → IsSegmentSize setup.segment_size → IsChained setup.segment_size order
-        → RingHolds setup order reach memory flights
-        → PagesHold setup.ring_pages reach stage initialised written ends ring memory confirmed
-        → HasAt flights id (Copying c) → HasAt confirmed id met → CopiesOn setup met c
-        → IsPut memory (number_of_next setup (Copying c)) (next_word setup c) memory_behind
-        → RingHolds setup order reach memory_behind (set flights id (one_more (Copying c))) }
-    ensures released { (setup : Setup) (order : List Entry) (reach : ℕ) (memory : ℕ → ℕ)
+        → IsSegmentSize opening.setup.segment_size
+        → IsPlace opening.setup.segment_size opening.place → GoesOnAtPlace opening order
+        → RingHolds opening order reach memory flights
+        → PagesHold opening.setup.ring_pages reach stage initialised written ends ring memory
+        confirmed
+        → HasAt flights id (Copying c) → HasAt confirmed id met → CopiesOn opening.setup met c
+        → IsPut memory (number_of_next opening.setup (Copying c)) (next_word opening.setup c)
+        memory_behind
+        → RingHolds opening order reach memory_behind (set flights id (one_more (Copying c))) }
+    ensures released { (opening : Opening) (order : List Entry) (reach : ℕ) (memory : ℕ → ℕ)
         (flights : List Flight) (id lock : ℕ) (flight : Flight)
-        → IsSegmentSize setup.segment_size → IsChained setup.segment_size order
-        → RingHolds setup order reach memory flights → HasAt flights id flight
+        → IsSegmentSize opening.setup.segment_size
+        → IsPlace opening.setup.segment_size opening.place → GoesOnAtPlace opening order
+        → RingHolds opening order reach memory flights → HasAt flights id flight
         → ((c : Copy) → flight ≡ Copying c → Contains c.locks lock
-        → c.copied ≡ words_owned setup.segment_size c.entry)
-        → RingHolds setup order reach memory (set flights id (landed lock flight)) }
+        → c.copied ≡ words_owned opening.setup.segment_size c.entry)
+        → RingHolds opening order reach memory (set flights id (landed lock flight)) }
 {}
 
 /// In memory each word of an entry in flight that counts as copied is the log's, and each word of
 /// an entry of the order that is in no flight.
 pub fn copied_words_are_the_logs()
-    ensures in_flight { (setup : Setup) (order : List Entry) (reach : ℕ) (memory : ℕ → ℕ)
+    ensures in_flight { (opening : Opening) (order : List Entry) (reach : ℕ) (memory : ℕ → ℕ)
         (flights : List Flight) (id n : ℕ) (c : Copy)
-        → IsSegmentSize setup.segment_size → IsChained setup.segment_size order
-        → RingHolds setup order reach memory flights → HasAt flights id (Copying c)
-        → n < c.copied → memory (address_of_word setup.segment_size c.entry n / 8)
-        ≡ log_word_of setup order (address_of_word setup.segment_size c.entry n) }
-    ensures in_no_flight { (setup : Setup) (order : List Entry) (reach : ℕ) (memory : ℕ → ℕ)
+        → IsSegmentSize opening.setup.segment_size
+        → IsPlace opening.setup.segment_size opening.place → GoesOnAtPlace opening order
+        → RingHolds opening order reach memory flights → HasAt flights id (Copying c)
+        → n < c.copied → memory (address_of_word opening.setup.segment_size c.entry n / 8)
+        ≡ log_word_of opening order (address_of_word opening.setup.segment_size c.entry n) }
+    ensures in_no_flight { (opening : Opening) (order : List Entry) (reach : ℕ) (memory : ℕ → ℕ)
         (flights : List Flight) (front back : List Entry) (e : Entry) (n : ℕ)
-        → IsSegmentSize setup.segment_size → IsChained setup.segment_size order
-        → RingHolds setup order reach memory flights → order ≡ front ++ e ∷ back
+        → IsSegmentSize opening.setup.segment_size
+        → IsPlace opening.setup.segment_size opening.place → GoesOnAtPlace opening order
+        → RingHolds opening order reach memory flights → order ≡ front ++ e ∷ back
         → ((id : ℕ) (c : Copy) → HasAt flights id (Copying c) → (c.entry).start ≢ e.start)
-        → n < words_owned setup.segment_size e
-        → memory (address_of_word setup.segment_size e n / 8)
-        ≡ log_word_of setup order (address_of_word setup.segment_size e n) }
+        → n < words_owned opening.setup.segment_size e
+        → memory (address_of_word opening.setup.segment_size e n / 8)
+        ≡ log_word_of opening order (address_of_word opening.setup.segment_size e n) }
 {}
 
 /// Pages more are mapped.
 pub fn mapping_keeps_the_ring()
-    ensures { (setup : Setup) (order : List Entry) (reach further : ℕ) (memory : ℕ → ℕ)
+    ensures { (opening : Opening) (order : List Entry) (reach further : ℕ) (memory : ℕ → ℕ)
         (flights : List Flight)
-        → RingHolds setup order reach memory flights → reach ≤ further
-        → RingHolds setup order further memory flights }
+        → RingHolds opening order reach memory flights → reach ≤ further
+        → RingHolds opening order further memory flights }
 {}
 
 /// A pass comes to be, as one is split off or gives up its copy, and one goes, as it is taken in;
 /// and a pass may change in all but its copy.
 pub fn passes_keep_the_ring()
-    ensures stays { (setup : Setup) (order : List Entry) (reach : ℕ) (memory : ℕ → ℕ)
+    ensures stays { (opening : Opening) (order : List Entry) (reach : ℕ) (memory : ℕ → ℕ)
         (flights : List Flight) (id : ℕ) (flight : Flight)
-        → RingHolds setup order reach memory flights → HasAt flights id flight
-        → RingHolds setup order reach memory (set flights id flight) }
-    ensures split_off { (setup : Setup) (order : List Entry) (reach : ℕ) (memory : ℕ → ℕ)
+        → RingHolds opening order reach memory flights → HasAt flights id flight
+        → RingHolds opening order reach memory (set flights id flight) }
+    ensures split_off { (opening : Opening) (order : List Entry) (reach : ℕ) (memory : ℕ → ℕ)
         (flights : List Flight) (id : ℕ) (flight : Flight)
-        → RingHolds setup order reach memory flights → HasAt flights id flight
-        → RingHolds setup order reach memory (set flights id flight ++ Landed ∷ []) }
-    ensures taken_in { (setup : Setup) (order : List Entry) (reach : ℕ) (memory : ℕ → ℕ)
+        → RingHolds opening order reach memory flights → HasAt flights id flight
+        → RingHolds opening order reach memory (set flights id flight ++ Landed ∷ []) }
+    ensures taken_in { (opening : Opening) (order : List Entry) (reach : ℕ) (memory : ℕ → ℕ)
         (flights : List Flight) (id other : ℕ) (flight : Flight)
-        → RingHolds setup order reach memory flights → HasAt flights id flight
+        → RingHolds opening order reach memory flights → HasAt flights id flight
         → HasAt flights other Landed
-        → RingHolds setup order reach memory (set (set flights other Landed) id flight) }
-    ensures given_up { (setup : Setup) (order : List Entry) (reach : ℕ) (memory : ℕ → ℕ)
+        → RingHolds opening order reach memory (set (set flights other Landed) id flight) }
+    ensures given_up { (opening : Opening) (order : List Entry) (reach : ℕ) (memory : ℕ → ℕ)
         (flights : List Flight) (id : ℕ) (flight : Flight)
-        → RingHolds setup order reach memory flights → HasAt flights id flight
-        → RingHolds setup order reach memory (set flights id Landed ++ flight ∷ []) }
+        → RingHolds opening order reach memory flights → HasAt flights id flight
+        → RingHolds opening order reach memory (set flights id Landed ++ flight ∷ []) }
 {}
 
 /// What the writer's holder loads from the ring for a write is 0 or the log's word, and the log's
@@ -105,11 +112,12 @@ pub fn loaded_words_are_the_logs()
         (flights : List Flight) (stage : Stage) (initialised written flushed down : ℕ)
         (ends ring : ℕ → ℕ) (confirmed : List ℕ) (home : Option Plain) (writer : Plain)
         (parts : List Writing) (id k : ℕ) (x : Writing) (l : Lent)
-        → IsSegmentSize (o.setup).segment_size → IsChained (o.setup).segment_size order
-        → RingHolds o.setup order reach memory flights
+        → IsSegmentSize (o.setup).segment_size → IsPlace (o.setup).segment_size o.place
+        → GoesOnAtPlace o order
+        → RingHolds o order reach memory flights
         → PagesHold (o.setup).ring_pages reach stage initialised written ends ring memory
         confirmed
         → PositionsHold first o order written flushed down home writer flights parts
         → HasAt parts id x → x.hold ≡ Out l → l.writer ≡ writer → IsToBeWritten k l
-        → IsStaged o.setup order l.known (k, ring (ring_place o.setup k)) }
+        → IsStaged o order l.known (k, ring (ring_place o.setup k)) }
 {}

@@ -73,7 +73,7 @@ pub fn loads_leave_pages_in_order()
         (views : List View)
         (id : ℕ) (s : IsSound first v.opening words home views) → HasAt views id v
         → (n : ℕ) (l : Lent) → v.writing.hold ≡ Out l → MayStep v (load_ring_word n)
-        → IsStaged v.opening.setup s.order l.known
+        → IsStaged v.opening s.order l.known
         (n, met_by v words home views id (load_ring_word n)) }
 {}
 

@@ -17,15 +17,15 @@ pub fn rings_hold_the_log()
     ensures words { (first : DiskState) (opening : Opening) (words : List ℕ) (home : Option Plain)
         (views : List View)
         (s : IsSound first opening words home views)
-        → WordsAreLogs opening.setup s.order words views }
+        → WordsAreLogs opening s.order words views }
     ensures entries { (first : DiskState) (opening : Opening) (words : List ℕ) (home : Option Plain)
         (views : List View) (s : IsSound first opening words home views)
-        → EntriesAreCopied opening.setup s.order words views }
+        → EntriesAreCopied opening s.order words views }
     ensures pages { (first : DiskState) (opening : Opening) (words : List ℕ) (home : Option Plain)
         (views : List View)
         (s : IsSound first opening words home views)
-        → PagesArePresent opening.setup s.order words views }
+        → PagesArePresent opening s.order words views }
     ensures mappers { (first : DiskState) (opening : Opening) (words : List ℕ) (home : Option Plain)
         (views : List View) (s : IsSound first opening words home views)
-        → MappersAreNext opening.setup s.order words views }
+        → MappersAreNext opening s.order words views }
 {}

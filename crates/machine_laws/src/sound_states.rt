@@ -5,8 +5,7 @@
 ghost use Rattle.std.specs.Prelude.{ℕ, List};
 ghost use mathlib.Core.Option.{Option};
 ghost use Rattle.segment_disk.specs.Tape.{DiskState};
-ghost use Rattle.wal_page.specs.Order.{end_position};
-ghost use Rattle.wal_core.specs.Words.{Opening, end_form};
+ghost use Rattle.wal_core.specs.Words.{Opening, end_form, order_end};
 ghost use Rattle.wal_core.specs.Views.{Plain, View};
 ghost use Rattle.wal_core.specs.Sound.{IsSound};
 ghost use Rattle.machine_laws.specs.SoundLocks.{EntriesAreWholeOrInFlight, LocksHaveHolders, LocksTellCopies, TurnsHaveHolders};
@@ -27,7 +26,7 @@ pub fn sound_locks_and_turns_have_one_holder()
         (k : IsSound first opening words home views) → TurnsHaveHolders words home views }
     ensures entries { (first : DiskState) (opening : Opening) (words : List ℕ) (home : Option Plain)
         (views : List View) (k : IsSound first opening words home views)
-        → EntriesAreWholeOrInFlight opening.setup k.order words views }
+        → EntriesAreWholeOrInFlight opening k.order words views }
 {}
 
 /// A lock's word above 1 is one more than an address that lies not past the next word that the
@@ -38,7 +37,7 @@ pub fn sound_locks_tell_no_more_than_is_copied()
         (views : List View)
         (k : IsSound first opening words home views)
         → LocksTellCopies (opening.setup).segment_size (end_form opening.setup
-        (end_position (opening.setup).segment_size k.order)) words views }
+        (order_end opening k.order)) words views }
 {}
 
 /// What a pass was promised lies not above the flushed and the moment word, the flushed word not

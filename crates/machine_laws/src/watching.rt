@@ -6,9 +6,8 @@
 
 ghost use Rattle.std.specs.Prelude.{◌≡◌, ◌≢◌, ℕ, ◌≤◌, List, [], ◌∷◌, ◌++◌, set, map};
 ghost use Rattle.byte_position.specs.Geometry.{IsSegmentSize};
-ghost use Rattle.wal_page.specs.Order.{Entry, end_position};
-ghost use Rattle.wal_core.specs.declared.setup.Setup.{Setup};
-ghost use Rattle.wal_core.specs.Words.{end_form};
+ghost use Rattle.wal_page.specs.Order.{Entry};
+ghost use Rattle.wal_core.specs.Words.{end_form, order_end, Opening};
 ghost use Rattle.wal_core.specs.Views.{HasAt, Copy, Copying, Landed, Watching, Working, View, working_of, watching_of, flight_of};
 ghost use Rattle.wal_core.specs.Locked.{AreHeld, ProgressHolds};
 ghost use Rattle.wal_core.specs.Watched.{WatchHolds};
@@ -20,30 +19,31 @@ ghost use Rattle.machine_laws.specs.Locks.{idle, unwatching};
 /// lock: one that is free guards no copy, nor does the watcher's own where it copies nothing, and
 /// one that is held tells how far its copy is.
 pub fn watches_go_from_lock_to_lock()
-    ensures { (setup : Setup) (order : List Entry) (lock : ℕ → ℕ) (works : List Working)
+    ensures { (opening : Opening) (order : List Entry) (lock : ℕ → ℕ) (works : List Working)
         (watches : List Watching) (id i limit : ℕ) (v : View)
-        → IsSegmentSize setup.segment_size → AreHeld lock works
-        → ProgressHolds setup.segment_size
-        (end_form setup (end_position setup.segment_size order)) lock works
-        → v.opening.setup ≡ setup
-        → v.reserving.seen ≤ end_position setup.segment_size order
-        → WatchHolds setup.segment_size
-        (end_form setup (end_position setup.segment_size order)) works watches
-        → HasAt works id v.working → HasAt watches id v.watching → WatchHolds setup.segment_size
-        (end_form setup (end_position setup.segment_size order)) works
+        → IsSegmentSize opening.setup.segment_size → AreHeld lock works
+        → ProgressHolds opening.setup.segment_size
+        (end_form opening.setup (order_end opening order)) lock works
+        → v.opening.setup ≡ opening.setup
+        → v.reserving.seen ≤ order_end opening order
+        → WatchHolds opening.setup.segment_size
+        (end_form opening.setup (order_end opening order)) works watches
+        → HasAt works id v.working → HasAt watches id v.watching
+        → WatchHolds opening.setup.segment_size
+        (end_form opening.setup (order_end opening order)) works
         (set watches id (watching_of (after_load_lock i limit (lock i) v))) }
 {}
 
 /// An entry that begins its flight lies where no watch reaches; one that is copied further or
 /// lands, and a lock that is asked for, leave what watchers know.
 pub fn copies_go_on_before_their_watchers()
-    ensures begun { (setup : Setup) (order : List Entry) (works : List Working)
+    ensures begun { (opening : Opening) (order : List Entry) (works : List Working)
         (watches : List Watching) (id : ℕ) (c : Copy) (locks : List ℕ)
-        → IsSegmentSize setup.segment_size → WatchHolds setup.segment_size
-        (end_form setup (end_position setup.segment_size order)) works watches
-        → c.entry.start ≡ end_position setup.segment_size order
-        → WatchHolds setup.segment_size
-        (end_form setup (end_position setup.segment_size (order ++ c.entry ∷ [])))
+        → IsSegmentSize opening.setup.segment_size → WatchHolds opening.setup.segment_size
+        (end_form opening.setup (order_end opening order)) works watches
+        → c.entry.start ≡ order_end opening order
+        → WatchHolds opening.setup.segment_size
+        (end_form opening.setup (order_end opening (order ++ c.entry ∷ [])))
         (set works id (record { locks = locks; flight = Copying c })) watches }
     ensures copied_on { (size end : ℕ) (works : List Working) (watches : List Watching) (id : ℕ)
         (w : Working) → WatchHolds size end works watches → HasAt works id w

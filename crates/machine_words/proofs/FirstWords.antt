@@ -3,11 +3,12 @@ use Rattle.std.proofs.Common.{◌≡◌, ℕ, ◌+◌, ◌*◌, ◌/◌, ◌%◌
 use Rattle.std.proofs.lemmas.Bool.{cases_eq, cases_lt}
 use Rattle.std.proofs.lemmas.Nat.{div-add-mod', mul-le}
 use Rattle.std.proofs.Math.Nat.{mod-lt}
+use Rattle.byte_position.specs.Position.{end_address_of}
 use Rattle.byte_position.proofs.SegmentSizes.{segment_size_in_pages}
 use Rattle.byte_position.proofs.Words.{end_address_of-mod_word}
-use Rattle.wal_page.specs.Order.{Entry, IsChained, prev_of}
-use Rattle.wal_page.proofs.LogWordLaws.{log_word-behind}
-use Rattle.wal_page.proofs.OwnerLaws.{end_position-whole}
+use Rattle.wal_page.specs.Order.{Entry}
+use Rattle.wal_page.specs.LogPlace.{IsPlace, LogPlace, end_from, new_place}
+use Rattle.wal_page.proofs.PlaceLaws.{word_from-behind}
 use Rattle.wal_core.specs.declared.setup.Setup.{Setup}
 use Rattle.wal_core.specs.Words.{Opening, found_end, found_position, word_of_ring}
 use Rattle.wal_core.specs.Opened.{AreFirstWords}
@@ -29,7 +30,7 @@ apart n p q less near same = apart_by n (p / n) (q / n) (p % n) p q (div-add-mod
     (ap (λ (r : ℕ). q / n * n + r) (sym same) ∙ div-add-mod' q n) less near
 
 module _ (opening : Opening) (valid : IsSetup opening.setup)
-    (chained : IsChained (opening.setup).segment_size opening.found) (page words : List ℕ) where
+    (placed : IsPlace (opening.setup).segment_size opening.place) (page words : List ℕ) where
   abbrev setup : Setup
   setup = opening.setup
 
@@ -43,22 +44,25 @@ module _ (opening : Opening) (valid : IsSetup opening.setup)
   low = upto / 8192
 
   abbrev log_words : ℕ → ℕ
-  log_words k = log_word_of setup opening.found (8 * k)
+  log_words k = log_word_of opening [] (8 * k)
 
   -- the log ends at a word, and has none behind
   aligned : upto % 8 ≡ 0
   aligned = end_address_of-mod_word setup.segment_size valid.size (found_position opening)
-      (end_position-whole setup.segment_size valid.size opening.found chained)
+      placed.whole
+
+  none_ends : end_from setup.segment_size opening.place [] ≡ found_position opening
+  none_ends = omega arith
 
   none_behind : (k : ℕ) → upto ≤ 8 * k → log_words k ≡ 0
-  none_behind k behind = log_word-behind setup.segment_size setup.sysid valid.size opening.found
-      chained (8 * k) behind
+  none_behind k behind = word_from-behind setup.segment_size setup.sysid valid.size opening.place [] tt
+      (8 * k) (omega (arith, ap (λ (n : ℕ). end_address_of setup.segment_size n) none_ends, behind))
 
   abbrev end_of : LogEnd
   end_of = record {
     position = found_position opening;
     address = upto;
-    last_start = prev_of setup.segment_size 0 opening.found;
+    last_start = (opening.place).prev;
   }
 
   module _ (is_page : IsLastPage opening page)
@@ -73,7 +77,7 @@ module _ (opening : Opening) (valid : IsSetup opening.setup)
         let whole = aligned in
         elim (cases_lt j (words_below upto)) [
           | inl below ↦ goes_on.kept j below ∙ is_page j (omega (arith, below, whole))
-              ∙ ap (λ (a : ℕ). log_word_of setup opening.found a) (omega arith)
+              ∙ ap (λ (a : ℕ). log_word_of opening [] a) (omega arith)
           | inr above ↦ goes_on.behind (low % pages * 1024 + j) (omega (arith, above))
               (omega (arith, buffer, within))
               ∙ sym (none_behind (low * 1024 + j) (omega (arith, above, whole)))
@@ -129,16 +133,18 @@ module _ (opening : Opening) (valid : IsSetup opening.setup)
       (subst (λ (e : LogEnd). GoOnBehind pages opening.moment e page words) same goes_on)
 
 -- a log that holds nothing ends where segment 1 begins: of its page no word is below
-pub nothing_ends_first : (opening : Opening) → IsSetup opening.setup → opening.found ≡ []
+pub nothing_ends_first : (opening : Opening) → IsSetup opening.setup
+    → opening.place ≡ new_place (opening.setup).segment_size
     → IsEndOf opening (first_end (opening.setup).segment_size)
-nothing_ends_first opening valid none = record {
-  position_is = sym (nothing_stands opening valid.size none);
-  address_is = sym (nothing_ends opening valid.size none);
-  last_start_is = sym (ap (λ (es : List Entry). prev_of (opening.setup).segment_size 0 es) none);
+nothing_ends_first opening valid fresh = record {
+  position_is = sym (nothing_stands opening valid.size fresh);
+  address_is = sym (nothing_ends opening valid.size fresh);
+  last_start_is = sym (ap (λ (p : LogPlace). p.prev) fresh);
 }
 
-pub no_word_below : (opening : Opening) → IsSetup opening.setup → opening.found ≡ []
+pub no_word_below : (opening : Opening) → IsSetup opening.setup
+    → opening.place ≡ new_place (opening.setup).segment_size
     → (page : List ℕ) → IsLastPage opening page
-no_word_below opening valid none page = λ j below.
+no_word_below opening valid fresh page = λ j below.
     let whole = (segment_size_in_pages (opening.setup).segment_size valid.size).0 in
-    absurd (omega (arith, below, whole, nothing_ends opening valid.size none))
+    absurd (omega (arith, below, whole, nothing_ends opening valid.size fresh))

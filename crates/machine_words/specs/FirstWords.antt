@@ -1,8 +1,7 @@
 -- The words with which a log is opened, one that holds nothing or one that is gone on with.
-use Rattle.std.specs.Prelude.{◌≡◌, ℕ, ◌+◌, ◌*◌, ◌/◌, ◌%◌, ◌<◌, ◌≤◌, List, length, slice_index}
+use Rattle.std.specs.Prelude.{◌≡◌, ℕ, ◌+◌, ◌*◌, ◌/◌, ◌%◌, ◌<◌, ◌≤◌, List, [], length, slice_index}
 use Rattle.byte_position.specs.Position.{first_position}
 use Rattle.record_spelling.specs.Spelling.{word_at}
-use Rattle.wal_page.specs.Order.{prev_of}
 use Rattle.wal_core.specs.Words.{Opening, position_word, prev_word, initialised_word, written_word, flushed_word, moment_word, down_word, end_word, found_position, found_end, initialised_number, ends_number}
 use Rattle.wal_core.specs.Paged.{HoldsPage}
 use Rattle.wal_core.specs.Ringed.{log_word_of}
@@ -51,10 +50,10 @@ first_end segment_size = record {
 pub record IsEndOf (opening : Opening) (end : LogEnd) : Type 0 where
   pub position_is : end.position ≡ found_position opening
   pub address_is : end.address ≡ found_end opening
-  pub last_start_is : end.last_start ≡ prev_of (opening.setup).segment_size 0 opening.found
+  pub last_start_is : end.last_start ≡ (opening.place).prev
 
 -- of the page in which a log that was found ends, the words below its end are the log's
 abbrev pub IsLastPage : Opening → List ℕ → Type 0
 IsLastPage opening page = (j : ℕ) → found_end opening / 8192 * 8192 + 8 * j < found_end opening
     → word_at page j
-    ≡ log_word_of opening.setup opening.found (found_end opening / 8192 * 8192 + 8 * j)
+    ≡ log_word_of opening [] (found_end opening / 8192 * 8192 + 8 * j)

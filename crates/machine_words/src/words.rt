@@ -1,5 +1,5 @@
 ghost use Rattle.std.specs.Prelude.{◌≡◌, ◌+◌, ◌<◌, ◌≤◌, ◌^◌, [], length, set, IfOk};
-ghost use Rattle.wal_page.specs.Order.{IsChained};
+ghost use Rattle.wal_page.specs.LogPlace.{IsPlace, new_place};
 ghost use Rattle.wal_core.specs.Words.{Opening};
 ghost use Rattle.wal_core.specs.Sound.{IsSetup};
 ghost use Rattle.wal_core.specs.Opened.{AreFirstWords};
@@ -45,7 +45,8 @@ impl MachineWords {
         requires { IsSetup setup }
         ensures pages { IfOk result (λ words. words.pages ≡ setup.ring_pages) }
         ensures first { (opening : Opening) → opening.setup ≡ setup → opening.moment ≡ moment
-            → opening.found ≡ [] → IfOk result (λ words. AreFirstWords opening words.words) }
+            → opening.place ≡ new_place setup.segment_size
+            → IfOk result (λ words. AreFirstWords opening words.words) }
     {
         let end = LogEnd::first(setup.segment_size);
         let no_words = [0; PAGE_SIZE as usize];
@@ -67,7 +68,7 @@ impl MachineWords {
         ensures pages { IfOk result (λ words. words.pages ≡ setup.ring_pages) }
         // For each log that was found so they are the words to begin with.
         ensures first { (opening : Opening) → opening.setup ≡ setup → opening.moment ≡ moment
-            → IsChained setup.segment_size opening.found → IsEndOf opening end
+            → IsPlace setup.segment_size opening.place → IsEndOf opening end
             → IsLastPage opening page.now
             → IfOk result (λ words. AreFirstWords opening words.words) }
     {

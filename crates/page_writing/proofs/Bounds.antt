@@ -8,8 +8,7 @@ use Rattle.byte_position.specs.Position.{end_address_of}
 use Rattle.byte_position.proofs.EndAddresses.{end_address_of-le_address_of}
 use Rattle.byte_position.proofs.Rising.{address_of-bound}
 use Rattle.machine_words.proofs.Bounds.{limit_low}
-use Rattle.wal_page.specs.Order.{end_position}
-use Rattle.wal_core.specs.Words.{Opening, write_turn}
+use Rattle.wal_core.specs.Words.{Opening, write_turn, order_end}
 use Rattle.wal_core.specs.Aligned.{IsKnownAligned}
 use Rattle.wal_core.specs.Locked.{StandsTo}
 use Rattle.wal_core.specs.Sound.{IsSound}
@@ -34,12 +33,12 @@ module _ (v : View) (stands : Stands v) (has : HasLent v) where
 
   abbrev end : ℕ
   end = end_address_of (opening.setup).segment_size
-      (end_position (opening.setup).segment_size sound.order)
+      (order_end opening sound.order)
 
   end_low : end < 2 ^ 50
   end_low =
       let size : ℕ = (opening.setup).segment_size in
-      let position : ℕ = end_position size sound.order in
+      let position : ℕ = order_end opening sound.order in
       let within = (sound.reserved).within in
       omega (
         arith,

@@ -87,5 +87,5 @@ crashed_completed_settlings_were_left size sysid cap handed last moment log t no
     left_again size sysid t found left handed moment now crashed (settling_stays size sysid t found left cap handed log.made log now finds settled.there (settled.keeps_old left.whole)) since crash none_torn
 
 pub crashed_reopened_settlings_were_left : CrashedReopenedSettlingsWereLeft
-crashed_reopened_settlings_were_left opening handed moment t began crashed found r since crash none_torn =
-    left_again (opening.setup).segment_size (opening.setup).sysid t found r.left handed moment began crashed (old opening handed t began found r) since crash none_torn
+crashed_reopened_settlings_were_left opening front handed moment t began crashed found r since crash none_torn =
+    left_again (opening.setup).segment_size (opening.setup).sysid t found r.left handed moment began crashed (old opening front handed t began found r) since crash none_torn

@@ -30,7 +30,7 @@ use Rattle.reopened_log.proofs.StoppedSettlings.{began_whole, left_so, reopened_
 use Rattle.reopened_log.proofs.SuitedDisks.{end_is, only_began}
 use Rattle.reopened_log.proofs.SureDisks.{reopened_settlings_stay_sure, stopped_settlings_stay_sure, uncalled_disks_stay_sure}
 use Rattle.reopened_log.proofs.Surviving.{calls_counted, early_leaves}
-use Rattle.reopened_log.proofs.WrittenLogs.{IsWrittenLog, found_firm, written_begins, written_left, written_sure}
+use Rattle.reopened_log.proofs.WrittenLogs.{IsWrittenLog, found_firm, written_left, written_sure}
 
 -- a disk that was left with an order's log, and records that are sure on it
 pub record KeepsSure (size sysid : ℕ) (t : Tape) (order : List Entry) (hard : List FoundRecord)
@@ -108,18 +108,18 @@ module _ (size sysid : ℕ) (t next : Tape) (found : List FoundRecord)
 
 -- ---- a log that was gone on with, until it was opened
 
-module _ (opening : Opening) (handed moment : ℕ) (t began now next : Tape)
-    (found : List FoundRecord) (r : IsReopenedOn opening handed t began found)
+module _ (opening : Opening) (front : List Entry) (handed moment : ℕ) (t began now next : Tape)
+    (found : List FoundRecord) (r : IsReopenedOn opening front handed t began found)
     (goes_on : TapeGoesOn (Some began) (Some now)) (hard : List FoundRecord)
     (kept : All (IsSureRecord (opening.setup).segment_size (opening.setup).sysid (r.left).order
     (state_now t)) hard)
     (since : handed ≤ moment) (early : moment < opening.moment) where
   left_early : IsLeftAt now moment next → IsLeftAt began moment next
   left_early (inl stops) = inl (stops_before opening began now goes_on
-      (calls_counted opening handed t began found r) moment early next stops)
+      (calls_counted opening front handed t began found r) moment early next stops)
   left_early (inr crash) = inr (record {
     quiet = crash.quiet;
-    leaves = early_leaves opening handed t began found r now goes_on moment
+    leaves = early_leaves opening front handed t began found r now goes_on moment
         (image_as_read (state_now next)) crash.leaves early;
   })
 
@@ -129,10 +129,10 @@ module _ (opening : Opening) (handed moment : ℕ) (t began now next : Tape)
       (r.left).order next records
   settled_again (inl stops) none_torn = (
     found,
-    reopened_settlings_were_left opening handed moment t
+    reopened_settlings_were_left opening front handed moment t
         began next found r since stops none_torn,
   )
-  settled_again (inr crash) none_torn = crashed_reopened_settlings_were_left opening handed moment t
+  settled_again (inr crash) none_torn = crashed_reopened_settlings_were_left opening front handed moment t
       began next found r since crash none_torn
 
   pub settled_keeps : IsLeftAt now moment next → NoneTorn (opening.setup).segment_size
@@ -140,45 +140,49 @@ module _ (opening : Opening) (handed moment : ℕ) (t began now next : Tape)
       → KeepsSure (opening.setup).segment_size (opening.setup).sysid next (r.left).order hard
   settled_keeps is none_torn = keeps_all (opening.setup).segment_size (opening.setup).sysid t next
       found r.left hard kept (settled_again (left_early is) none_torn)
-      (reopened_settlings_stay_sure opening handed moment t began next found r since
+      (reopened_settlings_stay_sure opening front handed moment t began next found r since
       (left_early is))
 
 -- ---- a log that is written
 
--- a record of the order, below whose end all is firm from a moment on, or an earlier one
-abbrev pub IsFirmRecord : Opening → List Entry → Tape → (moment : ℕ) → FoundRecord → Type 0
-IsFirmRecord opening order t moment f = Contains (found_of (opening.setup).segment_size order) f
-    × (from : ℕ) × (from ≤ moment) × IsFirm opening.setup order f.end.0 from t
+-- a record of the whole order, below whose end all is firm from a moment on, or an earlier one
+abbrev pub IsFirmRecord : Opening → (front order : List Entry) → Tape → (moment : ℕ)
+    → FoundRecord → Type 0
+IsFirmRecord opening front order t moment f =
+    Contains (found_of (opening.setup).segment_size (front ++ order)) f
+    × (from : ℕ) × (from ≤ moment) × IsFirm opening order f.end.0 from t
 
-module _ (opening : Opening) (order : List Entry) (now : Tape) (w : IsWrittenLog opening order now)
+module _ (opening : Opening) (front order : List Entry) (now : Tape)
+    (w : IsWrittenLog opening front order now)
     (only : AreOnly opening.made (state_at now opening.moment))
     (few : opening.made ≤ (opening.setup).cap_segments)
     (narrow : (opening.setup).sysid < 2 ^ 64)
     (whole : HaveWholePages (opening.setup).segment_size (state_at now opening.moment)) (moment : ℕ)
     (since : opening.moment ≤ moment)
     (next : Tape) (is : IsLeftAt now moment next) (none_torn : NoneTorn (opening.setup).segment_size
-    order next) where
-  written_keeps : (hard : List FoundRecord) → All (IsFirmRecord opening order now moment) hard
-      → KeepsSure (opening.setup).segment_size (opening.setup).sysid next order hard
+    (front ++ order) next) where
+  written_keeps : (hard : List FoundRecord) → All (IsFirmRecord opening front order now moment) hard
+      → KeepsSure (opening.setup).segment_size (opening.setup).sysid next (front ++ order) hard
   written_keeps hard firm =
-      let again = written_left opening order now w only few narrow whole moment since next is
+      let again = written_left opening front order now w only few narrow whole moment since next is
       none_torn in
       record {
         found = again.0;
         left = again.1;
-        kept = All-weaker (IsFirmRecord opening order now moment)
-            (IsSureRecord (opening.setup).segment_size (opening.setup).sysid order (state_now next))
+        kept = All-weaker (IsFirmRecord opening front order now moment)
+            (IsSureRecord (opening.setup).segment_size (opening.setup).sysid (front ++ order)
+            (state_now next))
             (λ f k. (
               k.0,
-              written_sure opening order now w whole moment since next is f.end.0 k.1
+              written_sure opening front order now w whole moment since next is f.end.0 k.1
                   k.2 k.3,
             )) hard firm;
       }
 
 -- that was gone on with
-module _ (opening : Opening) (handed moment : ℕ) (t began now next : Tape)
-    (found : List FoundRecord) (r : IsReopenedOn opening handed t began found)
-    (order : List Entry) (w : IsWrittenLog opening order now)
+module _ (opening : Opening) (front : List Entry) (handed moment : ℕ) (t began now next : Tape)
+    (found : List FoundRecord) (r : IsReopenedOn opening front handed t began found)
+    (order : List Entry) (w : IsWrittenLog opening front order now)
     (goes_on : TapeGoesOn (Some began) (Some now)) (hard : List FoundRecord)
     (kept : All (IsSureRecord (opening.setup).segment_size (opening.setup).sysid (r.left).order
     (state_now t)) hard)
@@ -186,39 +190,40 @@ module _ (opening : Opening) (handed moment : ℕ) (t began now next : Tape)
   -- what was kept is found, and comes first
   still_firm : (f : FoundRecord) → IsSureRecord (opening.setup).segment_size (opening.setup).sysid
       (r.left).order (state_now t) f
-      → IsFirmRecord opening order now moment f
+      → IsFirmRecord opening front order now moment f
   still_firm f k =
       let size = (opening.setup).segment_size in
       let sysid = (opening.setup).sysid in
-      let first = written_begins opening order now w in
-      let longer = contains_longer size opening.found first.0 f
+      let longer = contains_longer size front order f
       (subst (λ (l : List FoundRecord). Contains l f) (sym r.found_is)
       (kept_found size sysid t found r.left f k)) in (
-        subst (λ (es : List Entry). Contains (found_of size es) f) (sym first.1) longer,
+        longer,
         opening.moment,
         since,
-        IsFirm-lower opening.setup order f.end.0 (found_end opening) opening.moment now
+        IsFirm-lower opening order f.end.0 (found_end opening) opening.moment now
             (omega (
               arith,
               kept_low size sysid t found r.left f k,
-              end_is opening handed t began
+              end_is opening front handed t began
                   found r,
-            )) (found_firm opening order now w),
+            )) (found_firm opening front order now w),
       )
 
-  pub reopened_keeps : IsLeftAt now moment next → NoneTorn (opening.setup).segment_size order next
-      → (more : List FoundRecord) → All (IsFirmRecord opening order now moment) more
-      → KeepsSure (opening.setup).segment_size (opening.setup).sysid next order (hard ++ more)
+  pub reopened_keeps : IsLeftAt now moment next
+      → NoneTorn (opening.setup).segment_size (front ++ order) next
+      → (more : List FoundRecord) → All (IsFirmRecord opening front order now moment) more
+      → KeepsSure (opening.setup).segment_size (opening.setup).sysid next (front ++ order)
+      (hard ++ more)
   reopened_keeps is none_torn more told =
-      let counted = calls_counted opening handed t began found r in
-      written_keeps opening order now w (only_then opening began now goes_on counted
-      (only_began opening handed t began found r)) (r.openable).made_within
+      let counted = calls_counted opening front handed t began found r in
+      written_keeps opening front order now w (only_then opening began now goes_on counted
+      (only_began opening front handed t began found r)) (r.openable).made_within
       r.left.has_found.may.narrow
-      (whole_then opening began now goes_on counted (began_whole opening handed t began found r))
+      (whole_then opening began now goes_on counted (began_whole opening front handed t began found r))
       moment since next is none_torn (hard ++ more)
-      (All-append (IsFirmRecord opening order now moment) hard more
+      (All-append (IsFirmRecord opening front order now moment) hard more
       (All-weaker (IsSureRecord (opening.setup).segment_size (opening.setup).sysid (r.left).order
-      (state_now t)) (IsFirmRecord opening order now moment) still_firm hard kept) told)
+      (state_now t)) (IsFirmRecord opening front order now moment) still_firm hard kept) told)
 
 -- ---- a log that begins
 
@@ -236,7 +241,7 @@ none_kept size sysid t found left nothing f kept =
     omega (arith, c.1)
 
 module _ (opening : Opening) (moment : ℕ) (t now next : Tape) (order : List Entry)
-    (w : IsWrittenLog opening order now) (goes_on : TapeGoesOn (Some t) (Some now))
+    (w : IsWrittenLog opening [] order now) (goes_on : TapeGoesOn (Some t) (Some now))
     (nothing : HoldsNothing (Some t)) (none_made : opening.made ≡ 0)
     (counted : opening.moment ≡ length t.calls) (narrow : (opening.setup).sysid < 2 ^ 64)
     (since : opening.moment ≤ moment) (is : IsLeftAt now moment next) where
@@ -250,14 +255,14 @@ module _ (opening : Opening) (moment : ℕ) (t now next : Tape) (order : List En
       (sym (nothing segment)) tt
 
   pub begun_keeps : NoneTorn (opening.setup).segment_size order next
-      → (more : List FoundRecord) → All (IsFirmRecord opening order now moment) more
+      → (more : List FoundRecord) → All (IsFirmRecord opening [] order now moment) more
       → (hard : List FoundRecord) → All (λ f. ⊥) hard
       → KeepsSure (opening.setup).segment_size (opening.setup).sysid next order (hard ++ more)
   begun_keeps none_torn more told hard none =
-      written_keeps opening order now w (only_then opening t now goes_on counted none_there)
+      written_keeps opening [] order now w (only_then opening t now goes_on counted none_there)
       (omega (arith, none_made)) narrow
       (whole_then opening t now goes_on counted empty_whole) moment since next is none_torn
       (hard ++ more)
-      (All-append (IsFirmRecord opening order now moment) hard more
-      (All-weaker (λ (f : FoundRecord). ⊥) (IsFirmRecord opening order now moment)
+      (All-append (IsFirmRecord opening [] order now moment) hard more
+      (All-weaker (λ (f : FoundRecord). ⊥) (IsFirmRecord opening [] order now moment)
       (λ f no. absurd no) hard none) told)

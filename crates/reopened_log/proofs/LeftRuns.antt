@@ -13,6 +13,7 @@ use Rattle.wal_core.specs.Suited.{BeganSuited, IsSuited}
 use Rattle.wal_core.specs.Words.{Opening}
 use Rattle.wal_script.specs.Asked.{AskedLine}
 use Rattle.told_lines.specs.declared.told.Told.{Told}
+use Rattle.told_lines.specs.Told.{order_from}
 use Rattle.run_laws.specs.Assured.{IsRunOn, TapeGoesOn, order_told}
 use Rattle.run_laws.proofs.MachineRuns.{writer_tape}
 use Rattle.reopened_log.specs.Again.{CrashedReopenedRunsWereLeft, CrashedRunsWereLeft, IsOrderAt}
@@ -42,9 +43,9 @@ module _ (opening : Opening) (began now : Tape) (goes_on : TapeGoesOn (Some bega
 
 -- ---- a run
 
-module _ (opening : Opening) (last : ℕ) (began now : Tape) (script : List (List AskedLine)) (lists : List (List Told)) (run : IsRunOn opening (Some began) (Some now) last script lists)
+module _ (opening : Opening) (front : List Entry) (last : ℕ) (began now : Tape) (script : List (List AskedLine)) (lists : List (List Told)) (run : IsRunOn opening front (Some began) (Some now) last script lists)
     (suited : IsSuited opening (state_now began)) (counted : opening.moment ≡ length began.calls) where
-  pub run_written : IsWrittenLog opening (order_told opening script lists) now
+  pub run_written : IsWrittenLog opening front (order_from (opening.setup).segment_size 1 script lists) now
   run_written = record {
     first = run.machine.first;
     words = run.machine.words;
@@ -52,14 +53,15 @@ module _ (opening : Opening) (last : ℕ) (began now : Tape) (script : List (Lis
     views = run.machine.views;
     sound = run.machine.sound;
     order_is = run.machine.order_is;
-    tape_is = writer_tape opening now last script lists run.machine;
+    tape_is = writer_tape opening front now last script lists run.machine;
     suited = began_suited opening began now run.goes_on counted suited;
+    lies = run.machine.lies;
   }
 
 pub crashed_runs_were_left : CrashedRunsWereLeft
-crashed_runs_were_left opening moment last began now crashed script lists run suited only few counted narrow since crash none_torn =
-    crashed_written opening (order_told opening script lists) now
-    (run_written opening last began now script lists run suited counted)
+crashed_runs_were_left opening front moment last began now crashed script lists run suited only few counted narrow since crash none_torn =
+    crashed_written opening front (order_from (opening.setup).segment_size 1 script lists) now
+    (run_written opening front last began now script lists run suited counted)
     (only_then opening began now run.goes_on counted only) few narrow moment since crashed crash none_torn
 
 -- ---- of which order
@@ -80,23 +82,23 @@ module _ (opening : Opening) (moment : ℕ) (handed_in of_run order : List Entry
   }
 
 pub crashed_reopened_runs_were_left : CrashedReopenedRunsWereLeft
-crashed_reopened_runs_were_left opening handed moment last t began now crashed found script lists r run since crash old_torn none_torn =
-    let es = order_told opening script lists in
+crashed_reopened_runs_were_left opening front handed moment last t began now crashed found script lists r run since crash old_torn none_torn =
+    let es = order_told front (opening.setup).segment_size script lists in
     elim (cases_lt moment opening.moment) [
       | inl early ↦
-          (let leaves = early_leaves opening handed t began found r now run.goes_on moment
+          (let leaves = early_leaves opening front handed t began found r now run.goes_on moment
           (image_as_read (state_now crashed)) crash.leaves early in
-          let was = crashed_reopened_settlings_were_left opening handed moment t began crashed found
+          let was = crashed_reopened_settlings_were_left opening front handed moment t began crashed found
           r since (record { quiet = crash.quiet; leaves = leaves }) old_torn in (
             was.0,
             was.1.0,
             order_before opening moment r.left.order es was.1.0.order early was.1.1,
           ))
       | inr later ↦
-          (let was = crashed_runs_were_left opening moment last began now crashed script
-          lists run (reopened_logs_are_suited opening handed t began found r)
-          (only_began opening handed t began found r) r.openable.made_within
-          (calls_counted opening handed t began found r) r.left.has_found.may.narrow later crash
+          (let was = crashed_runs_were_left opening front moment last began now crashed script
+          lists run (reopened_logs_are_suited opening front handed t began found r)
+          (only_began opening front handed t began found r) r.openable.made_within
+          (calls_counted opening front handed t began found r) r.left.has_found.may.narrow later crash
           none_torn in (
             was.0,
             was.1.0,

@@ -1,4 +1,5 @@
 pub mod FirstEntries
+pub mod WholeWords
 pub mod SuitedDisks
 pub mod EarlyMoments
 pub mod Surviving

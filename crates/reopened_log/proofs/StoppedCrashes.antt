@@ -48,5 +48,5 @@ stopped_settlings_survive_crashes size sysid cap handed last t now found left co
     )
 
 pub settled_logs_keep_what_was_found : SettledLogsKeepWhatWasFound
-settled_logs_keep_what_was_found opening handed t began found r moment image after leaves none_torn told answer decodes =
-    synced_logs_decode_to_found (opening.setup).segment_size (opening.setup).sysid r.left.count handed (handed + opening.made) moment r.left.order (before opening handed t began found r) found began image r.left.has_found r.left.only (old opening handed t began found r) (read opening handed t began found r) (omega (arith, after)) after leaves none_torn told answer decodes
+settled_logs_keep_what_was_found opening front handed t began found r moment image after leaves none_torn told answer decodes =
+    synced_logs_decode_to_found (opening.setup).segment_size (opening.setup).sysid r.left.count handed (handed + opening.made) moment r.left.order (before opening front handed t began found r) found began image r.left.has_found r.left.only (old opening front handed t began found r) (read opening front handed t began found r) (omega (arith, after)) after leaves none_torn told answer decodes

@@ -5,6 +5,7 @@ use Rattle.std.proofs.lemmas.List.{take-append-le}
 use Rattle.segment_disk.specs.declared.disk.Call.{Call}
 use Rattle.segment_disk.specs.Tape.{Tape, state_now}
 use Rattle.wal_core.specs.Words.{Opening}
+use Rattle.told_lines.specs.Told.{order_from}
 use Rattle.run_laws.specs.Assured.{TapeGoesOn, order_told}
 use Rattle.reopened_log.specs.Stopped.{StoppedReopenedRunsWereLeft, StoppedRunsWereLeft}
 use Rattle.reopened_log.specs.StopsAt.{StopsAt, tape_until, write_to}
@@ -15,9 +16,9 @@ use Rattle.reopened_log.proofs.Surviving.{calls_counted, some_tape}
 use Rattle.reopened_log.proofs.WrittenLogs.{stopped_written}
 
 pub stopped_runs_were_left : StoppedRunsWereLeft
-stopped_runs_were_left opening moment last began now stopped script lists run suited only whole few counted narrow since stops none_torn =
-    stopped_written opening (order_told opening script lists) now
-    (run_written opening last began now script lists run suited counted)
+stopped_runs_were_left opening front moment last began now stopped script lists run suited only whole few counted narrow since stops none_torn =
+    stopped_written opening front (order_from (opening.setup).segment_size 1 script lists) now
+    (run_written opening front last began now script lists run suited counted)
     (only_then opening began now run.goes_on counted only) few narrow
     (whole_then opening began now run.goes_on counted whole) moment since stopped stops none_torn
 
@@ -55,14 +56,14 @@ module _ (opening : Opening) (began now : Tape) (goes_on : TapeGoesOn (Some bega
       })
 
 pub stopped_reopened_runs_were_left : StoppedReopenedRunsWereLeft
-stopped_reopened_runs_were_left opening handed moment last t began now stopped found script lists r run since stops old_torn none_torn =
-    let counted = calls_counted opening handed t began found r in
-    let es = order_told opening script lists in
+stopped_reopened_runs_were_left opening front handed moment last t began now stopped found script lists r run since stops old_torn none_torn =
+    let counted = calls_counted opening front handed t began found r in
+    let es = order_told front (opening.setup).segment_size script lists in
     elim (cases_lt moment opening.moment) [
       | inl early ↦
-          (let was = reopened_settlings_were_left opening handed moment t began stopped found r since (stops_before opening began now run.goes_on counted moment early stopped stops) old_torn in
+          (let was = reopened_settlings_were_left opening front handed moment t began stopped found r since (stops_before opening began now run.goes_on counted moment early stopped stops) old_torn in
           (found, was.0, order_before opening moment r.left.order es was.0.order early was.1))
       | inr later ↦
-          (let was = stopped_runs_were_left opening moment last began now stopped script lists run (reopened_logs_are_suited opening handed t began found r) (only_began opening handed t began found r) (began_whole opening handed t began found r) r.openable.made_within counted r.left.has_found.may.narrow later stops none_torn in
+          (let was = stopped_runs_were_left opening front moment last began now stopped script lists run (reopened_logs_are_suited opening front handed t began found r) (only_began opening front handed t began found r) (began_whole opening front handed t began found r) r.openable.made_within counted r.left.has_found.may.narrow later stops none_torn in
           (was.0, was.1.0, order_since opening moment r.left.order es was.1.0.order later was.1.1))
     ]

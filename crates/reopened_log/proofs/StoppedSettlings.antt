@@ -266,27 +266,27 @@ stopped_settlings_were_left size sysid cap handed last moment t now ended found 
     left_so size sysid t found left ended (stopped size sysid t found left cap handed last moment now counted begun since ended stops) none_torn
 
 -- the calls of a settling that was made to its end
-calls_are : (opening : Opening) (handed : ℕ) (t began : Tape) (found : List FoundRecord) (r : IsReopenedOn opening handed t began found) → r.settled.calls.calls ≡ settle_calls (opening.setup).segment_size (end_behind (opening.setup).segment_size found) r.left.count (state_now t)
-calls_are opening handed t began found r =
+calls_are : (opening : Opening) (front : List Entry) (handed : ℕ) (t began : Tape) (found : List FoundRecord) (r : IsReopenedOn opening front handed t began found) → r.settled.calls.calls ≡ settle_calls (opening.setup).segment_size (end_behind (opening.setup).segment_size found) r.left.count (state_now t)
+calls_are opening front handed t began found r =
     let size = (opening.setup).segment_size in
     let calls = r.settled.calls.calls in
-    let at_end : calls ≡ settle_calls size (end_behind size found) opening.made (state_now t) = subst (λ (n : ℕ). calls ≡ settle_calls size n opening.made (state_now t)) (sym (end_is opening handed t began found r)) r.settled.calls.are in
-    subst (λ (n : ℕ). calls ≡ settle_calls size (end_behind size found) n (state_now t)) (sym (count_is opening handed t began found r)) at_end
+    let at_end : calls ≡ settle_calls size (end_behind size found) opening.made (state_now t) = subst (λ (n : ℕ). calls ≡ settle_calls size n opening.made (state_now t)) (sym (end_is opening front handed t began found r)) r.settled.calls.are in
+    subst (λ (n : ℕ). calls ≡ settle_calls size (end_behind size found) n (state_now t)) (sym (count_is opening front handed t began found r)) at_end
 
-pub began_whole : (opening : Opening) (handed : ℕ) (t began : Tape) (found : List FoundRecord) → IsReopenedOn opening handed t began found → HaveWholePages (opening.setup).segment_size (state_now began)
-began_whole opening handed t began found r =
-    settled_whole (opening.setup).segment_size (opening.setup).sysid t found r.left began handed opening.moment r.counted r.settled.calls.calls (calls_are opening handed t began found r) r.settled.calls.made
+pub began_whole : (opening : Opening) (front : List Entry) (handed : ℕ) (t began : Tape) (found : List FoundRecord) → IsReopenedOn opening front handed t began found → HaveWholePages (opening.setup).segment_size (state_now began)
+began_whole opening front handed t began found r =
+    settled_whole (opening.setup).segment_size (opening.setup).sysid t found r.left began handed opening.moment r.counted r.settled.calls.calls (calls_are opening front handed t began found r) r.settled.calls.made
 
 pub completed_settlings_were_left : CompletedSettlingsWereLeft
 completed_settlings_were_left size sysid cap handed last moment log t now ended found left counted finds settled since stops none_torn =
     left_so size sysid t found left ended (completed size sysid t found left cap handed last moment log now counted finds settled since ended stops) none_torn
 
 -- where a settling stops that was made to its end
-pub reopened_stops : (opening : Opening) (handed moment : ℕ) (t began ended : Tape) (found : List FoundRecord) (r : IsReopenedOn opening handed t began found) → handed ≤ moment → StopsAt began moment ended → StopsSettling (opening.setup).segment_size (opening.setup).sysid t found r.left ended
-reopened_stops opening handed moment t began ended found r since stops =
+pub reopened_stops : (opening : Opening) (front : List Entry) (handed moment : ℕ) (t began ended : Tape) (found : List FoundRecord) (r : IsReopenedOn opening front handed t began found) → handed ≤ moment → StopsAt began moment ended → StopsSettling (opening.setup).segment_size (opening.setup).sysid t found r.left ended
+reopened_stops opening front handed moment t began ended found r since stops =
     let calls = r.settled.calls.calls in
-    stops_meanwhile (opening.setup).segment_size (opening.setup).sysid t found r.left began handed opening.moment moment r.counted calls [] (append-nil calls ∙ calls_are opening handed t began found r) (inl r.settled.calls.made) since ended stops
+    stops_meanwhile (opening.setup).segment_size (opening.setup).sysid t found r.left began handed opening.moment moment r.counted calls [] (append-nil calls ∙ calls_are opening front handed t began found r) (inl r.settled.calls.made) since ended stops
 
 pub reopened_settlings_were_left : ReopenedSettlingsWereLeft
-reopened_settlings_were_left opening handed moment t began ended found r since stops none_torn =
-    left_so (opening.setup).segment_size (opening.setup).sysid t found r.left ended (reopened_stops opening handed moment t began ended found r since stops) none_torn
+reopened_settlings_were_left opening front handed moment t began ended found r since stops none_torn =
+    left_so (opening.setup).segment_size (opening.setup).sysid t found r.left ended (reopened_stops opening front handed moment t began ended found r since stops) none_torn

@@ -1,8 +1,9 @@
 -- A disk that was left by this program, and settled, is one on which its log may go on.
-use Rattle.std.proofs.Common.{◌≡◌, ℕ, ◌+◌, ◌*◌, ◌/◌, ◌^◌, ◌<◌, List, length, take, Option, Some, None, inl, inr, refl, sym, ap, subst, ◌∙◌, arith}
+use Rattle.std.proofs.Common.{◌≡◌, ℕ, ◌+◌, ◌*◌, ◌/◌, ◌^◌, ◌<◌, List, [], length, take, Option, Some, None, inl, inr, refl, sym, ap, subst, ◌∙◌, arith}
 use Rattle.std.specs.Prelude.{IsSome}
 use Rattle.std.specs.Int.{w64, to_le_bytes}
 use Rattle.std.proofs.lemmas.Bool.{cases_lt, cond-true, lt-ltb}
+use Rattle.std.proofs.lemmas.List.{append-nil}
 use Rattle.std.proofs.Math.Seq.{take-length}
 use Rattle.byte_position.specs.Geometry.{IsSegmentSize, pages_of}
 use Rattle.byte_position.specs.Position.{end_address_of}
@@ -10,9 +11,9 @@ use Rattle.byte_position.proofs.SegmentSizes.{segment_size_in_pages}
 use Rattle.segment_disk.specs.Assured.{SegmentAssures, StateAssures}
 use Rattle.segment_disk.specs.DiskImage.{word_of}
 use Rattle.segment_disk.specs.Tape.{DiskState, Segment, Tape, page_as_read, page_of_segment, state_now}
-use Rattle.wal_page.specs.Order.{Entry, end_position}
+use Rattle.wal_page.specs.Order.{Entry, IsChained, end_position}
 use Rattle.flush_core.specs.Settled.{IsAmong, IsOldOrZero, KeepsOld, KeepsRead, StaysSettled}
-use Rattle.flush_core.specs.SettledLog.{AreOnly, IsZeroOrLogWord, ReadsAsLog}
+use Rattle.flush_core.specs.SettledLog.{AreOnly, IsLogWord, IsZeroOrLogWord, ReadsAsLog}
 use Rattle.flush_core.proofs.SettledLeft.{from_number}
 use Rattle.flush_core.proofs.SettledLogs.{settled_logs_are_whole}
 use Rattle.wal_reader.specs.declared.found.FoundRecord.{FoundRecord}
@@ -20,9 +21,11 @@ use Rattle.written_log.specs.FoundLog.{ReadsAsFound, end_behind}
 use Rattle.written_log.specs.Written.{found_of}
 use Rattle.written_log.proofs.FoundLogs.{found_logs_read_as_log}
 use Rattle.written_log.proofs.FoundImages.{end_of_front}
+use Rattle.wal_core.specs.Suited.{IsLogAt}
 use Rattle.wal_core.specs.Words.{Opening, found_end}
 use Rattle.reopened_log.specs.Reopened.{IsReopenedOn, ReopenedLogsAreSuited}
 use Rattle.reopened_log.proofs.FirstEntries.{same_as_read, same_words}
+use Rattle.reopened_log.proofs.WholeWords.{StateAssures-weaker, log_at-behind}
 
 -- ---- how many segments there are
 
@@ -49,7 +52,7 @@ same_count size made count Fits state limit some assures only low there others =
 
 -- ---- the words
 
-module _ (opening : Opening) (handed : ℕ) (t began : Tape) (found : List FoundRecord) (r : IsReopenedOn opening handed t began found) where
+module _ (opening : Opening) (front : List Entry) (handed : ℕ) (t began : Tape) (found : List FoundRecord) (r : IsReopenedOn opening front handed t began found) where
   abbrev pub size : ℕ
   size = (opening.setup).segment_size
 
@@ -69,18 +72,26 @@ module _ (opening : Opening) (handed : ℕ) (t began : Tape) (found : List Found
   reads : ReadsAsFound (opening.setup).segment_size (opening.setup).sysid r.left.count r.left.order (state_now t) found
   reads = found_logs_read_as_log size sysid r.left.count r.left.order before found r.left.has_found
 
+  -- what was found stands from the log's start on, and ends where the opening says
+  pub found_chained : IsChained (opening.setup).segment_size front
+  found_chained = r.lies.chained
+
+  found_ends : end_address_of (opening.setup).segment_size (end_position (opening.setup).segment_size front) ≡ found_end opening
+  found_ends = ap (end_address_of size) (sym r.lies.position_is)
+
   -- where the records end that were found
   pub end_is : end_behind (opening.setup).segment_size found ≡ found_end opening
   end_is =
-      let all : opening.found ≡ take (length opening.found) opening.found = sym (take-length opening.found) in
-      end_of_front size opening.found (length opening.found) found valid r.openable.chained (sym r.found_is ∙ ap (found_of size) all)
+      let all : front ≡ take (length front) front = sym (take-length front) in
+      end_of_front size front (length front) found valid found_chained (sym r.found_is ∙ ap (found_of size) all)
       ∙ ap (λ (es : List Entry). end_address_of size (end_position size es)) (sym all)
+      ∙ found_ends
 
-  pub reads_found : ReadsAsLog (opening.setup).segment_size (opening.setup).sysid opening.made opening.found (found_end opening) (state_now t)
+  pub reads_found : ReadsAsLog (opening.setup).segment_size (opening.setup).sysid opening.made front (found_end opening) (state_now t)
   reads_found number word bytes among small low read =
-      let same = same_as_read size sysid r.left.count r.left.order opening.found before found r.left.has_found reads r.openable.chained r.openable.nobodys r.found_is in
+      let same = same_as_read size sysid r.left.count r.left.order front before found r.left.has_found reads found_chained r.lies.nobodys r.found_is in
       reads.own number word bytes (subst (λ (n : ℕ). IsAmong n (number / pages_of size)) (sym count_is) among) small (omega (arith, low, end_is)) read
-      ∙ ap (to_le_bytes w64) (sym (same_words size sysid opening.found (take reads.among r.left.order) same (number * 8192 + 8 * word)))
+      ∙ ap (to_le_bytes w64) (sym (same_words size sysid front (take reads.among r.left.order) same (number * 8192 + 8 * word)))
 
   pub only_made : AreOnly opening.made (state_now t)
   only_made = subst (λ (n : ℕ). AreOnly n before) count_is r.left.only
@@ -112,6 +123,21 @@ module _ (opening : Opening) (handed : ℕ) (t began : Tape) (found : List Found
   only_began segment apart = still_none segment (state_now began segment)
       (only_made segment apart) (keeps_old.now segment)
 
+-- whatever a crash leaves then is the log that was found
+module _ (opening : Opening) (front : List Entry) (handed : ℕ) (t began : Tape) (found : List FoundRecord) (r : IsReopenedOn opening front handed t began found) where
+  whole_found : StateAssures (opening.setup).segment_size (IsAmong opening.made) (IsLogWord (opening.setup).segment_size (opening.setup).sysid front) (state_now began)
+  whole_found =
+      subst (λ (end : ℕ). ReadsAsLog (size opening front handed t began found r) (sysid opening front handed t began found r) opening.made front end (state_now t)
+      → KeepsOld (size opening front handed t began found r) (state_now t) opening.made end handed began
+      → StaysSettled (size opening front handed t began found r) (state_now t) opening.made end opening.moment began
+      → StateAssures (size opening front handed t began found r) (IsAmong opening.made) (IsLogWord (size opening front handed t began found r) (sysid opening front handed t began found r) front) (state_now began))
+      (found_ends opening front handed t began found r)
+      (settled_logs_are_whole (opening.setup).segment_size (opening.setup).sysid opening.made handed opening.moment front (state_now t) began (valid opening front handed t began found r) (found_chained opening front handed t began found r) (only_made opening front handed t began found r))
+      (reads_found opening front handed t began found r) (keeps_old opening front handed t began found r) (stays_settled opening front handed t began found r)
+
 pub reopened_logs_are_suited : ReopenedLogsAreSuited
-reopened_logs_are_suited opening handed t began found r =
-    settled_logs_are_whole (opening.setup).segment_size (opening.setup).sysid opening.made handed opening.moment opening.found (state_now t) began (valid opening handed t began found r) r.openable.chained (only_made opening handed t began found r) (reads_found opening handed t began found r) (keeps_old opening handed t began found r) (stays_settled opening handed t began found r)
+reopened_logs_are_suited opening front handed t began found r =
+    StateAssures-weaker (opening.setup).segment_size (IsAmong opening.made) (IsLogWord (opening.setup).segment_size (opening.setup).sysid front) (IsLogAt opening [])
+    (λ page word bytes is. log_at-behind opening front r.lies [] (valid opening front handed t began found r) tt page word bytes
+    (subst (λ (es : List Entry). IsLogWord (opening.setup).segment_size (opening.setup).sysid es page word bytes) (sym (append-nil front)) is))
+    (state_now began) (whole_found opening front handed t began found r)

@@ -1,5 +1,5 @@
 -- What is sure of a log on a disk stays so: while it is settled, and over stops and crashes; and a run makes sure all that was found and all that its lines were told.
-use Rattle.std.proofs.Common.{ℕ, ◌+◌, ◌*◌, ◌/◌, ◌≤◌, List, length, Option, Some, None, inl, inr, refl, subst, arith}
+use Rattle.std.proofs.Common.{ℕ, ◌+◌, ◌*◌, ◌/◌, ◌≤◌, List, [], length, Option, Some, None, inl, inr, refl, subst, arith}
 use Rattle.std.proofs.lemmas.Bool.{cases_lt}
 use Rattle.byte_position.specs.Geometry.{IsSegmentSize, pages_of}
 use Rattle.segment_disk.specs.Assured.{IsMadeUpto, IsNowhere, SegmentAssures, SegmentFits, StateAssures}
@@ -10,6 +10,9 @@ use Rattle.flush_core.specs.Settled.{IsAmong, IsOldOrZero, KeepsOld}
 use Rattle.flush_core.specs.SettledLog.{IsZeroOrLogWord}
 use Rattle.flush_core.proofs.LeftLaws.{ImageFits-left}
 use Rattle.flush_core.proofs.SettledLogs.{stands_fit}
+use Rattle.wal_page.specs.LogPlace.{new_place}
+use Rattle.wal_page.specs.Order.{IsChained}
+use Rattle.wal_page.proofs.PlaceLaws.{new_place-stands}
 use Rattle.wal_reader.specs.declared.found.Answer.{Answer}
 use Rattle.wal_reader.specs.declared.found.FoundRecord.{FoundRecord}
 use Rattle.wal_reader.specs.Decodes.{Decodes}
@@ -18,11 +21,13 @@ use Rattle.written_log.specs.FoundLog.{end_behind}
 use Rattle.written_log.specs.LawfulLog.{IsFrontUpto}
 use Rattle.written_log.specs.Torn.{NoTornPass}
 use Rattle.written_log.proofs.LawfulLaws.{lawful_images_decode_to_fronts}
-use Rattle.wal_core.specs.declared.setup.Setup.{Setup}
-use Rattle.wal_core.specs.Words.{found_end}
-use Rattle.machine_laws.proofs.CrashLaws.{IsLawful-left}
+use Rattle.wal_core.specs.Durable.{IsLawfulAt, IsLogBelow}
+use Rattle.wal_core.specs.Words.{Opening, found_end}
+use Rattle.machine_laws.specs.WholeOrders.{LiesBehind}
+use Rattle.machine_laws.proofs.CrashLaws.{IsLawfulBehind-left}
 use Rattle.machine_laws.proofs.DurableGrowth.{IsFirm-lower}
-use Rattle.run_laws.specs.Assured.{order_told}
+use Rattle.machine_laws.proofs.WholeOrders.{IsLawful-whole, LiesBehind-new, whole_order}
+use Rattle.told_lines.specs.Told.{order_from}
 use Rattle.run_laws.proofs.MachineRuns.{keeps_words}
 use Rattle.reopened_log.specs.Again.{IsLeftByCrash}
 use Rattle.reopened_log.specs.Sure.{IsLogUpto, IsSureUpto, ReopenedSettlingsStaySure, RunsMakeSure, StoppedSettlingsStaySure, SureEntriesAreRead, UncalledDisksStaySure}
@@ -32,6 +37,7 @@ use Rattle.reopened_log.proofs.CutWrites.{left_as_read}
 use Rattle.reopened_log.proofs.LeftRuns.{run_written, whole_then}
 use Rattle.reopened_log.proofs.StoppedSettlings.{old_so, reopened_stops, stopped, stops_uncalled}
 use Rattle.reopened_log.proofs.Surviving.{old}
+use Rattle.reopened_log.proofs.WholeWords.{StateAssures-weaker, lawful-behind, upto-behind}
 use Rattle.reopened_log.proofs.WordImages.{quiet_assures}
 use Rattle.reopened_log.proofs.WrittenLogs.{written_sure}
 
@@ -42,20 +48,38 @@ nowhere_fits size IsThere Fits segment None fits = λ none. none
 nowhere_fits size IsThere Fits segment (Some i) fits = fits
 
 module _ (size sysid : ℕ) (t : Tape) (found : List FoundRecord) (left : WasLeft size sysid t found) where
-  -- a setup of which nothing counts but these two numbers
-  abbrev setup : Setup
-  setup = record { segment_size = size; ring_pages = 0; cap_segments = 0; sysid = sysid; passes = 0 }
+  -- a new log's opening of which nothing counts but these two numbers
+  abbrev opening : Opening
+  opening = record {
+    setup = record { segment_size = size; ring_pages = 0; cap_segments = 0; sysid = sysid; passes = 0 };
+    place = new_place size;
+    made = 0;
+    moment = 0;
+    faults = 0;
+  }
 
   abbrev valid : IsSegmentSize size
   valid = left.has_found.may.valid
 
+  -- nothing lies below it
+  abbrev lies : LiesBehind opening []
+  lies = LiesBehind-new opening valid refl
+
+  abbrev chained : IsChained size left.order
+  chained = left.has_found.may.chained
+
   module _ (upto : ℕ) (sure : IsSureUpto size sysid left.order upto (state_now t)) where
     image_lawful : (image : DiskImage) → MayLeave (state_now t) image → IsLawful size sysid image left.order upto
     image_lawful image may =
-        let all = ImageFits-left size (IsAmong left.count) (IsZeroOrLogWord size sysid left.order) (state_now t) image left.has_found.may.lawful may in
-        IsLawful-left setup valid left.order left.has_found.may.chained image upto
-        (ImageFits-left size (IsMadeUpto size upto) (IsLogUpto size sysid left.order upto) (state_now t) image sure may)
-        (λ segment. nowhere_fits size (IsAmong left.count) (IsZeroOrLogWord size sysid left.order) segment (image segment) (all segment))
+        let order = left.order in
+        let lawful = StateAssures-weaker size (IsAmong left.count) (IsZeroOrLogWord size sysid order) (IsLawfulAt opening order) (lawful-behind opening [] lies order valid chained) (state_now t) left.has_found.may.lawful in
+        let below = StateAssures-weaker size (IsMadeUpto size upto) (IsLogUpto size sysid order upto) (IsLogBelow opening order upto) (upto-behind opening [] lies order valid chained upto) (state_now t) sure in
+        let all = ImageFits-left size (IsAmong left.count) (IsLawfulAt opening order) (state_now t) image lawful may in
+        let behind = IsLawfulBehind-left opening valid order (new_place-stands size sysid valid) image upto
+        (ImageFits-left size (IsMadeUpto size upto) (IsLogBelow opening order upto) (state_now t) image below may)
+        (λ segment. nowhere_fits size (IsAmong left.count) (IsLawfulAt opening order) segment (image segment) (all segment)) in
+        let whole = whole_order opening valid [] lies order chained in
+        IsLawful-whole opening order order image upto valid whole behind
 
     image_reads : (image : DiskImage) → MayLeave (state_now t) image → NoTornPass size (pages_in size image) left.order → (records : List FoundRecord) (answer : Answer) → Decodes size (pages_in size image) size None records answer → IsFrontUpto size left.order upto records
     image_reads image may none_torn records answer decodes =
@@ -110,24 +134,24 @@ stopped_settlings_stay_sure size sysid cap handed last moment t now next found l
     ])
 
 pub reopened_settlings_stay_sure : ReopenedSettlingsStaySure
-reopened_settlings_stay_sure opening handed moment t began next found r since is upto within sure =
+reopened_settlings_stay_sure opening front handed moment t began next found r since is upto within sure =
     let size = (opening.setup).segment_size in
     let sysid = (opening.setup).sysid in
     stays size sysid t found r.left upto sure within (state_now next) (elim is [
-      | inl stops ↦ old_so size sysid t found r.left next (reopened_stops opening handed moment t began next found r since stops)
-      | inr crash ↦ crash_old size sysid t found r.left handed moment began next (old opening handed t began found r) since crash
+      | inl stops ↦ old_so size sysid t found r.left next (reopened_stops opening front handed moment t began next found r since stops)
+      | inr crash ↦ crash_old size sysid t found r.left handed moment began next (old opening front handed t began found r) since crash
     ])
 
 -- ---- a run
 
 pub runs_make_sure : RunsMakeSure
-runs_make_sure opening moment last began now next script lists run suited whole counted since is upto asked =
-    let order = order_told opening script lists in
-    let w = run_written opening last began now script lists run suited counted in
-    let words = keeps_words opening now last script lists run.machine w.suited in
+runs_make_sure opening front moment last began now next script lists run suited whole counted since is upto asked =
+    let order = order_from (opening.setup).segment_size 1 script lists in
+    let w = run_written opening front last began now script lists run suited counted in
+    let words = keeps_words opening front now last script lists run.machine w.suited in
     let there = whole_then opening began now run.goes_on counted whole in
     elim asked [
-      | inl low ↦ written_sure opening order now w there moment since next is upto opening.moment since
-          (IsFirm-lower opening.setup order upto (found_end opening) opening.moment now low words.found)
-      | inr says ↦ written_sure opening order now w there moment since next is upto moment (omega arith) (words.told moment upto says)
+      | inl low ↦ written_sure opening front order now w there moment since next is upto opening.moment since
+          (IsFirm-lower opening order upto (found_end opening) opening.moment now low words.found)
+      | inr says ↦ written_sure opening front order now w there moment since next is upto moment (omega arith) (words.told moment upto says)
     ]

@@ -53,7 +53,7 @@ front_of size es order told behind is =
 pub some_tape : (one other : Tape) → Some one ≡ Some other → one ≡ other
 some_tape one other same = cc
 
-module _ (opening : Opening) (handed : ℕ) (t began : Tape) (found : List FoundRecord) (r : IsReopenedOn opening handed t began found) where
+module _ (opening : Opening) (front : List Entry) (handed : ℕ) (t began : Tape) (found : List FoundRecord) (r : IsReopenedOn opening front handed t began found) where
   abbrev size : ℕ
   size = (opening.setup).segment_size
 
@@ -68,26 +68,26 @@ module _ (opening : Opening) (handed : ℕ) (t began : Tape) (found : List Found
       let is : began ≡ record t { calls = t.calls ++ calls } = some_tape began (record t { calls = t.calls ++ calls }) (made.tape ∙ with_calls-some t calls) in
       omega (arith, made.moment, r.counted, ap (λ (d : Tape). length d.calls) is, length-append t.calls calls)
 
-  pub old : KeepsOld (opening.setup).segment_size (before opening handed t began found r) r.left.count (end_behind (opening.setup).segment_size found) handed began
-  old = subst (λ (n : ℕ). KeepsOld size (before opening handed t began found r) n (end_behind size found) handed began) (sym (count_is opening handed t began found r))
-      (subst (λ (n : ℕ). KeepsOld size (before opening handed t began found r) opening.made n handed began) (sym (end_is opening handed t began found r)) (keeps_old opening handed t began found r))
+  pub old : KeepsOld (opening.setup).segment_size (before opening front handed t began found r) r.left.count (end_behind (opening.setup).segment_size found) handed began
+  old = subst (λ (n : ℕ). KeepsOld size (before opening front handed t began found r) n (end_behind size found) handed began) (sym (count_is opening front handed t began found r))
+      (subst (λ (n : ℕ). KeepsOld size (before opening front handed t began found r) opening.made n handed began) (sym (end_is opening front handed t began found r)) (keeps_old opening front handed t began found r))
 
-  pub read : KeepsRead (opening.setup).segment_size (before opening handed t began found r) r.left.count (end_behind (opening.setup).segment_size found) (handed + opening.made) began
-  read = subst (λ (n : ℕ). KeepsRead size (before opening handed t began found r) n (end_behind size found) (handed + opening.made) began) (sym (count_is opening handed t began found r))
-      (subst (λ (n : ℕ). KeepsRead size (before opening handed t began found r) opening.made n (handed + opening.made) began) (sym (end_is opening handed t began found r)) (keeps_read opening handed t began found r))
+  pub read : KeepsRead (opening.setup).segment_size (before opening front handed t began found r) r.left.count (end_behind (opening.setup).segment_size found) (handed + opening.made) began
+  read = subst (λ (n : ℕ). KeepsRead size (before opening front handed t began found r) n (end_behind size found) (handed + opening.made) began) (sym (count_is opening front handed t began found r))
+      (subst (λ (n : ℕ). KeepsRead size (before opening front handed t began found r) opening.made n (handed + opening.made) began) (sym (end_is opening front handed t began found r)) (keeps_read opening front handed t began found r))
 
   -- ---- an image that a crash leaves before the opening
 
   module _ (moment : ℕ) (image : DiskImage) (since : handed ≤ moment) (leaves : LeftAt began moment image) (none_torn : NoTornPass (opening.setup).segment_size (pages_in (opening.setup).segment_size image) r.left.order) (told : List FoundRecord) (answer : Answer)
       (decodes : Decodes (opening.setup).segment_size (pages_in (opening.setup).segment_size image) (opening.setup).segment_size None told answer) where
     pub front_before : (behind : List FoundRecord) × (found ≡ told ++ behind)
-    front_before = unsynced_logs_decode_to_fronts size sysid r.left.count handed moment r.left.order (before opening handed t began found r) found began image r.left.has_found r.left.only r.left.never_whole old since leaves none_torn told answer decodes
+    front_before = unsynced_logs_decode_to_fronts size sysid r.left.count handed moment r.left.order (before opening front handed t began found r) found began image r.left.has_found r.left.only r.left.never_whole old since leaves none_torn told answer decodes
 
-    pub all_synced : handed + opening.made ≤ moment → take (length opening.found) told ≡ found_of (opening.setup).segment_size opening.found
+    pub all_synced : handed + opening.made ≤ moment → take (length front) told ≡ found_of (opening.setup).segment_size front
     all_synced after =
-        let is = synced_logs_decode_to_found size sysid r.left.count handed (handed + opening.made) moment r.left.order (before opening handed t began found r) found began image r.left.has_found r.left.only old read since after leaves none_torn told answer decodes in
-        let all : told ≡ found_of size opening.found = is ∙ sym r.found_is in
-        take_all (length opening.found) told (omega (arith, ap length all, found-length size 0 opening.found)) ∙ all
+        let is = synced_logs_decode_to_found size sysid r.left.count handed (handed + opening.made) moment r.left.order (before opening front handed t began found r) found began image r.left.has_found r.left.only old read since after leaves none_torn told answer decodes in
+        let all : told ≡ found_of size front = is ∙ sym r.found_is in
+        take_all (length front) told (omega (arith, ap length all, found-length size 0 front)) ∙ all
 
   -- ---- at any moment
 
@@ -101,21 +101,21 @@ module _ (opening : Opening) (handed : ℕ) (t began : Tape) (found : List Found
       (moment : ℕ) (image : DiskImage) (since : handed ≤ moment) (leaves : LeftAt now moment image) where
     pub early_front : moment < opening.moment → NoTornPass (opening.setup).segment_size (pages_in (opening.setup).segment_size image) r.left.order → (told : List FoundRecord) (answer : Answer)
         → Decodes (opening.setup).segment_size (pages_in (opening.setup).segment_size image) (opening.setup).segment_size None told answer
-        → IsFrontWithTold (opening.setup).segment_size moment (opening.found ++ order) lists told × (handed + opening.made ≤ moment → take (length opening.found) told ≡ found_of (opening.setup).segment_size opening.found)
+        → IsFrontWithTold (opening.setup).segment_size moment (front ++ order) lists told × (handed + opening.made ≤ moment → take (length front) told ≡ found_of (opening.setup).segment_size front)
     early_front early none_torn told answer decodes =
-        let front = front_before moment image since (early_leaves now goes_on moment image leaves early) none_torn told answer decodes in (
+        let before_it = front_before moment image since (early_leaves now goes_on moment image leaves early) none_torn told answer decodes in (
           record {
             count = length told;
-            front = front_of size opening.found order told front.0 (r.found_is ∙ front.1);
+            front = front_of size front order told before_it.0 (r.found_is ∙ before_it.1);
             told = λ n e at says. absurd (none_so_early opening.moment moment _ early script lists last rises says);
           },
           all_synced moment image since (early_leaves now goes_on moment image leaves early) none_torn told answer decodes,
         )
 
 pub reopened_logs_survive_crashes : ReopenedLogsSurviveCrashes
-reopened_logs_survive_crashes opening handed last faults t began now found script lists reopened run moment image since leaves old_torn none_torn told answer decodes =
-    let suited = reopened_logs_are_suited opening handed t began found reopened in
+reopened_logs_survive_crashes opening front handed last faults t began now found script lists reopened run moment image since leaves old_torn none_torn told answer decodes =
+    let suited = reopened_logs_are_suited opening front handed t began found reopened in
     elim (cases_lt moment opening.moment) [
-      | inl early ↦ early_front opening handed t began found reopened now (order_from (opening.setup).segment_size 1 script lists) script lists last run.goes_on run.moments moment image since leaves early old_torn told answer decodes
+      | inl early ↦ early_front opening front handed t began found reopened now (order_from (opening.setup).segment_size 1 script lists) script lists last run.goes_on run.moments moment image since leaves early old_torn told answer decodes
       | inr later ↦ (run.crash suited moment image later leaves none_torn told answer decodes, λ _. run.keeps_found suited moment image later leaves none_torn told answer decodes)
     ]

@@ -1,6 +1,6 @@
 -- What the machine's invariant says of the disk of a log that is written, whichever passes fill it,
 -- at each moment since its opening.
-use Rattle.std.proofs.Common.{◌≡◌, ◌≢◌, ℕ, ◌+◌, ◌*◌, ◌/◌, ◌^◌, ◌<◌, ◌≤◌, ◌⊎◌, List, Option, Some, None, IfSome, inl, inr, sym, ap, subst, arith}
+use Rattle.std.proofs.Common.{◌≡◌, ◌≢◌, ℕ, ◌+◌, ◌*◌, ◌/◌, ◌^◌, ◌<◌, ◌≤◌, ◌⊎◌, List, [], ◌++◌, Option, Some, None, IfSome, inl, inr, sym, ap, subst, arith}
 use Rattle.std.specs.Prelude.{IsSome}
 use Rattle.std.proofs.lemmas.Bool.{cases_lt}
 use Rattle.std.proofs.Math.Nat.{le-div_iff_mul-le, mul-le-mul_right}
@@ -21,31 +21,33 @@ use Rattle.written_log.specs.Torn.{NoTornPass}
 use Rattle.flush_core.specs.Settled.{AreThere, HaveWholePages}
 use Rattle.flush_core.specs.SettledLog.{AreOnly, IsZeroOrLogWord}
 use Rattle.wal_core.specs.declared.setup.Setup.{Setup}
-use Rattle.wal_core.specs.Durable.{IsFirm, IsLawfulAt, IsLogBelow, IsMadeInTurn}
+use Rattle.wal_core.specs.Durable.{IsFirm, IsLawfulAt, IsMadeInTurn}
 use Rattle.wal_core.specs.Growing.{LosesOnly, OnlyAddsSince}
-use Rattle.wal_core.specs.Ordered.{BeginsWith}
 use Rattle.wal_core.specs.Sound.{IsSetup, IsSound}
 use Rattle.wal_core.specs.Suited.{BeganSuited, IfSuited, IsLogAt, tape_from}
 use Rattle.wal_core.specs.Views.{Plain, View}
-use Rattle.wal_core.specs.Words.{Opening, found_end, log_limit}
+use Rattle.wal_core.specs.Words.{GoesOnAtPlace, Opening, found_end, log_limit, order_end}
 use Rattle.wal_core.proofs.Tapes.{at_suited}
 use Rattle.machine_laws.specs.Growth.{LosesOnlySince, StaysWholeSince}
 use Rattle.machine_laws.proofs.GrowthLaws.{logs_lose_only, logs_stay_whole}
+use Rattle.machine_laws.specs.WholeOrders.{IsWholeOrder, LiesBehind}
+use Rattle.machine_laws.proofs.WholeOrders.{whole_order}
 use Rattle.reopened_log.specs.Again.{HasMadeInTurn, IsLeftByCrash}
 use Rattle.reopened_log.specs.StopsAt.{StopsAt}
-use Rattle.reopened_log.specs.Sure.{IsLeftAt, IsSureUpto}
+use Rattle.reopened_log.specs.Sure.{IsLeftAt, IsLogUpto, IsSureUpto}
 use Rattle.reopened_log.specs.WasLeft.{WasLeftOf}
 use Rattle.reopened_log.proofs.CutWrites.{cut_images, cut_leaves, cut_loses, cut_whole, left_as_read}
 use Rattle.reopened_log.proofs.LeftAgain.{crashed_logs_were_left}
 use Rattle.reopened_log.proofs.MadeSegments.{first_page}
 use Rattle.reopened_log.proofs.StoppedLogs.{stopped_logs_were_left}
 use Rattle.reopened_log.proofs.Surviving.{some_tape}
+use Rattle.reopened_log.proofs.WholeWords.{firm-whole, lawful_tape-whole}
 use Rattle.reopened_log.proofs.WordImages.{images_assure, quiet_assures}
 
--- a log that was opened so was written with this order on a disk that has this tape: in some state
--- of the machine, whose writer made its calls; at the opening the disk held what the log may go on
--- on
-pub record IsWrittenLog (opening : Opening) (order : List Entry) (t : Tape) : Type 0 where
+-- a log that was opened so behind these entries was written with this order on a disk that has this
+-- tape: in some state of the machine, whose writer made its calls; at the opening the disk held what
+-- the log may go on on
+pub record IsWrittenLog (opening : Opening) (front order : List Entry) (t : Tape) : Type 0 where
   pub first : DiskState
   pub words : List ℕ
   pub home : mathlib.Core.Option.Option Plain
@@ -54,6 +56,7 @@ pub record IsWrittenLog (opening : Opening) (order : List Entry) (t : Tape) : Ty
   pub order_is : sound.order ≡ order
   pub tape_is : tape_from first (sound.writer).calls ≡ Some t
   pub suited : BeganSuited opening t
+  pub lies : LiesBehind opening front
 
 -- ---- sizes
 
@@ -122,157 +125,167 @@ page_there size segment IsThere Fits (Some s) positive assures there =
 
 -- ---- what it says of the tape
 
-module _ (opening : Opening) (order : List Entry) (t : Tape) (w : IsWrittenLog opening order t)
-  where
-    abbrev size : ℕ
-    size = (opening.setup).segment_size
+module _ (opening : Opening) (front order : List Entry) (t : Tape)
+    (w : IsWrittenLog opening front order t) where
+  abbrev size : ℕ
+  size = (opening.setup).segment_size
 
-    abbrev sysid : ℕ
-    sysid = (opening.setup).sysid
+  abbrev sysid : ℕ
+  sysid = (opening.setup).sysid
 
-    -- what the invariant says of the writer's tape holds of this one
-    pub written_holds : (P : Tape → Type 0) → IfSuited w.first opening (w.sound).writer P → P t
-    written_holds P holds = at_suited w.first opening (w.sound).writer P t w.tape_is w.suited holds
+  -- what the invariant says of the writer's tape holds of this one
+  pub written_holds : (P : Tape → Type 0) → IfSuited w.first opening (w.sound).writer P → P t
+  written_holds P holds = at_suited w.first opening (w.sound).writer P t w.tape_is w.suited holds
 
-    setup_is : IsSetup opening.setup
-    setup_is = (w.sound).setup_is
+  setup_is : IsSetup opening.setup
+  setup_is = (w.sound).setup_is
 
-    pub written_begins : BeginsWith opening.found order
-    written_begins = subst (BeginsWith opening.found) w.order_is ((w.sound).reserved).found_first
+  follows : GoesOnAtPlace opening order
+  follows = subst (GoesOnAtPlace opening) w.order_is ((w.sound).reserved).chained
 
-    bounded : end_address_of (opening.setup).segment_size
-        (end_position (opening.setup).segment_size order) ≤ 2 ^ 60
-    bounded = subst (λ (es : List Entry). end_address_of size (end_position size es) ≤ 2 ^ 60)
-        w.order_is (omega (
-          arith,
-          ends_low opening.setup setup_is (end_position size (w.sound).order)
-              ((w.sound).reserved).within,
-        ))
+  whole_is : IsWholeOrder opening order (front ++ order)
+  whole_is = whole_order opening setup_is.size front w.lies order follows
 
-    gapless : IsChained (opening.setup).segment_size order
-    gapless = subst (IsChained size) w.order_is ((w.sound).reserved).chained
+  bounded : end_address_of (opening.setup).segment_size
+      (end_position (opening.setup).segment_size (front ++ order)) ≤ 2 ^ 60
+  bounded = subst (λ (n : ℕ). end_address_of size n ≤ 2 ^ 60) (sym whole_is.end)
+      (subst (λ (es : List Entry). end_address_of size (order_end opening es) ≤ 2 ^ 60)
+      w.order_is (omega (
+        arith,
+        ends_low opening.setup setup_is (order_end opening (w.sound).order)
+            ((w.sound).reserved).within,
+      )))
 
-    assures : TapeAssures (opening.setup).segment_size IsNowhere
-        (IsZeroOrLogWord (opening.setup).segment_size (opening.setup).sysid order) opening.moment t
-    assures = subst (λ (es : List Entry). TapeAssures size IsNowhere (IsZeroOrLogWord size sysid es)
-        opening.moment t) w.order_is
-        (written_holds (TapeAssures size IsNowhere (IsLawfulAt opening.setup (w.sound).order)
-        opening.moment) ((w.sound).durable).lawful)
+  gapless : IsChained (opening.setup).segment_size (front ++ order)
+  gapless = whole_is.chained
 
-    pub found_firm : IsFirm opening.setup order (found_end opening) opening.moment t
-    found_firm = subst (λ (es : List Entry). IsFirm opening.setup es (found_end opening)
-        opening.moment t) w.order_is
-        (written_holds (IsFirm opening.setup (w.sound).order (found_end opening) opening.moment)
-        ((w.sound).durable).found)
+  assures : TapeAssures (opening.setup).segment_size IsNowhere
+      (IsZeroOrLogWord (opening.setup).segment_size (opening.setup).sysid (front ++ order))
+      opening.moment t
+  assures = lawful_tape-whole opening front w.lies order setup_is.size follows opening.moment t
+      (subst (λ (es : List Entry). TapeAssures size IsNowhere (IsLawfulAt opening es)
+      opening.moment t) w.order_is
+      (written_holds (TapeAssures size IsNowhere (IsLawfulAt opening (w.sound).order)
+      opening.moment) ((w.sound).durable).lawful))
 
-    loses : LosesOnlySince (opening.setup).segment_size opening.moment t
-    loses = written_holds (LosesOnlySince (opening.setup).segment_size opening.moment)
-        (logs_lose_only opening w.words w.home w.views w.sound)
+  pub found_firm : IsFirm opening order (found_end opening) opening.moment t
+  found_firm = subst (λ (es : List Entry). IsFirm opening es (found_end opening)
+      opening.moment t) w.order_is
+      (written_holds (IsFirm opening (w.sound).order (found_end opening) opening.moment)
+      ((w.sound).durable).found)
 
-    stays_whole : StaysWholeSince (opening.setup).segment_size opening.moment t
-    stays_whole = written_holds (StaysWholeSince (opening.setup).segment_size opening.moment)
-        (logs_stay_whole opening w.words w.home w.views w.sound)
+  loses : LosesOnlySince (opening.setup).segment_size opening.moment t
+  loses = written_holds (LosesOnlySince (opening.setup).segment_size opening.moment)
+      (logs_lose_only opening w.words w.home w.views w.sound)
 
-    adds : OnlyAddsSince (opening.setup).segment_size opening.moment t
-    adds = written_holds (OnlyAddsSince (opening.setup).segment_size opening.moment)
-        ((w.sound).reading).adds
+  stays_whole : StaysWholeSince (opening.setup).segment_size opening.moment t
+  stays_whole = written_holds (StaysWholeSince (opening.setup).segment_size opening.moment)
+      (logs_stay_whole opening w.words w.home w.views w.sound)
 
-    -- ---- segments are made one behind another
+  adds : OnlyAddsSince (opening.setup).segment_size opening.moment t
+  adds = written_holds (OnlyAddsSince (opening.setup).segment_size opening.moment)
+      ((w.sound).reading).adds
 
-    made : IsMadeInTurn opening (w.sound).writer t.calls
-    made = told_calls (IsMadeInTurn opening (w.sound).writer) w.first ((w.sound).writer).calls t
-        w.tape_is ((w.sound).durable).made
+  -- ---- segments are made one behind another
 
-    positive : 0 < pages_of (opening.setup).segment_size
-    positive = omega (arith, (segment_size_in_pages size setup_is.size).1)
+  made : IsMadeInTurn opening (w.sound).writer t.calls
+  made = told_calls (IsMadeInTurn opening (w.sound).writer) w.first ((w.sound).writer).calls t
+      w.tape_is ((w.sound).durable).made
 
-    there : AreThere (state_at t opening.moment) opening.made
-    there segment among = page_there (opening.setup).segment_size segment
-        (λ (n : ℕ). (1 ≤ n) × (n ≤ opening.made)) (IsLogAt opening.setup opening.found)
-        (state_at t opening.moment segment) positive (w.suited segment) among
+  positive : 0 < pages_of (opening.setup).segment_size
+  positive = omega (arith, (segment_size_in_pages size setup_is.size).1)
 
-    module _ (only : AreOnly opening.made (state_at t opening.moment))
-        (few : opening.made ≤ (opening.setup).cap_segments) where
-      made_in_turn : HasMadeInTurn (opening.setup).segment_size opening.moment t
-      made_in_turn = record {
-        first = opening.made;
-        there = there;
-        only = only;
-        last = made.last;
-        in_turn = made.in_turn;
-        low = made_low opening.setup setup_is (end_position size (w.sound).order) opening.made
-            made.last ((w.sound).writer).written ((w.sound).reserved).within few
-            ((w.sound).positions).reserved made.low;
-      }
+  there : AreThere (state_at t opening.moment) opening.made
+  there segment among = page_there (opening.setup).segment_size segment
+      (λ (n : ℕ). (1 ≤ n) × (n ≤ opening.made)) (IsLogAt opening [])
+      (state_at t opening.moment segment) positive (w.suited segment) among
 
-      -- ---- what is left of it was left by this program
+  module _ (only : AreOnly opening.made (state_at t opening.moment))
+      (few : opening.made ≤ (opening.setup).cap_segments) where
+    made_in_turn : HasMadeInTurn (opening.setup).segment_size opening.moment t
+    made_in_turn = record {
+      first = opening.made;
+      there = there;
+      only = only;
+      last = made.last;
+      in_turn = made.in_turn;
+      low = made_low opening.setup setup_is (order_end opening (w.sound).order) opening.made
+          made.last ((w.sound).writer).written ((w.sound).reserved).within few
+          ((w.sound).positions).reserved made.low;
+    }
 
-      module _ (narrow : (opening.setup).sysid < 2 ^ 64) where
-        pub crashed_written : (moment : ℕ) → opening.moment ≤ moment → (crashed : Tape)
-            → IsLeftByCrash t moment crashed
-            → NoTornPass (opening.setup).segment_size
-            (pages_in (opening.setup).segment_size (image_as_read (state_now crashed))) order
-            → (found : List FoundRecord) × WasLeftOf (opening.setup).segment_size
-            (opening.setup).sysid order crashed found
-        crashed_written moment since crashed crash none_torn =
-            crashed_logs_were_left size sysid opening.moment moment order t crashed setup_is.size
-            (some_id sysid setup_is.named) narrow gapless bounded assures made_in_turn since crash
-            none_torn
+    -- ---- what is left of it was left by this program
 
-    module _ (whole : HaveWholePages (opening.setup).segment_size (state_at t opening.moment))
-        (moment : ℕ) (since : opening.moment ≤ moment) where
-      whole_at : HaveWholePages (opening.setup).segment_size (state_at t moment)
-      whole_at = stays_whole whole moment since
+    module _ (narrow : (opening.setup).sysid < 2 ^ 64) where
+      pub crashed_written : (moment : ℕ) → opening.moment ≤ moment → (crashed : Tape)
+          → IsLeftByCrash t moment crashed
+          → NoTornPass (opening.setup).segment_size
+          (pages_in (opening.setup).segment_size (image_as_read (state_now crashed)))
+          (front ++ order)
+          → (found : List FoundRecord) × WasLeftOf (opening.setup).segment_size
+          (opening.setup).sysid (front ++ order) crashed found
+      crashed_written moment since crashed crash none_torn =
+          crashed_logs_were_left size sysid opening.moment moment (front ++ order) t crashed setup_is.size
+          (some_id sysid setup_is.named) narrow gapless bounded assures made_in_turn since crash
+          none_torn
 
-      module _ (stopped : Tape) (stops : StopsAt t moment stopped) where
-        stop_leaves : LeftAt t moment (image_as_read (state_now stopped))
-        stop_leaves = elim stops [
-          | inl same ↦ subst (λ (d : Tape). LeftAt t moment (image_as_read (state_now d))) (sym same)
-              (inl (left_as_read (opening.setup).segment_size (state_at t moment) whole_at))
-          | inr c ↦ cut_leaves t moment stopped c (opening.setup).segment_size whole_at
-        ]
+  module _ (whole : HaveWholePages (opening.setup).segment_size (state_at t opening.moment))
+      (moment : ℕ) (since : opening.moment ≤ moment) where
+    whole_at : HaveWholePages (opening.setup).segment_size (state_at t moment)
+    whole_at = stays_whole whole moment since
 
-        stop_loses : LosesOnly (opening.setup).segment_size (state_now stopped)
-        stop_loses = elim stops [
-          | inl same ↦ subst (λ (d : Tape). LosesOnly (opening.setup).segment_size (state_now d))
-              (sym same) (loses moment since)
-          | inr c ↦ cut_loses t moment stopped c (opening.setup).segment_size opening.moment since
-              adds (loses moment since)
-        ]
+    module _ (stopped : Tape) (stops : StopsAt t moment stopped) where
+      stop_leaves : LeftAt t moment (image_as_read (state_now stopped))
+      stop_leaves = elim stops [
+        | inl same ↦ subst (λ (d : Tape). LeftAt t moment (image_as_read (state_now d))) (sym same)
+            (inl (left_as_read (opening.setup).segment_size (state_at t moment) whole_at))
+        | inr c ↦ cut_leaves t moment stopped c (opening.setup).segment_size whole_at
+      ]
 
-        stop_whole : HaveWholePages (opening.setup).segment_size (state_now stopped)
-        stop_whole = elim stops [
-          | inl same ↦ subst (λ (d : Tape). HaveWholePages (opening.setup).segment_size (state_now d))
-              (sym same) whole_at
-          | inr c ↦ cut_whole t moment stopped c (opening.setup).segment_size opening.moment since
-              adds whole_at
-        ]
+      stop_loses : LosesOnly (opening.setup).segment_size (state_now stopped)
+      stop_loses = elim stops [
+        | inl same ↦ subst (λ (d : Tape). LosesOnly (opening.setup).segment_size (state_now d))
+            (sym same) (loses moment since)
+        | inr c ↦ cut_loses t moment stopped c (opening.setup).segment_size opening.moment since
+            adds (loses moment since)
+      ]
 
-        -- whatever a crash may leave of it then, it might have left at this moment
-        stop_images : (image : DiskImage) → MayLeave (state_now stopped) image → LeftAt t moment image
-        stop_images image may = elim stops [
-          | inl same ↦ inl (subst (λ (d : Tape). MayLeave (state_now d) image) same may)
-          | inr c ↦ cut_images t moment stopped c image may
-        ]
+      stop_whole : HaveWholePages (opening.setup).segment_size (state_now stopped)
+      stop_whole = elim stops [
+        | inl same ↦ subst (λ (d : Tape). HaveWholePages (opening.setup).segment_size (state_now d))
+            (sym same) whole_at
+        | inr c ↦ cut_whole t moment stopped c (opening.setup).segment_size opening.moment since
+            adds whole_at
+      ]
 
-      -- ---- what is firm is sure of what is left
+      -- whatever a crash may leave of it then, it might have left at this moment
+      stop_images : (image : DiskImage) → MayLeave (state_now stopped) image → LeftAt t moment image
+      stop_images image may = elim stops [
+        | inl same ↦ inl (subst (λ (d : Tape). MayLeave (state_now d) image) same may)
+        | inr c ↦ cut_images t moment stopped c image may
+      ]
 
-      -- all below an address is firm from this moment on or an earlier one
-      module _ (next : Tape) (is : IsLeftAt t moment next) (upto from : ℕ) (by : from ≤ moment)
-          (firm : IsFirm opening.setup order upto from t) where
-        pub written_sure : IsSureUpto (opening.setup).segment_size (opening.setup).sysid order upto
-            (state_now next)
-        written_sure = elim is [
-          | inl stops ↦ images_assure size (IsMadeUpto size upto)
-              (IsLogBelow opening.setup order upto) (state_now next) (stop_whole next stops)
-              (stop_loses next stops)
-              (λ image may. firm.left moment by image (stop_images next stops image may))
-          | inr crash ↦ quiet_assures size (IsMadeUpto size upto)
-              (IsLogBelow opening.setup order upto) (state_now next) crash.quiet
-              (firm.left moment by (image_as_read (state_now next)) crash.leaves)
-        ]
+    -- ---- what is firm is sure of what is left
 
-module _ (opening : Opening) (order : List Entry) (t : Tape) (w : IsWrittenLog opening order t)
+    -- all below an address is firm from this moment on or an earlier one
+    module _ (next : Tape) (is : IsLeftAt t moment next) (upto from : ℕ) (by : from ≤ moment)
+        (firm : IsFirm opening order upto from t) where
+      pub written_sure : IsSureUpto (opening.setup).segment_size (opening.setup).sysid
+          (front ++ order) upto (state_now next)
+      written_sure =
+          let sure = firm-whole opening front w.lies order setup_is.size follows upto from t firm in
+          elim is [
+            | inl stops ↦ images_assure size (IsMadeUpto size upto)
+                (IsLogUpto size sysid (front ++ order) upto) (state_now next) (stop_whole next stops)
+                (stop_loses next stops)
+                (λ image may. sure.left moment by image (stop_images next stops image may))
+            | inr crash ↦ quiet_assures size (IsMadeUpto size upto)
+                (IsLogUpto size sysid (front ++ order) upto) (state_now next) crash.quiet
+                (sure.left moment by (image_as_read (state_now next)) crash.leaves)
+          ]
+
+module _ (opening : Opening) (front order : List Entry) (t : Tape)
+    (w : IsWrittenLog opening front order t)
     (only : AreOnly opening.made (state_at t opening.moment))
     (few : opening.made ≤ (opening.setup).cap_segments)
     (narrow : (opening.setup).sysid < 2 ^ 64)
@@ -280,24 +293,24 @@ module _ (opening : Opening) (order : List Entry) (t : Tape) (w : IsWrittenLog o
     (since : opening.moment ≤ moment) where
   pub stopped_written : (stopped : Tape) → StopsAt t moment stopped
       → NoTornPass (opening.setup).segment_size (pages_in (opening.setup).segment_size
-      (image_as_read (state_now stopped))) order
+      (image_as_read (state_now stopped))) (front ++ order)
       → (found : List FoundRecord) × WasLeftOf (opening.setup).segment_size (opening.setup).sysid
-      order stopped found
+      (front ++ order) stopped found
   stopped_written stopped stops none_torn =
       stopped_logs_were_left (opening.setup).segment_size (opening.setup).sysid opening.moment
-      moment order t stopped (setup_is opening order t w).size
-      (some_id (opening.setup).sysid (setup_is opening order t w).named) narrow
-      (gapless opening order t w) (bounded opening order t w)
-      (assures opening order t w) (made_in_turn opening order t w only few) since
-      (stop_leaves opening order t w whole moment since stopped stops)
-      (stop_loses opening order t w whole moment since stopped stops)
-      (stop_whole opening order t w whole moment since stopped stops) none_torn
+      moment (front ++ order) t stopped (setup_is opening front order t w).size
+      (some_id (opening.setup).sysid (setup_is opening front order t w).named) narrow
+      (gapless opening front order t w) (bounded opening front order t w)
+      (assures opening front order t w) (made_in_turn opening front order t w only few) since
+      (stop_leaves opening front order t w whole moment since stopped stops)
+      (stop_loses opening front order t w whole moment since stopped stops)
+      (stop_whole opening front order t w whole moment since stopped stops) none_torn
 
   pub written_left : (next : Tape) → IsLeftAt t moment next
       → NoTornPass (opening.setup).segment_size (pages_in (opening.setup).segment_size
-      (image_as_read (state_now next))) order
+      (image_as_read (state_now next))) (front ++ order)
       → (found : List FoundRecord) × WasLeftOf (opening.setup).segment_size (opening.setup).sysid
-      order next found
+      (front ++ order) next found
   written_left next (inl stops) none_torn = stopped_written next stops none_torn
-  written_left next (inr crash) none_torn = crashed_written opening order t w only few narrow moment
+  written_left next (inr crash) none_torn = crashed_written opening front order t w only few narrow moment
       since next crash none_torn

@@ -88,8 +88,9 @@ CrashedCompletedSettlingsWereLeft =
 -- and where its log was opened, up to then
 abbrev pub CrashedReopenedSettlingsWereLeft : Type 0
 CrashedReopenedSettlingsWereLeft =
-    (opening : Opening) (handed moment : ℕ) (t began crashed : Tape) (found : List FoundRecord)
-    → (reopened : IsReopenedOn opening handed t began found) → handed ≤ moment
+    (opening : Opening) (front : List Entry) (handed moment : ℕ) (t began crashed : Tape)
+    (found : List FoundRecord)
+    → (reopened : IsReopenedOn opening front handed t began found) → handed ≤ moment
     → IsLeftByCrash began moment crashed
     → NoTornPass (opening.setup).segment_size
     (pages_in (opening.setup).segment_size (image_as_read (state_now crashed)))
@@ -112,35 +113,37 @@ pub record IsOrderAt (opening : Opening) (moment : ℕ) (handed_in of_run order 
 -- or one that was settled
 abbrev pub CrashedRunsWereLeft : Type 0
 CrashedRunsWereLeft =
-    (opening : Opening) (moment last : ℕ) (began now crashed : Tape)
+    (opening : Opening) (front : List Entry) (moment last : ℕ) (began now crashed : Tape)
     (script : List (List AskedLine)) (lists : List (List Told))
-    → IsRunOn opening (Some began) (Some now) last script lists
+    → IsRunOn opening front (Some began) (Some now) last script lists
     → IsSuited opening (state_now began) → AreOnly opening.made (state_now began)
     → opening.made ≤ (opening.setup).cap_segments → opening.moment ≡ length began.calls
     → (opening.setup).sysid < 2 ^ 64 → opening.moment ≤ moment
     → IsLeftByCrash now moment crashed
     → NoTornPass (opening.setup).segment_size
     (pages_in (opening.setup).segment_size (image_as_read (state_now crashed)))
-    (order_told opening script lists)
+    (order_told front (opening.setup).segment_size script lists)
     → (found : List FoundRecord)
     × WasLeftOf (opening.setup).segment_size (opening.setup).sysid
-    (order_told opening script lists) crashed found
+    (order_told front (opening.setup).segment_size script lists) crashed found
 
 -- so was what a crash leaves of a run that goes on with a log, at any moment since its disk was
 -- handed in: the log that is found there may be settled and gone on with as this one was
 abbrev pub CrashedReopenedRunsWereLeft : Type 0
 CrashedReopenedRunsWereLeft =
-    (opening : Opening) (handed moment last : ℕ) (t began now crashed : Tape)
-    (found : List FoundRecord) (script : List (List AskedLine)) (lists : List (List Told))
-    → (reopened : IsReopenedOn opening handed t began found)
-    → IsRunOn opening (Some began) (Some now) last script lists
+    (opening : Opening) (front : List Entry) (handed moment last : ℕ)
+    (t began now crashed : Tape) (found : List FoundRecord)
+    (script : List (List AskedLine)) (lists : List (List Told))
+    → (reopened : IsReopenedOn opening front handed t began found)
+    → IsRunOn opening front (Some began) (Some now) last script lists
     → handed ≤ moment → IsLeftByCrash now moment crashed
     → NoTornPass (opening.setup).segment_size
     (pages_in (opening.setup).segment_size (image_as_read (state_now crashed)))
     (reopened.left).order
     → NoTornPass (opening.setup).segment_size
     (pages_in (opening.setup).segment_size (image_as_read (state_now crashed)))
-    (order_told opening script lists)
+    (order_told front (opening.setup).segment_size script lists)
     → (told : List FoundRecord)
     × (again : WasLeft (opening.setup).segment_size (opening.setup).sysid crashed told)
-    × IsOrderAt opening moment (reopened.left).order (order_told opening script lists) again.order
+    × IsOrderAt opening moment (reopened.left).order
+    (order_told front (opening.setup).segment_size script lists) again.order

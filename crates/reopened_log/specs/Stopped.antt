@@ -55,8 +55,9 @@ CompletedSettlingsWereLeft =
 -- and where it was gone on with
 abbrev pub ReopenedSettlingsWereLeft : Type 0
 ReopenedSettlingsWereLeft =
-    (opening : Opening) (handed moment : ℕ) (t began stopped : Tape) (found : List FoundRecord)
-    → (reopened : IsReopenedOn opening handed t began found) → handed ≤ moment
+    (opening : Opening) (front : List Entry) (handed moment : ℕ) (t began stopped : Tape)
+    (found : List FoundRecord)
+    → (reopened : IsReopenedOn opening front handed t began found) → handed ≤ moment
     → StopsAt began moment stopped
     → NoTornPass (opening.setup).segment_size
     (pages_in (opening.setup).segment_size (image_as_read (state_now stopped)))
@@ -86,9 +87,9 @@ StoppedLogsWereLeft =
 -- settled
 abbrev pub StoppedRunsWereLeft : Type 0
 StoppedRunsWereLeft =
-    (opening : Opening) (moment last : ℕ) (began now stopped : Tape)
+    (opening : Opening) (front : List Entry) (moment last : ℕ) (began now stopped : Tape)
     (script : List (List AskedLine)) (lists : List (List Told))
-    → IsRunOn opening (Some began) (Some now) last script lists
+    → IsRunOn opening front (Some began) (Some now) last script lists
     → IsSuited opening (state_now began) → AreOnly opening.made (state_now began)
     → HaveWholePages (opening.setup).segment_size (state_now began)
     → opening.made ≤ (opening.setup).cap_segments → opening.moment ≡ length began.calls
@@ -96,25 +97,27 @@ StoppedRunsWereLeft =
     → StopsAt now moment stopped
     → NoTornPass (opening.setup).segment_size
     (pages_in (opening.setup).segment_size (image_as_read (state_now stopped)))
-    (order_told opening script lists)
+    (order_told front (opening.setup).segment_size script lists)
     → (found : List FoundRecord)
     × WasLeftOf (opening.setup).segment_size (opening.setup).sysid
-    (order_told opening script lists) stopped found
+    (order_told front (opening.setup).segment_size script lists) stopped found
 
 -- and that of a run that goes on with a log, and stops since its disk was handed in
 abbrev pub StoppedReopenedRunsWereLeft : Type 0
 StoppedReopenedRunsWereLeft =
-    (opening : Opening) (handed moment last : ℕ) (t began now stopped : Tape)
-    (found : List FoundRecord) (script : List (List AskedLine)) (lists : List (List Told))
-    → (reopened : IsReopenedOn opening handed t began found)
-    → IsRunOn opening (Some began) (Some now) last script lists
+    (opening : Opening) (front : List Entry) (handed moment last : ℕ)
+    (t began now stopped : Tape) (found : List FoundRecord)
+    (script : List (List AskedLine)) (lists : List (List Told))
+    → (reopened : IsReopenedOn opening front handed t began found)
+    → IsRunOn opening front (Some began) (Some now) last script lists
     → handed ≤ moment → StopsAt now moment stopped
     → NoTornPass (opening.setup).segment_size
     (pages_in (opening.setup).segment_size (image_as_read (state_now stopped)))
     (reopened.left).order
     → NoTornPass (opening.setup).segment_size
     (pages_in (opening.setup).segment_size (image_as_read (state_now stopped)))
-    (order_told opening script lists)
+    (order_told front (opening.setup).segment_size script lists)
     → (told : List FoundRecord)
     × (again : WasLeft (opening.setup).segment_size (opening.setup).sysid stopped told)
-    × IsOrderAt opening moment (reopened.left).order (order_told opening script lists) again.order
+    × IsOrderAt opening moment (reopened.left).order
+    (order_told front (opening.setup).segment_size script lists) again.order

@@ -87,8 +87,9 @@ StoppedSettlingsStaySure =
 -- and where it was settled and opened
 abbrev pub ReopenedSettlingsStaySure : Type 0
 ReopenedSettlingsStaySure =
-    (opening : Opening) (handed moment : ℕ) (t began next : Tape) (found : List FoundRecord)
-    → (reopened : IsReopenedOn opening handed t began found) → handed ≤ moment
+    (opening : Opening) (front : List Entry) (handed moment : ℕ) (t began next : Tape)
+    (found : List FoundRecord)
+    → (reopened : IsReopenedOn opening front handed t began found) → handed ≤ moment
     → IsLeftAt began moment next
     → StaysSure (opening.setup).segment_size (opening.setup).sysid t found reopened.left next
 
@@ -96,13 +97,13 @@ ReopenedSettlingsStaySure =
 -- at which it was left
 abbrev pub RunsMakeSure : Type 0
 RunsMakeSure =
-    (opening : Opening) (moment last : ℕ) (began now next : Tape)
+    (opening : Opening) (front : List Entry) (moment last : ℕ) (began now next : Tape)
     (script : List (List AskedLine)) (lists : List (List Told))
-    → IsRunOn opening (Some began) (Some now) last script lists
+    → IsRunOn opening front (Some began) (Some now) last script lists
     → IsSuited opening (state_now began)
     → HaveWholePages (opening.setup).segment_size (state_now began)
     → opening.moment ≡ length began.calls → opening.moment ≤ moment → IsLeftAt now moment next
     → (upto : ℕ)
     → (upto ≤ found_end opening) ⊎ SomeTold (SaysDurable moment upto) lists
     → IsSureUpto (opening.setup).segment_size (opening.setup).sysid
-    (order_told opening script lists) upto (state_now next)
+    (order_told front (opening.setup).segment_size script lists) upto (state_now next)

@@ -3,6 +3,7 @@ use Rattle.std.specs.Prelude.{◌≡◌, ℕ, ◌+◌, ◌≤◌, List, ◌++◌
 use Rattle.segment_disk.specs.DiskImage.{DiskImage, LeftAt}
 use Rattle.segment_disk.specs.Tape.{Tape, state_now}
 use Rattle.flush_core.specs.Settled.{AreAllThere}
+use Rattle.wal_page.specs.Order.{Entry}
 use Rattle.wal_reader.specs.declared.found.Answer.{Answer}
 use Rattle.wal_reader.specs.declared.found.FoundRecord.{FoundRecord}
 use Rattle.wal_reader.specs.Pages.{pages_in}
@@ -24,22 +25,22 @@ use Rattle.reopened_log.specs.WasLeft.{WasLeft}
 -- first syncs on it begins with all that was found. `now` is the tape at the run's end
 abbrev pub ReopenedLogsSurviveCrashes : Type 0
 ReopenedLogsSurviveCrashes =
-    (opening : Opening) (handed last faults : ℕ) (t began now : Tape) (found : List FoundRecord)
-    (script : List (List AskedLine)) (lists : List (List Told))
-    → (reopened : IsReopenedOn opening handed t began found)
-    → RunAssures opening (Some began) (Some now) last faults script lists
+    (opening : Opening) (front : List Entry) (handed last faults : ℕ) (t began now : Tape)
+    (found : List FoundRecord) (script : List (List AskedLine)) (lists : List (List Told))
+    → (reopened : IsReopenedOn opening front handed t began found)
+    → RunAssures opening front (Some began) (Some now) last faults script lists
     → (moment : ℕ) (image : DiskImage) → handed ≤ moment → LeftAt now moment image
     → NoTornPass (opening.setup).segment_size (pages_in (opening.setup).segment_size image)
     (reopened.left).order
     → NoTornPass (opening.setup).segment_size (pages_in (opening.setup).segment_size image)
-    (order_told opening script lists)
+    (order_told front (opening.setup).segment_size script lists)
     → (told : List FoundRecord) (answer : Answer)
     → Decodes (opening.setup).segment_size (pages_in (opening.setup).segment_size image)
     (opening.setup).segment_size None told answer
-    → IsFrontWithTold (opening.setup).segment_size moment (order_told opening script lists) lists
-    told
+    → IsFrontWithTold (opening.setup).segment_size moment
+    (order_told front (opening.setup).segment_size script lists) lists told
     × (handed + opening.made ≤ moment
-    → take (length opening.found) told ≡ found_of (opening.setup).segment_size opening.found)
+    → take (length front) told ≡ found_of (opening.setup).segment_size front)
 
 -- whatever a crash leaves of a disk that this program left, at any moment since it was handed in,
 -- where a call of it failed while its log was settled: if no torn record passes its CRC there, it
@@ -61,8 +62,9 @@ StoppedSettlingsSurviveCrashes =
 -- .. and where it was settled: up to the opening's moment it decodes to just what was found
 abbrev pub SettledLogsKeepWhatWasFound : Type 0
 SettledLogsKeepWhatWasFound =
-    (opening : Opening) (handed : ℕ) (t began : Tape) (found : List FoundRecord)
-    → (reopened : IsReopenedOn opening handed t began found)
+    (opening : Opening) (front : List Entry) (handed : ℕ) (t began : Tape)
+    (found : List FoundRecord)
+    → (reopened : IsReopenedOn opening front handed t began found)
     → (moment : ℕ) (image : DiskImage) → handed + opening.made ≤ moment
     → LeftAt began moment image
     → NoTornPass (opening.setup).segment_size (pages_in (opening.setup).segment_size image)

@@ -3,9 +3,9 @@ use Rattle.std.proofs.Common.{◌≡◌, ℕ, ◌%◌, ◌≤◌, true, List, ma
 use Rattle.std.proofs.Math.Logic.{∥∥₁_elim}
 use Rattle.std.specs.Coded.{Coded-set, coded_ℕ, le_prop}
 use Rattle.atomic_table.proofs.Lists.{at_map}
-use Rattle.wal_page.specs.Order.{Entry, end_position, prev_of}
-use Rattle.wal_page.proofs.OwnerLaws.{end_position-whole}
-use Rattle.wal_core.specs.Words.{log_limit, prev_word}
+use Rattle.wal_page.specs.Order.{Entry}
+use Rattle.wal_page.proofs.PlaceLaws.{end-whole_from}
+use Rattle.wal_core.specs.Words.{log_limit, prev_word, order_end, last_start}
 use Rattle.wal_core.specs.Views.{HasAt, Locked, Place, reserving_of, View}
 use Rattle.wal_core.specs.Ordered.{AtPlace}
 use Rattle.wal_rule.specs.Stepping.{Stands}
@@ -22,10 +22,10 @@ module _ (v : View) (at : ℕ) (live : (v.reserving).live ≡ true)
     here : HasAt (map reserving_of stands.views) stands.id v.reserving
     here = at_map reserving_of stands.views stands.id v stands.here
 
-    is_end : at ≡ end_position size order
+    is_end : at ≡ order_end v.opening order
     is_end =
         let o = (stands.sound).reserved in
-        (subst (λ (p : Place). AtPlace size (end_position size order) (prev_of size 0 order)
+        (subst (λ (p : Place). AtPlace size (order_end v.opening order) (last_start v.opening order)
         (prev_word stands.words) o.locked o.holder stands.id p) place
         (o.places stands.id v.reserving here live)).2
 
@@ -40,7 +40,8 @@ module _ (v : View) (at : ℕ) (live : (v.reserving).live ≡ true)
     whole : at % 8 ≡ 0
     whole =
         let valid = ((stands.sound).setup_is).size in
-        let end = end_position-whole size valid order ((stands.sound).reserved).chained in
+        let end = end-whole_from size valid ((v.opening).place).position order
+        ((stands.sound).reserved).chained (((stands.sound).reserved).placed).whole in
         omega (arith, end, is_end)
 
   module _ (stands : ∥ Stands v ∥₁) where

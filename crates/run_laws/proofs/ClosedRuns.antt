@@ -2,7 +2,7 @@
 -- lines were told.
 use Rattle.std.specs.Prelude.{IfSome, IsSome, None}
 use Rattle.std.proofs.lemmas.Bool.{true≢false}
-use Rattle.std.proofs.Common.{◌≡◌, inl, inr, ℕ, ◌+◌, ◌-◌, ◌^◌, ◌<◌, ◌≤◌, List, Option, Some, length, refl, sym, ap, ◌∙◌, subst, arith}
+use Rattle.std.proofs.Common.{◌≡◌, [], ◌++◌, inl, inr, ℕ, ◌+◌, ◌-◌, ◌^◌, ◌<◌, ◌≤◌, List, Option, Some, length, refl, sym, ap, ◌∙◌, subst, arith}
 use mathlib.Core.Option.{Option as Maybe, none, some}
 use Rattle.segment_disk.specs.Cause.{Rose}
 use Rattle.segment_disk.specs.Assured.{SegmentAssures}
@@ -10,7 +10,6 @@ use Rattle.segment_disk.specs.Tape.{DiskState, Tape}
 use Rattle.segment_disk.specs.declared.disk.Call.{Call}
 use Rattle.flush_core.specs.Pages.{HoldsNothing}
 use Rattle.wal_page.specs.Order.{Entry, IsChained, end_position, rooms_of}
-use Rattle.wal_page.proofs.OrderLaws.{rooms_of-append}
 use Rattle.wal_script.specs.Asked.{AskedLine}
 use Rattle.told_lines.specs.declared.told.Told.{Told}
 use Rattle.told_lines.specs.Told.{IsFullAnswer, IsRefused, SomeTold, TellsAll, order_from}
@@ -18,7 +17,7 @@ use Rattle.told_lines.specs.Crash.{EachIsTimely, KeepsFound, SurvivesCrashes}
 use Rattle.told_lines.specs.Whole.{IsWhole}
 use Rattle.wal_core.specs.Suited.{BeganSuited, IsLogAt, tape_from}
 use Rattle.wal_core.specs.Views.{View}
-use Rattle.wal_core.specs.Words.{Opening, found_position}
+use Rattle.wal_core.specs.Words.{Opening, found_position, order_end}
 use Rattle.wal_core.proofs.Tapes.{at_told, told_as}
 use Rattle.closed_log.specs.Closed.{IsClosedOn}
 use Rattle.closed_log.proofs.FoundKept.{keep}
@@ -30,6 +29,7 @@ use Rattle.wal_rule.proofs.OpeningTold.{found_suited}
 use Rattle.run_laws.specs.Counted.{all_reserved_count}
 use Rattle.run_laws.specs.Ended.{IsClosedLog, logged_at_end}
 use Rattle.run_laws.proofs.Counting.{own_counted}
+use Rattle.run_laws.proofs.WholeOrders.{chained_whole, end_whole}
 use Rattle.run_laws.proofs.FullScripts.{too_much_asked}
 use Rattle.run_laws.proofs.LastFlush.{left_whole}
 use Rattle.run_laws.proofs.LineFaults.{run_stays_down}
@@ -51,7 +51,7 @@ pub empty_suited : (opening : Opening) (began : Option Tape) → opening.made �
 empty_suited opening None none_made nothing = tt
 empty_suited opening (Some b) none_made nothing = λ segment. subst
     (SegmentAssures (opening.setup).segment_size
-    (λ segment. (1 ≤ segment) × (segment ≤ opening.made)) (IsLogAt opening.setup opening.found)
+    (λ segment. (1 ≤ segment) × (segment ≤ opening.made)) (IsLogAt opening [])
     segment) (sym (nothing segment)) (λ made. omega (arith, none_made, made.0, made.1))
 
 -- a tape goes on from the one of the opening
@@ -73,9 +73,9 @@ none_unless none never = refl
 none_unless (some faults) never = absurd (never faults refl)
 
 module _ {D : Type 0} (tape : D → Option Tape) (moment faults : D → ℕ) (began : Option Tape)
-    (opening : Opening) (v : View) (w : LogWriter D) (position : ℕ)
+    (opening : Opening) (front : List Entry) (v : View) (w : LogWriter D) (position : ℕ)
     (script : List (List AskedLine)) (lists : List (List Told))
-    (r : IsRunClosed tape moment faults began opening v w position script lists) where
+    (r : IsRunClosed tape moment faults began opening front v w position script lists) where
   abbrev size : ℕ
   size = (opening.setup).segment_size
 
@@ -99,11 +99,20 @@ module _ {D : Type 0} (tape : D → Option Tape) (moment faults : D → ℕ) (be
   }
 
   -- the state's order is the one that the lines were told
-  order_is : ((r.closes).sound).order ≡ order_told opening script lists
+  order_is : ((r.closes).sound).order ≡ order_from (opening.setup).segment_size 1 script lists
   order_is = sym (told_order opening order last_view closed script lists r.taken)
 
-  tells : TellsAll (logged_at_end opening order (faults (slot_disk w))) 1 script lists
-  tells = run_tells opening order last_view closed script lists r.taken (faults (slot_disk w))
+  abbrev whole : List Entry
+  whole = front ++ order
+
+  whole_is : front ++ ((r.closes).sound).order
+      ≡ order_told front (opening.setup).segment_size script lists
+  whole_is = ap (λ (es : List Entry). front ++ es) order_is
+
+  tells : TellsAll (logged_at_end opening front (front ++ order) (faults (slot_disk w))) 1 script
+      lists
+  tells = run_tells opening order last_view closed front r.lies script lists r.taken
+      (faults (slot_disk w))
       (λ count is. let counted = ((r.closes).of_log).down count is in omega (arith, counted))
 
   -- ---- on a disk that held what the log may go on on
@@ -122,29 +131,30 @@ module _ {D : Type 0} (tape : D → Option Tape) (moment faults : D → ℕ) (be
       (at_told (BeganSuited opening) (tape (slot_disk w)) t is (began_on suited))
 
   words : HoldsSuited opening began → IfSome (tape (slot_disk w))
-      (LeavesLogWords (opening.setup).segment_size (opening.setup).sysid order opening.moment)
+      (LeavesLogWords (opening.setup).segment_size (opening.setup).sysid whole opening.moment)
   words suited = told_as (tape (slot_disk w)) (λ t is moment image from left k.
-      (no_other_words opening order t last_view (closed_there suited t is) moment image from
-      left).words k)
+      (no_other_words opening order t last_view (closed_there suited t is) front r.lies
+      moment image from left).words k)
 
   crash : HoldsSuited opening began → IfSome (tape (slot_disk w))
-      (SurvivesCrashes (opening.setup).segment_size opening.moment order lists)
+      (SurvivesCrashes (opening.setup).segment_size opening.moment whole lists)
   crash suited = told_as (tape (slot_disk w)) (λ t is.
-      told_survive opening order t last_view (closed_there suited t is) script lists r.taken)
+      told_survive opening order t last_view (closed_there suited t is) front r.lies script lists
+      r.taken)
 
   keeps : HoldsSuited opening began → IfSome (tape (slot_disk w))
-      (KeepsFound (opening.setup).segment_size opening.moment order opening.found)
+      (KeepsFound (opening.setup).segment_size opening.moment whole front)
   keeps suited = told_as (tape (slot_disk w)) (λ t is.
-      keep opening order t last_view (closed_there suited t is))
+      keep opening order t last_view (closed_there suited t is) front r.lies)
 
   timely : HoldsSuited opening began → IfSome (tape (slot_disk w))
-      (λ t. EachIsTimely (opening.setup).segment_size opening.moment order t 1 script lists)
+      (λ t. EachIsTimely (opening.setup).segment_size opening.moment whole t 1 script lists)
   timely suited = told_as (tape (slot_disk w)) (λ t is.
-      told_timely opening order t last_view (closed_there suited t is) script lists r.taken)
+      told_timely opening order t last_view (closed_there suited t is) whole script lists r.taken)
 
   -- ---- what is assured
 
-  machine : IsMachineRun opening (tape (slot_disk w)) (moment (slot_disk w)) script lists
+  machine : IsMachineRun opening front (tape (slot_disk w)) (moment (slot_disk w)) script lists
   machine = record {
     first = first_on began;
     words = (r.closes).words;
@@ -158,24 +168,27 @@ module _ {D : Type 0} (tape : D → Option Tape) (moment faults : D → ℕ) (be
     moment_is = refl;
     here = (r.closes).here;
     taken = r.taken;
+    lies = r.lies;
   }
 
   firm : HoldsSuited opening began → IfSome (tape (slot_disk w))
-      (KeepsToldWords opening (order_told opening script lists) lists)
+      (KeepsToldWords opening (order_from (opening.setup).segment_size 1 script lists) lists)
   firm suited = told_as (tape (slot_disk w)) (λ t is.
-      keeps_words opening t (moment (slot_disk w)) script lists
-      (subst (λ (o : Option Tape). IsMachineRun opening o (moment (slot_disk w)) script lists) is
+      keeps_words opening front t (moment (slot_disk w)) script lists
+      (subst (λ (o : Option Tape). IsMachineRun opening front o (moment (slot_disk w)) script lists) is
       machine) (at_told (BeganSuited opening) (tape (slot_disk w)) t is (began_on suited)))
 
-  pub run_assures : RunAssures opening began (tape (slot_disk w)) (moment (slot_disk w))
+  pub run_assures : RunAssures opening front began (tape (slot_disk w)) (moment (slot_disk w))
       (faults (slot_disk w)) script lists
   run_assures = record {
     machine = machine;
     told = subst (λ (es : List Entry).
-        TellsAll (logged_at_end opening es (faults (slot_disk w))) 1 script lists) order_is tells;
+        TellsAll (logged_at_end opening front es (faults (slot_disk w))) 1 script lists) whole_is
+        tells;
     stays_down = run_stays_down opening last_view script lists r.taken;
     one_fault = told_once opening order last_view closed script lists r.taken;
-    gapless = subst (IsChained size) order_is (((r.closes).closed).accounted).chained;
+    gapless = subst (IsChained size) whole_is
+        (chained_whole opening front r.lies order (((r.closes).closed).accounted).chained);
     in_line_order = told_rise opening order last_view closed script lists r.taken;
     caught_up = run_catches_up opening last_view script lists r.taken;
     moments = run_rises opening last_view script lists r.taken (r.closes).in_order
@@ -183,17 +196,16 @@ module _ {D : Type 0} (tape : D → Option Tape) (moment faults : D → ℕ) (be
     goes_on = tape_goes_on began (tape (slot_disk w)) ((r.closes).of_log).told
         ((r.closes).of_log).on_first ((r.closes).of_log).goes_on;
     words = subst (λ (es : List Entry). HoldsSuited opening began → IfSome (tape (slot_disk w))
-        (LeavesLogWords size (opening.setup).sysid es opening.moment)) order_is words;
+        (LeavesLogWords size (opening.setup).sysid es opening.moment)) whole_is words;
     firm = firm;
     crash = subst (λ (es : List Entry). HoldsSuited opening began → IfSome (tape (slot_disk w))
-        (SurvivesCrashes size opening.moment es lists)) order_is crash;
+        (SurvivesCrashes size opening.moment es lists)) whole_is crash;
     keeps_found = subst (λ (es : List Entry). HoldsSuited opening began
-        → IfSome (tape (slot_disk w)) (KeepsFound size opening.moment es opening.found)) order_is
-        keeps;
+        → IfSome (tape (slot_disk w)) (KeepsFound size opening.moment es front)) whole_is keeps;
     no_late_receipt = subst (λ (es : List Entry). HoldsSuited opening began
         → IfSome (tape (slot_disk w))
-        (λ t. EachIsTimely size opening.moment es t 1 script lists)) order_is timely;
-    full = too_much_asked opening order last_view closed script lists r.taken;
+        (λ t. EachIsTimely size opening.moment es t 1 script lists)) whole_is timely;
+    full = too_much_asked opening order last_view closed front r.lies script lists r.taken;
   }
 
   -- ---- faults
@@ -221,22 +233,22 @@ module _ {D : Type 0} (tape : D → Option Tape) (moment faults : D → ℕ) (be
         | inr top ↦ omega (arith, top, same, low)
       ])
 
-  whole : (slot_plain tape moment w).fault ≡ none → HoldsSuited opening began
+  all_there : (slot_plain tape moment w).fault ≡ none → HoldsSuited opening began
       → HasFlushedAll (opening.setup).segment_size lists v
-      → IsWhole (opening.setup).segment_size (tape (slot_disk w)) order
-  whole up suited (inl p) = subst (λ (t : Option Tape). IsWhole size t order) own
-      (left_whole opening order last_view closed script lists r.taken up p.0 p.1 p.2 r.narrow
+      → IsWhole (opening.setup).segment_size (tape (slot_disk w)) whole
+  all_there up suited (inl p) = subst (λ (t : Option Tape). IsWhole size t whole) own
+      (left_whole opening order last_view closed front r.lies script lists r.taken up p.0 p.1 p.2 r.narrow
       (subst (λ (t : Option Tape). IfSome t (BeganSuited opening)) (sym own) (began_on suited)))
-  whole up suited (inr f) = absurd (knows_no_fault opening order last_view closed up f.0 f.1)
+  all_there up suited (inr f) = absurd (knows_no_fault opening order last_view closed up f.0 f.1)
 
   pub flushed_whole : HasFlushedAll (opening.setup).segment_size lists v
       → faults (slot_disk w) ≡ opening.faults → opening.faults < 2 ^ 64 - 1
       → HoldsSuited opening began
       → IsWhole (opening.setup).segment_size (tape (slot_disk w))
-      (order_told opening script lists)
+      (order_told front (opening.setup).segment_size script lists)
   flushed_whole flushed same low suited =
-      subst (IsWhole size (tape (slot_disk w))) order_is
-      (whole (none_met same low) suited flushed)
+      subst (IsWhole size (tape (slot_disk w))) whole_is
+      (all_there (none_met same low) suited flushed)
 
   -- ---- the order in numbers
 
@@ -245,19 +257,17 @@ module _ {D : Type 0} (tape : D → Option Tape) (moment faults : D → ℕ) (be
   records_counted = own_counted opening last_view script lists r.taken
 
   pub position_told : position
-      ≡ end_position (opening.setup).segment_size (order_told opening script lists)
+      ≡ end_position (opening.setup).segment_size
+      (order_told front (opening.setup).segment_size script lists)
   position_told = (r.closes).position_is ∙ (((r.closes).closed).free).position
-      ∙ ap (end_position size) order_is
+      ∙ end_whole opening front r.lies order ∙ ap (end_position size) whole_is
 
   pub bytes_told : position ≡ found_position opening + rooms_of (opening.setup).segment_size
       (order_from (opening.setup).segment_size 1 script lists)
-  bytes_told = omega (
-    arith,
-    position_told,
-    rooms_of-append size opening.found (order_from size 1 script lists),
-  )
+  bytes_told = (r.closes).position_is ∙ (((r.closes).closed).free).position
+      ∙ ap (order_end opening) order_is
 
-  pub rooms_within : rooms_of (opening.setup).segment_size (order_told opening script lists)
-      ≤ 2 ^ 42
-  rooms_within = subst (λ (es : List Entry). rooms_of size es ≤ 2 ^ 42) order_is
-      (rooms_are_low opening order last_view closed)
+  pub rooms_within : rooms_of (opening.setup).segment_size
+      (order_told front (opening.setup).segment_size script lists) ≤ 2 ^ 42
+  rooms_within = subst (λ (es : List Entry). rooms_of size es ≤ 2 ^ 42) whole_is
+      (rooms_are_low opening order last_view closed front r.lies)

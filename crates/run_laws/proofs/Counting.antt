@@ -135,9 +135,7 @@ own_counted opening v script lists taken =
 pub order_counted : (opening : Opening) (order : List Entry) (v : View)
     → IsClosedLog opening order v → (script : List (List AskedLine)) (lists : List (List Told))
     → HasTakenIn opening v script lists
-    → length order ≡ length opening.found + all_reserved_count lists
+    → length order ≡ all_reserved_count lists
 order_counted opening order v c script lists taken =
-    let own = order_from (opening.setup).segment_size 1 script lists in
     sym (ap length (told_order opening order v c script lists taken))
-    ∙ length-append opening.found own
-    ∙ ap (λ (n : ℕ). length opening.found + n) (own_counted opening v script lists taken)
+    ∙ own_counted opening v script lists taken

@@ -1,6 +1,6 @@
 -- Where a line found the log full, what was found and the script's records take up more than the
 -- log has for records.
-use Rattle.std.proofs.Common.{◌≡◌, ℕ, ◌+◌, ◌<◌, ◌≤◌, cond, Bool, true, false, leb, List, [], ◌∷◌, take, Option, Some, None, option_to_list, inl, inr, refl, sym, ap, ◌∙◌, arith}
+use Rattle.std.proofs.Common.{◌≡◌, ℕ, ◌+◌, ◌<◌, ◌≤◌, cond, Bool, true, false, leb, List, [], ◌∷◌, ◌++◌, take, Option, Some, None, option_to_list, inl, inr, refl, ap, arith}
 use Rattle.std.proofs.lemmas.List.Elements.{All-head, All-tail}
 use Rattle.std.proofs.lemmas.List.Sums.{sum_by-take-le}
 use mathlib.Core.Option as mathlib_option
@@ -23,8 +23,9 @@ use Rattle.wal_core.specs.Words.{Opening, log_limit}
 use Rattle.wal_core.specs.Views.{View}
 use Rattle.told_lines.specs.declared.told.Told.{Told}
 use Rattle.told_lines.specs.declared.told.Told.TheVariants.{Wrote, Hard, Flushed, Async, Idle, Switched, Stayed, Refused}
-use Rattle.told_lines.specs.Told.{FitsLine, IsFullAnswer, Logged, MayBeFull, SomeAnswer, SomeTold, TellsAll, TellsFrom, behind_or, entries_from, entries_of, entry_at, entry_of, insert_by_start, order_from, reserved_by, sorted_by_start}
+use Rattle.told_lines.specs.Told.{FitsLine, IsFullAnswer, Logged, MayBeFull, SomeAnswer, SomeTold, TellsAll, TellsFrom, behind_or, entries_from, entries_of, entry_at, entry_of, insert_by_start, reserved_by, sorted_by_start}
 use Rattle.told_lines.specs.Rooms.{all_rooms_asked, capacity_of, room_asked, rooms_asked}
+use Rattle.machine_laws.specs.WholeOrders.{LiesBehind}
 use Rattle.run_laws.specs.Ended.{HasTakenIn, IsClosedLog, logged_at_end}
 use Rattle.run_laws.proofs.RunOrder.{told_order, valid}
 use Rattle.run_laws.proofs.RunTells.{run_tells}
@@ -235,24 +236,25 @@ upper_count (some last) =
     (last, λ faults is. let same : last ≡ faults = cc in omega (arith, same))
 
 pub too_much_asked : (opening : Opening) (order : List Entry) (v : View)
-    → IsClosedLog opening order v → (script : List (List AskedLine)) (lists : List (List Told))
+    → IsClosedLog opening order v → (front : List Entry) → LiesBehind opening front
+    → (script : List (List AskedLine)) (lists : List (List Told))
     → HasTakenIn opening v script lists → SomeTold IsFullAnswer lists
     → capacity_of (opening.setup).segment_size (opening.setup).cap_segments
-    < rooms_of (opening.setup).segment_size opening.found
+    < rooms_of (opening.setup).segment_size front
     + all_rooms_asked (opening.setup).segment_size script
-too_much_asked opening order v c script lists taken full =
+too_much_asked opening order v c front lies script lists taken full =
     let size = (opening.setup).segment_size in
     let size_is = valid opening order v c script lists taken in
     let last = upper_count (c.writer).fault in
-    let tells = run_tells opening order v c script lists taken last.0 last.1 in
-    let own = order_from size 1 script lists in
-    let whole = sym (rooms_of-append size opening.found own)
-    ∙ ap (rooms_of size) (told_order opening order v c script lists taken) in
+    let tells = run_tells opening order v c front lies script lists taken last.0 last.1 in
+    let told = ap (rooms_of size) (told_order opening order v c script lists taken) in
     let writable = script_writable size (log_limit opening.setup) 1 script lists taken.others
     taken.played in
     omega (
       arith,
-      whole,
+      told,
+      rooms_of-append size front order,
       rooms_sorted size (entries_from size 1 script lists),
-      all_exceed (logged_at_end opening order last.0) size_is 1 script lists writable tells full,
+      all_exceed (logged_at_end opening front (front ++ order) last.0) size_is 1 script lists writable
+          tells full,
     )

@@ -1,6 +1,6 @@
 -- Where the disk did not fail, what reaches all ends that lines were told reaches the order's end:
 -- what was found is flushed from the opening on.
-use Rattle.std.proofs.Common.{◌≡◌, ℕ, ◌+◌, ◌^◌, ◌<◌, ◌≤◌, All, Contains, cond, Bool, true, false, leb, List, [], ◌∷◌, Option, Some, None, option_to_list, refl, ap, subst, IfSome, arith}
+use Rattle.std.proofs.Common.{◌≡◌, ℕ, ◌+◌, ◌^◌, ◌<◌, ◌≤◌, All, Contains, cond, Bool, true, false, leb, List, [], ◌∷◌, ◌++◌, Option, Some, None, option_to_list, refl, subst, IfSome, arith}
 use Rattle.std.proofs.lemmas.List.Elements.{All-append, All-cons, All-contains, All-head, All-nil, All-tail, All-weaker}
 use mathlib.Core.Option.{none, some}
 use Rattle.segment_disk.specs.declared.disk.Call.{Call}
@@ -8,9 +8,9 @@ use Rattle.segment_disk.specs.Tape.{Tape}
 use Rattle.byte_position.specs.Position.{end_address_of, first_position}
 use Rattle.wal_types.specs.declared.answers.Cause.TheVariants.{Full, Disk, Down}
 use Rattle.wal_page.specs.Order.{Entry, FollowsFrom, end_position, finish_of, position_behind, rooms_of}
-use Rattle.wal_page.proofs.OrderLaws.{rooms_of-append, rooms_of_cons}
+use Rattle.wal_page.proofs.OrderLaws.{rooms_of_cons}
 use Rattle.wal_script.specs.Asked.{Asked, AskedLine, Insert, Commit, Flush, CommitAsync, WriteBehind, Switch}
-use Rattle.wal_core.specs.Words.{Opening, flushed_word, moment_word}
+use Rattle.wal_core.specs.Words.{Opening, end_form, flushed_word, moment_word, order_end}
 use Rattle.wal_core.specs.Suited.{BeganSuited, tape_from}
 use Rattle.wal_core.specs.Views.{FlushPromise, View}
 use Rattle.wal_core.specs.Durable.{IsPromised}
@@ -21,10 +21,12 @@ use Rattle.told_lines.specs.declared.told.Told.{Told}
 use Rattle.told_lines.specs.declared.told.Told.TheVariants.{Wrote, Hard, Flushed, Async, Idle, Switched, Stayed, Refused}
 use Rattle.told_lines.specs.Told.{FitsLine, Logged, TellsAll, TellsFrom, behind_or, entries_from, entries_of, entry_of, insert_by_start, sorted_by_start}
 use Rattle.told_lines.specs.Whole.{IsWhole}
+use Rattle.machine_laws.specs.WholeOrders.{LiesBehind}
 use Rattle.run_laws.specs.Ended.{HasTakenIn, IsClosedLog, logged_at_end}
 use Rattle.run_laws.specs.Reached.{EndsBy, ReachesAll}
+use Rattle.run_laws.proofs.WholeOrders.{end_form_whole}
 use Rattle.run_laws.proofs.RefusedLines.{no_fault, tells_no_fault}
-use Rattle.run_laws.proofs.RunOrder.{begins, own_follow, told_own}
+use Rattle.run_laws.proofs.RunOrder.{accounted, told_order}
 
 -- what holds of all entries holds of them in any order
 module _ (P : Entry → Type 0) where
@@ -155,6 +157,7 @@ module _ (logged : Logged) (up : logged.last ≡ 0) (address : ℕ) where
       (all_end (pass + 1) script lists tells.1 (All-tail AllBy told lists by))
 
 module _ (opening : Opening) (order : List Entry) (v : View) (c : IsClosedLog opening order v)
+    (front : List Entry) (lies : LiesBehind opening front)
     (script : List (List AskedLine)) (lists : List (List Told))
     (taken : HasTakenIn opening v script lists) (up : (c.writer).fault ≡ none)
     (p : FlushPromise) (was : Contains (v.writing).promises p)
@@ -165,34 +168,34 @@ module _ (opening : Opening) (order : List Entry) (v : View) (c : IsClosedLog op
   abbrev EndsThere : Entry → Type 0
   EndsThere e = finish_of (opening.setup).segment_size e ≤ p.upto
 
-  -- those that this run reserved end so low
-  own_ended : All EndsThere (begins opening order v c script lists taken).0
+  -- all that this run reserved ends so low
+  own_ended : All EndsThere order
   own_ended =
-      subst (All EndsThere) (told_own opening order v c script lists taken)
+      subst (All EndsThere) (told_order opening order v c script lists taken)
       (all_sorted EndsThere (entries_from size 1 script lists)
-      (all_end (logged_at_end opening order 0) refl p.upto 1 script lists
-      (tells_no_fault opening order v c script lists taken up) reaches.ends))
+      (all_end (logged_at_end opening front (front ++ order) 0) refl p.upto 1 script lists
+      (tells_no_fault opening order v c script lists taken front lies up) reaches.ends))
 
-  pub flush_reaches : end_address_of (opening.setup).segment_size
-      (end_position (opening.setup).segment_size order) ≤ flushed_word c.words
-  flush_reaches =
-      let first = begins opening order v c script lists taken in
+  order_flushed : end_form opening.setup (order_end opening order) ≤ flushed_word c.words
+  order_flushed =
       let right = told_rightly opening c.words (some c.writer) c.views c.sound c.id v c.here in
       let Promised = IsPromised (flushed_word c.words) (moment_word c.words) in
       let promised = All-contains Promised (v.writing).promises p right.own_promised was in
       let flushed = flushed_word c.words in
       let all = All-weaker EndsThere (λ (e : Entry). finish_of size e ≤ flushed)
-      (λ e low. omega (arith, low, promised.upto_low)) first.0 own_ended in
-      let end = end_position size opening.found + rooms_of size first.0 in
-      let same : end ≡ end_position size order =
-      omega (arith, rooms_of-append size opening.found first.0, ap (rooms_of size) first.1) in
-      subst (λ (n : ℕ). end_address_of size n ≤ flushed) same
-      (order_ends size flushed (end_position size opening.found) first.0
-      (own_follow opening order v c script lists taken) all ((c.sound).durable).found_low)
+      (λ e low. omega (arith, low, promised.upto_low)) order own_ended in
+      order_ends size flushed (opening.place).position order
+      (accounted opening order v c script lists taken).chained all
+      ((c.sound).durable).found_low
+
+  pub flush_reaches : end_address_of (opening.setup).segment_size
+      (end_position (opening.setup).segment_size (front ++ order)) ≤ flushed_word c.words
+  flush_reaches = subst (λ (n : ℕ). n ≤ flushed_word c.words)
+      (end_form_whole opening front lies order) order_flushed
 
   whole_of : (opening.setup).sysid < 2 ^ 64 → (calls : Option (List Call)) → (c.writer).calls ≡ calls
       → IfSome (tape_from c.first calls) (BeganSuited opening)
-      → IsWhole (opening.setup).segment_size (tape_from c.first calls) order
+      → IsWhole (opening.setup).segment_size (tape_from c.first calls) (front ++ order)
   whole_of narrow None is began = tt
   whole_of narrow (Some calls) is began =
       let t : Tape = record { at_first = c.first; calls = calls } in
@@ -209,10 +212,10 @@ module _ (opening : Opening) (order : List Entry) (v : View) (c : IsClosedLog op
         calls_is = is;
         began = began;
       } in
-      let holds = whole opening order t v on flush_reaches in
+      let holds = whole opening order t v on order_flushed front lies in
       (holds.left, holds.read)
 
   pub left_whole : (opening.setup).sysid < 2 ^ 64
       → IfSome (tape_from c.first (c.writer).calls) (BeganSuited opening)
-      → IsWhole (opening.setup).segment_size (tape_from c.first (c.writer).calls) order
+      → IsWhole (opening.setup).segment_size (tape_from c.first (c.writer).calls) (front ++ order)
   left_whole narrow began = whole_of narrow (c.writer).calls refl began

@@ -1,3 +1,4 @@
+pub mod WholeOrders
 pub mod LineEntries
 pub mod LineFaults
 pub mod Sorting

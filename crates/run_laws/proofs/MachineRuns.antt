@@ -1,5 +1,5 @@
 -- What a crash leaves of a machine's run, word by word: all that its lines were told is firm.
-use Rattle.std.proofs.Common.{◌≡◌, ℕ, All, List, Some, inl, inr, sym, ap, ◌∙◌, subst, arith}
+use Rattle.std.proofs.Common.{◌≡◌, ℕ, All, List, ◌++◌, Some, inl, inr, sym, ap, ◌∙◌, subst, arith}
 use Rattle.std.proofs.lemmas.Bool.{cases_lt}
 use mathlib.Core.Option.{none, some, some-injective}
 use Rattle.segment_disk.specs.Assured.{IsMadeUpto}
@@ -17,9 +17,10 @@ use Rattle.machine_laws.proofs.DurableGrowth.{IsFirm-lower}
 use Rattle.machine_laws.proofs.DurableTapes.{TapeAssures-later}
 use Rattle.told_lines.specs.declared.told.Told.{Told}
 use Rattle.told_lines.specs.Crash.{SaysDurable}
-use Rattle.told_lines.specs.Told.{SomeTold}
+use Rattle.told_lines.specs.Told.{SomeTold, order_from}
 use Rattle.closed_log.proofs.Promises.{told_rightly}
 use Rattle.run_laws.specs.Assured.{IsMachineRun, KeepsToldWords, order_told}
+use Rattle.run_laws.proofs.WholeOrders.{chained_whole}
 use Rattle.run_laws.proofs.RunCrashes.{ArePromises, all_promised}
 use Rattle.run_laws.proofs.RunOrder.{unmapped}
 
@@ -46,8 +47,9 @@ same_writer turn home writer writers is = some-injective home writer (elim (case
       (is.each is.holder holder.0 holder.1))
 ])
 
-module _ (opening : Opening) (now : Tape) (moment : ℕ) (script : List (List AskedLine))
-    (lists : List (List Told)) (m : IsMachineRun opening (Some now) moment script lists) where
+module _ (opening : Opening) (front : List Entry) (now : Tape) (moment : ℕ)
+    (script : List (List AskedLine)) (lists : List (List Told))
+    (m : IsMachineRun opening front (Some now) moment script lists) where
   abbrev size : ℕ
   size = (opening.setup).segment_size
 
@@ -57,8 +59,10 @@ module _ (opening : Opening) (now : Tape) (moment : ℕ) (script : List (List As
   pub writer_tape : tape_from m.first ((m.sound).writer).calls ≡ Some now
   writer_tape = ap (λ (w : Plain). tape_from m.first w.calls) (sym home_is) ∙ m.tape_is
 
-  pub run_chained : IsChained (opening.setup).segment_size (order_told opening script lists)
-  run_chained = subst (IsChained size) m.order_is ((m.sound).reserved).chained
+  pub run_chained : IsChained (opening.setup).segment_size
+      (order_told front (opening.setup).segment_size script lists)
+  run_chained = subst (λ (es : List Entry). IsChained size (front ++ es)) m.order_is
+      (chained_whole opening front m.lies (m.sound).order ((m.sound).reserved).chained)
 
   -- ---- on a disk that held at the opening what the log may go on on
 
@@ -66,9 +70,9 @@ module _ (opening : Opening) (now : Tape) (moment : ℕ) (script : List (List As
     abbrev Kept : List Entry → FlushPromise → Type 0
     Kept es p = IsPromiseKept opening (m.sound).order now es p
 
-    found_firm : IsFirm opening.setup (m.sound).order (found_end opening) opening.moment now
+    found_firm : IsFirm opening (m.sound).order (found_end opening) opening.moment now
     found_firm = at_suited m.first opening (m.sound).writer
-        (IsFirm opening.setup (m.sound).order (found_end opening) opening.moment) now writer_tape
+        (IsFirm opening (m.sound).order (found_end opening) opening.moment) now writer_tape
         suited ((m.sound).durable).found
 
     all_kept : All (λ (j : Joined). AreKept opening (m.sound).order now j.entries j.promises)
@@ -83,15 +87,16 @@ module _ (opening : Opening) (now : Tape) (moment : ℕ) (script : List (List As
         (subst (All (ArePromises Kept)) (m.taken).joined all_kept)
 
     told_firm : (at address : ℕ) → SomeTold (SaysDurable at address) lists
-        → IsFirm opening.setup (m.sound).order address at now
+        → IsFirm opening (m.sound).order address at now
     told_firm at address says =
         let p = all_promised Kept size (log_limit opening.setup) 1 at address script lists
         (m.taken).others (m.taken).played others_kept says in
         TapeAssures-later size (IsMadeUpto size address)
-        (IsLogBelow opening.setup (m.sound).order address) (p.1).moment at now p.3
-        (IsFirm-lower opening.setup (m.sound).order address (p.1).upto (p.1).moment now p.4
+        (IsLogBelow opening (m.sound).order address) (p.1).moment at now p.3
+        (IsFirm-lower opening (m.sound).order address (p.1).upto (p.1).moment now p.4
         (p.2).firm)
 
-    pub keeps_words : KeepsToldWords opening (order_told opening script lists) lists now
+    pub keeps_words : KeepsToldWords opening
+        (order_from (opening.setup).segment_size 1 script lists) lists now
     keeps_words = subst (λ (es : List Entry). KeepsToldWords opening es lists now) m.order_is
         (record { found = found_firm; told = told_firm })

@@ -1,5 +1,5 @@
 -- What the lines of a run were told survives crashes, and none was told too late.
-use Rattle.std.proofs.Common.{ℕ, suc, ◌+◌, ◌≤◌, All, Contains, List, [], ◌∷◌, inl, inr, refl, subst, arith}
+use Rattle.std.proofs.Common.{ℕ, suc, ◌+◌, ◌≤◌, All, Contains, List, [], ◌∷◌, ◌++◌, inl, inr, refl, subst, arith}
 use Rattle.std.proofs.lemmas.List.Elements.{All-cons, All-head, All-nil, All-tail}
 use Rattle.byte_position.specs.Geometry.{IsSegmentSize}
 use Rattle.segment_disk.specs.Tape.{Tape}
@@ -12,6 +12,7 @@ use Rattle.told_lines.specs.declared.told.Told.{Told}
 use Rattle.told_lines.specs.Crash.{EachIsTimely, SaysDurable, SurvivesCrashes}
 use Rattle.told_lines.specs.Told.{SomeTold}
 use Rattle.told_lines.proofs.AnswerLoops.{some_told}
+use Rattle.machine_laws.specs.WholeOrders.{LiesBehind}
 use Rattle.closed_log.specs.Closed.{IsClosedOn, WasPromised}
 use Rattle.closed_log.specs.Timely.{IsTimely}
 use Rattle.closed_log.proofs.Fronts.{survive}
@@ -98,10 +99,11 @@ module _ (opening : Opening) (order : List Entry) (t : Tape) (v : View)
       (λ j there. all_contained (R j.entries) j.promises
       (λ p among. each j.entries p (inr (j, there, refl, among))))))
 
-  pub told_survive :
-      SurvivesCrashes (opening.setup).segment_size opening.moment order lists t
-  told_survive moment image since left torn found answer decodes =
-      let f = survive opening order t v c moment image since left torn found answer decodes in
+  pub survive_told : (front : List Entry) → LiesBehind opening front
+      → SurvivesCrashes (opening.setup).segment_size opening.moment (front ++ order) lists t
+  survive_told front lies moment image since left torn found answer decodes =
+      let f = survive opening order t v c front lies moment image since left torn found answer
+      decodes in
       record {
         count = f.count;
         front = f.front;
@@ -113,9 +115,24 @@ module _ (opening : Opening) (order : List Entry) (t : Tape) (v : View)
             f.promised p.0 p.1 p.2 p.3 n e is p.4;
       }
 
-  pub told_timely :
-      EachIsTimely (opening.setup).segment_size opening.moment order t 1 script lists
-  told_timely =
-      all_timely opening order t (log_limit opening.setup) ((c.sound).setup_is).size 1 script lists
+  timely_told : (whole : List Entry)
+      → EachIsTimely (opening.setup).segment_size opening.moment whole t 1 script lists
+  timely_told whole =
+      all_timely opening whole t (log_limit opening.setup) ((c.sound).setup_is).size 1 script lists
       taken.others taken.played
-      (of_others (IsTimely opening order t) (timely opening order t v c))
+      (of_others (IsTimely opening whole t) (timely opening order t v c whole))
+
+pub told_survive : (opening : Opening) (order : List Entry) (t : Tape) (v : View)
+    → IsClosedOn opening order t v → (front : List Entry) → LiesBehind opening front
+    → (script : List (List AskedLine)) (lists : List (List Told))
+    → HasTakenIn opening v script lists
+    → SurvivesCrashes (opening.setup).segment_size opening.moment (front ++ order) lists t
+told_survive opening order t v c front lies script lists taken =
+    survive_told opening order t v c script lists taken front lies
+
+pub told_timely : (opening : Opening) (order : List Entry) (t : Tape) (v : View)
+    → IsClosedOn opening order t v → (whole : List Entry) (script : List (List AskedLine))
+    (lists : List (List Told)) → HasTakenIn opening v script lists
+    → EachIsTimely (opening.setup).segment_size opening.moment whole t 1 script lists
+told_timely opening order t v c whole script lists taken =
+    timely_told opening order t v c script lists taken whole

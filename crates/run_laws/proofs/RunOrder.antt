@@ -1,27 +1,24 @@
--- The order of a closed log is what its opening found, and behind it that of what the script's
--- lines were told.
+-- The order of a closed log is that of what the script's lines were told.
 use Rattle.std.proofs.Common.{◌≡◌, ℕ, suc, zero, ◌+◌, ◌<◌, ◌≤◌, All, List, [], ◌∷◌, ◌++◌, inl, inr, length, map, refl, sym, ap, ◌∙◌, subst, arith}
 use Rattle.std.proofs.lemmas.List.Elements.{All-cons, All-contains, All-head, All-nil, All-tail}
 use Rattle.wal_page.specs.Order.{Entry}
-use Rattle.byte_position.specs.Position.{first_position}
 use Rattle.byte_position.specs.Geometry.{IsSegmentSize}
-use Rattle.wal_page.proofs.OrderLaws.{FollowsFrom-parts, room_at-pos}
-use Rattle.wal_page.specs.Order.{FollowsFrom, IsChained, end_position, position_behind}
+use Rattle.wal_page.proofs.OrderLaws.{room_at-pos}
+use Rattle.wal_page.specs.Order.{position_behind}
 use Rattle.wal_script.specs.Asked.{AskedLine}
 use Rattle.wal_core.specs.Words.{Opening, log_limit}
 use Rattle.wal_core.specs.Views.{Joined, View}
 use Rattle.wal_core.specs.Moves.{joined_of}
-use Rattle.wal_core.specs.Ordered.{entries_under, BeginsWith, TookIn}
+use Rattle.wal_core.specs.Ordered.{entries_under, TookIn}
 use Rattle.machine_laws.specs.ClosedLogs.{OrderIsAccounted}
 use Rattle.closed_log.specs.Rising.{RiseFrom}
 use Rattle.closed_log.proofs.Risen.{risen}
 use Rattle.told_lines.specs.declared.told.Told.{Told}
 use Rattle.told_lines.specs.Told.{entries_from, entries_of, order_from, sorted_by_start, IsRising, RiseInLineOrder}
 use Rattle.run_laws.specs.Played.{PlaysAllLines, state_at_first, pass_state_of}
-use Rattle.run_laws.specs.Assured.{order_told}
 use Rattle.run_laws.specs.Ended.{HasTakenIn, IsClosedLog, PlayedAll}
 use Rattle.run_laws.proofs.LineEntries.{lines_entries}
-use Rattle.run_laws.proofs.Sorting.{NoneOutside, sorted_under, under_behind, under_from, under_from_behind}
+use Rattle.run_laws.proofs.Sorting.{NoneOutside, sorted_under, under_from}
 
 -- what holds of the passes taken in holds of the views that they were
 pub unmapped : (P : Joined → Type 0) (others : List View) → All P (map joined_of others)
@@ -119,27 +116,18 @@ module _ (opening : Opening) (order : List Entry) (v : View) (c : IsClosedLog op
       (subst (All (λ (j : Joined). j.entries ≡ entries_under j.number order)) taken.joined
       (accounted.part).joined)
 
-  pub begins : BeginsWith opening.found order
-  begins = accounted.found_first
-
-  -- those that this run reserved follow what was found
-  pub own_follow : FollowsFrom (opening.setup).segment_size
-      (end_position (opening.setup).segment_size opening.found) begins.0
-  own_follow = (FollowsFrom-parts size (first_position size) opening.found begins.0
-      (subst (IsChained size) begins.1 accounted.chained)).1
-
   below : All (λ j. j.number < 1 + length taken.others) (v.reserving).joined
   below =
       subst (All (λ (j : Joined). j.number < 1 + length taken.others)) (sym taken.joined)
       (numbers_below size (log_limit opening.setup) 1 (1 + length taken.others) script lists
       taken.others taken.played (omega arith))
 
-  none_outside_all : NoneOutside 1 (length taken.others) order
-  none_outside_all zero o =
+  none_outside : NoneOutside 1 (length taken.others) order
+  none_outside zero o =
       ap (λ (n : ℕ). entries_under n order) (sym taken.number)
       ∙ sym (accounted.part).entries ∙ taken.none
-  none_outside_all (suc q) (inl low) = absurd (omega (arith, low))
-  none_outside_all (suc q) (inr high) =
+  none_outside (suc q) (inl low) = absurd (omega (arith, low))
+  none_outside (suc q) (inr high) =
       accounted.no_other (suc q) (λ same. omega (arith, same, taken.number))
       (λ (t : TookIn (suc q) v.reserving). omega (
         arith,
@@ -149,28 +137,18 @@ module _ (opening : Opening) (order : List Entry) (v : View) (c : IsClosedLog op
             below t.1,
       ))
 
-  none_outside : NoneOutside 1 (length taken.others) begins.0
-  none_outside q o =
-      sym (under_behind opening.found begins.0 q begins.3)
-      ∙ ap (entries_under q) (sym begins.1) ∙ none_outside_all q o
-
-  -- the lines were told of those that this run reserved
-  pub told_own : order_from (opening.setup).segment_size 1 script lists ≡ begins.0
-  told_own =
+  pub told_order : order_from (opening.setup).segment_size 1 script lists ≡ order
+  told_order =
       let passes = length taken.others in
       ap sorted_by_start (all_entries size (log_limit opening.setup) valid order 1 script lists
-      taken.others taken.played all_of_order
-      ∙ ap (under_from 1 passes) begins.1
-      ∙ under_from_behind opening.found begins.0 1 passes begins.3)
-      ∙ sorted_under size (end_position size opening.found) 1 passes begins.0 own_follow begins.2
-      none_outside
-
-  pub told_order : order_told opening script lists ≡ order
-  told_order = ap (λ (es : List Entry). opening.found ++ es) told_own ∙ sym begins.1
+      taken.others taken.played all_of_order)
+      ∙ sorted_under size (opening.place).position 1 passes order accounted.chained
+      accounted.owned none_outside
 
   pub told_rise : RiseInLineOrder (opening.setup).segment_size 1 script lists
   told_rise =
       let rise = (risen opening order c.words c.views v.reserving accounted).rise in
       all_rise size (log_limit opening.setup) valid order
-      (λ number. rising_of size (first_position size) (entries_under number order) (rise number))
+      (λ number. rising_of size (opening.place).position (entries_under number order)
+      (rise number))
       1 script lists taken.others taken.played all_of_order

@@ -29,10 +29,10 @@ miss n e es h = ap (λ (b : Bool). cond b (e ∷ entries_under n es) (entries_un
 
 -- ---- behind entries that are nobody's
 
-module _ (found back : List Entry) where
-  pub under_behind : (n : ℕ) → All (λ e. e.pass ≡ None) found
-      → entries_under n (found ++ back) ≡ entries_under n back
-  under_behind n nobodys = none_of found nobodys
+module _ (front back : List Entry) where
+  pub under_behind : (n : ℕ) → All (λ e. e.pass ≡ None) front
+      → entries_under n (front ++ back) ≡ entries_under n back
+  under_behind n nobodys = none_of front nobodys
     where
       none_of : (es : List Entry) → All (λ e. e.pass ≡ None) es
           → entries_under n (es ++ back) ≡ entries_under n back
@@ -40,15 +40,6 @@ module _ (found back : List Entry) where
       none_of (e ∷ es) all =
           miss n e (es ++ back) (ap (is_pass n) (All-head (λ (x : Entry). x.pass ≡ None) e es all))
           ∙ none_of es (All-tail (λ (x : Entry). x.pass ≡ None) e es all)
-
-  pub under_from_behind : (pass n : ℕ) → All (λ e. e.pass ≡ None) found
-      → under_from pass n (found ++ back) ≡ under_from pass n back
-  under_from_behind pass zero nobodys = refl
-  under_from_behind pass (suc n) nobodys =
-      ap (λ (l : List Entry). l ++ under_from (pass + 1) n (found ++ back))
-      (under_behind pass nobodys)
-      ∙ ap (λ (l : List Entry). entries_under pass back ++ l)
-      (under_from_behind (pass + 1) n nobodys)
 
 -- ---- what starts behind a position
 

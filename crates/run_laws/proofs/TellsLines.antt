@@ -11,16 +11,19 @@ use Rattle.wal_types.specs.declared.answers.Cause.{Cause}
 use Rattle.wal_types.specs.declared.answers.Cause.TheVariants.{Full, Disk, Down}
 use Rattle.wal_types.specs.declared.lsn.Lsn.{Lsn}
 use Rattle.wal_types.specs.declared.record.Record.{Record}
-use Rattle.wal_page.specs.Order.{Entry, IsChained, end_position, position_behind, room_at}
+use Rattle.wal_page.specs.Order.{Entry, end_position, position_behind, room_at}
 use Rattle.wal_script.specs.Asked.{Asked, AskedLine, Insert, Commit, Flush, CommitAsync, WriteBehind, Switch}
 use Rattle.wal_core.specs.Views.{Stop, FlushPromise}
+use Rattle.wal_core.specs.Words.{GoesOnAtPlace, Opening, log_limit}
 use Rattle.wal_core.specs.Ordered.{FrontEndsAt}
+use Rattle.machine_laws.specs.WholeOrders.{LiesBehind}
 use Rattle.told_lines.specs.declared.told.Told.{Told}
 use Rattle.told_lines.specs.declared.told.Told.TheVariants.{Wrote, Hard, Flushed, Async, Idle, Switched, Stayed, Refused}
 use Rattle.told_lines.specs.Told.{FitsLine, IsFault, IsPlaced, LeavesFew, Logged, MayRefuseFlush, MayRefuseRecord, TellsFrom, behind_or, entries_of, entry_of}
 use Rattle.told_lines.proofs.AllLaws.{parts_all}
 use Rattle.wal_core.specs.PassLogs.{PassLog, log_with_promise}
 use Rattle.run_laws.specs.Played.{KnowsFault, Leaves, PassState, PlaysLines, RefusesFlushLine, RefusesRecordLine, RefusesSwitchLine, Reserves, ReservesUpto, behind_last_own}
+use Rattle.run_laws.specs.Ended.{logged_at_end}
 use Rattle.run_laws.proofs.FullLines.{full_cause, stay_cause}
 use Rattle.run_laws.proofs.LineEntries.{line_entries, lines_entries}
 use Rattle.run_laws.proofs.LineFaults.{refused_as_record}
@@ -34,38 +37,43 @@ behind_more size behind [] None = refl
 behind_more size behind [] (Some e) = refl
 behind_more size behind (f ∷ es) e = behind_more size (position_behind size f) es e
 
-module _ (logged : Logged) (limit pass : ℕ) (valid : IsSegmentSize logged.size)
-    (chained : IsChained logged.size logged.order)
-    (limited : limit ≡ first_position logged.size + logged.capacity)
-    (all : List Entry) where
-  abbrev size : ℕ
-  size = logged.size
+module _ (opening : Opening) (front : List Entry) (lies : LiesBehind opening front)
+    (order : List Entry) (last pass : ℕ) (valid : IsSegmentSize (opening.setup).segment_size)
+    (follows : GoesOnAtPlace opening order) (all : List Entry) where
+  abbrev pub size : ℕ
+  size = (opening.setup).segment_size
+
+  abbrev pub limit : ℕ
+  limit = log_limit opening.setup
+
+  abbrev pub logged : Logged
+  logged = logged_at_end opening front (front ++ order) last
 
   abbrev first : ℕ
-  first = first_position logged.size
+  first = first_position (opening.setup).segment_size
 
   -- each promise is of what was reserved
   abbrev pub IsWithin : FlushPromise → Type 0
-  IsWithin p = p.upto ≤ end_address_of logged.size (end_position logged.size logged.order)
+  IsWithin p = p.upto ≤ end_address_of size (end_position size (front ++ order))
 
   abbrev pub Ends : Stop → Type 0
-  Ends f = FrontEndsAt logged.size pass logged.found logged.order all f
+  Ends f = FrontEndsAt opening pass order all f
 
   start_position : (value : Record) (start : Lsn) (before after : PassLog)
-      → (r : Reserves logged.size limit pass value start.0 before after)
-      → position_of logged.size start.0 ≡ r.at
+      → (r : Reserves size limit pass value start.0 before after)
+      → position_of size start.0 ≡ r.at
   start_position value start before after r =
       ap (position_of size) r.start_is ∙ position_of-address_of size valid r.at
 
   started : (value : Record) (start : Lsn) (before after : PassLog)
-      → Reserves logged.size limit pass value start.0 before after
-      → start.0 ≡ address_of logged.size (position_of logged.size start.0)
+      → Reserves size limit pass value start.0 before after
+      → start.0 ≡ address_of size (position_of size start.0)
   started value start before after r =
       r.start_is ∙ ap (address_of size) (sym (start_position value start before after r))
 
   placed : (value : Record) (start end : Lsn) (before after : PassLog)
-      → ReservesUpto logged.size limit pass value start.0 end.0 before after
-      → IsPlaced logged.size value start.0 end.0
+      → ReservesUpto size limit pass value start.0 end.0 before after
+      → IsPlaced size value start.0 end.0
   placed value start end before after r = record {
     starts = started value start before after r.reserved;
     ends = r.end_is ∙ ap (λ (n : ℕ). end_address_of size (n + room_at size n value))
@@ -74,8 +82,8 @@ module _ (logged : Logged) (limit pass : ℕ) (valid : IsSegmentSize logged.size
 
   promised : (upto moment : ℕ) (before after : PassLog)
       → after ≡ log_with_promise upto moment before
-      → Held logged.size limit pass Ends IsWithin after
-      → upto ≤ end_address_of logged.size (end_position logged.size logged.order)
+      → Held size limit pass Ends IsWithin after
+      → upto ≤ end_address_of size (end_position size (front ++ order))
   promised upto moment before after log_is held =
       let more : FlushPromise =
       record { upto = upto; moment = moment; entries = length before.entries } in
@@ -83,19 +91,19 @@ module _ (logged : Logged) (limit pass : ℕ) (valid : IsSegmentSize logged.size
       All-head IsWithin more [] (parts_all IsWithin before.promises (more ∷ []) all_within).1
 
   module _ (before after : PassState)
-      (held : Held logged.size limit pass Ends IsWithin after.log)
+      (held : Held size limit pass Ends IsWithin after.log)
       (faulty : (faults : ℕ) → KnowsFault faults after → IsFault logged faults)
       (own : take (length (before.log).entries) all ≡ (before.log).entries)
-      (seen_low : after.seen ≤ end_position logged.size logged.order) where
+      (seen_low : after.seen ≤ end_position size (front ++ order)) where
     abbrev behind : ℕ
-    behind = behind_last_own logged.size (first_position logged.size) (before.log).entries
+    behind = behind_last_own size (first_position size) (before.log).entries
 
     refuses : (value : Record) (cause : Cause) (reserved : Option Lsn)
-        → RefusesRecordLine logged.size limit pass value cause reserved before after
+        → RefusesRecordLine size limit pass value cause reserved before after
         → MayRefuseRecord logged pass behind value cause reserved
     refuses value (Full free) None l =
-        full_cause logged limit pass chained limited all value free before.log after.log l held.0
-        own
+        full_cause opening front lies order last pass follows all value free before.log after.log
+        l held.0 own
     refuses value (Full free) (Some start) l = absurd l
     refuses value (Disk faults) None l = absurd l
     refuses value (Disk faults) (Some start) l =
@@ -105,7 +113,7 @@ module _ (logged : Logged) (limit pass : ℕ) (valid : IsSegmentSize logged.size
         (faulty faults l.1, started value start before.log after.log l.0)
 
     refuses_flush : (cause : Cause) (reserved : Option Lsn)
-        → RefusesFlushLine logged.size limit pass cause reserved before after
+        → RefusesFlushLine size limit pass cause reserved before after
         → MayRefuseFlush logged cause reserved
     refuses_flush (Full free) reserved l = absurd l
     refuses_flush (Disk faults) None l = (faulty faults l.1, refl)
@@ -114,13 +122,13 @@ module _ (logged : Logged) (limit pass : ℕ) (valid : IsSegmentSize logged.size
     refuses_flush (Down faults) (Some start) l = absurd l
 
     leaves_few : (cause : Cause) (reserved : Option Lsn)
-        → RefusesSwitchLine logged.size limit pass cause reserved before after → LeavesFew cause
+        → RefusesSwitchLine size limit pass cause reserved before after → LeavesFew cause
     leaves_few (Full free) None l = (l.some, l.few)
     leaves_few (Full free) (Some start) l = absurd l
     leaves_few (Disk faults) reserved l = tt
     leaves_few (Down faults) reserved l = tt
 
-    fits : (asked : Asked) (told : Told) → Leaves logged.size limit pass asked told before after
+    fits : (asked : Asked) (told : Told) → Leaves size limit pass asked told before after
         → FitsLine logged pass behind asked told
     fits (Insert value) (Wrote start end) l = placed value start end before.log after.log l
     fits (Insert value) (Hard start end moment) l = absurd l
@@ -167,7 +175,7 @@ module _ (logged : Logged) (limit pass : ℕ) (valid : IsSegmentSize logged.size
     fits WriteBehind (Idle upto) l = record {
       page = (l.behind).page;
       within = (let further = end_address_of-mono size valid after.seen
-          (end_position size logged.order) seen_low in
+          (end_position size (front ++ order)) seen_low in
           omega (arith, l.reserved, further));
     }
     fits WriteBehind (Switched start end) l = absurd l
@@ -180,19 +188,20 @@ module _ (logged : Logged) (limit pass : ℕ) (valid : IsSegmentSize logged.size
     fits Switch (Idle upto) l = absurd l
     fits Switch (Switched start end) l = placed switch_record start end before.log after.log l
     fits Switch (Stayed end) l =
-        stay_cause logged limit pass chained limited all end.0 before.log after.log l held.0 own
+        stay_cause opening front lies order last pass follows all end.0 before.log after.log l
+        held.0 own
     fits Switch (Refused cause reserved) l = (
       refuses switch_record cause reserved
-          (refused_as_record logged.size limit pass cause reserved before after l),
+          (refused_as_record size limit pass cause reserved before after l),
       leaves_few cause reserved l,
     )
 
   pub tells : (lines : List AskedLine) (told : List Told) (before after : PassState)
-      → PlaysLines logged.size limit pass before lines told after → (after.log).entries ≡ all
-      → Held logged.size limit pass Ends IsWithin after.log
+      → PlaysLines size limit pass before lines told after → (after.log).entries ≡ all
+      → Held size limit pass Ends IsWithin after.log
       → ((faults : ℕ) → KnowsFault faults after → IsFault logged faults)
-      → after.seen ≤ end_position logged.size logged.order → TellsFrom logged pass
-      (behind_last_own logged.size (first_position logged.size) (before.log).entries) lines told
+      → after.seen ≤ end_position size (front ++ order) → TellsFrom logged pass
+      (behind_last_own size (first_position size) (before.log).entries) lines told
   tells [] [] before after plays ends held faulty seen_low = tt
   tells [] (answer ∷ told) before after plays ends held faulty seen_low = absurd plays
   tells (line ∷ lines) [] before after plays ends held faulty seen_low = absurd plays

@@ -12,6 +12,7 @@ use Rattle.wal_core.specs.Sound.{IsSound}
 use Rattle.wal_core.specs.Suited.{IsSuited, tape_from}
 use Rattle.wal_core.specs.Views.{HasAt, Plain, View}
 use Rattle.wal_core.specs.Words.{Opening, found_end}
+use Rattle.machine_laws.specs.WholeOrders.{LiesBehind}
 use Rattle.wal_script.specs.Asked.{AskedLine}
 use Rattle.told_lines.specs.declared.told.Told.{Told}
 use Rattle.told_lines.specs.Told.{EachStaysDown, IsFullAnswer, RiseInLineOrder, SomeTold, TellsAll, order_from}
@@ -24,9 +25,8 @@ use Rattle.run_laws.specs.Ended.{HasTakenIn, logged_at_end}
 
 -- the whole order: what the opening found, and behind it what the lines were told; backend b has
 -- pass b + 1
-abbrev pub order_told : Opening → List (List AskedLine) → List (List Told) → List Entry
-order_told opening script lists =
-    opening.found ++ order_from (opening.setup).segment_size 1 script lists
+abbrev pub order_told : List Entry → ℕ → List (List AskedLine) → List (List Told) → List Entry
+order_told front size script lists = front ++ order_from size 1 script lists
 
 -- the disk held at the opening what the log may go on on, where it tells what it holds
 abbrev pub HoldsSuited : Opening → Option Tape → Type 0
@@ -51,14 +51,15 @@ LeavesLogWords size sysid order from t =
 -- below an address is durable, up to that address
 pub record KeepsToldWords (opening : Opening) (order : List Entry) (lists : List (List Told))
     (t : Tape) : Type 0 where
-  pub found : IsFirm opening.setup order (found_end opening) opening.moment t
+  pub found : IsFirm opening order (found_end opening) opening.moment t
   pub told : (moment address : ℕ) → SomeTold (SaysDurable moment address) lists
-      → IsFirm opening.setup order address moment t
+      → IsFirm opening order address moment t
 
--- the run was one of the machine, with a log that was opened so: in a state that the machine's
--- invariant allows, the order is the one told, the writer at home made the disk's calls, and a pass
--- took in those of all backends, each of which played its lines and was told these answers
-pub record IsMachineRun (opening : Opening) (now : Option Tape) (moment : ℕ)
+-- the run was one of the machine, with a log that was opened so behind these entries: in a state
+-- that the machine's invariant allows, its order is what the lines were told, the writer at home
+-- made the disk's calls, and a pass took in those of all backends, each of which played its lines
+-- and was told these answers
+pub record IsMachineRun (opening : Opening) (front : List Entry) (now : Option Tape) (moment : ℕ)
     (script : List (List AskedLine)) (lists : List (List Told)) : Type 0 where
   pub first : DiskState
   pub words : List ℕ
@@ -67,46 +68,51 @@ pub record IsMachineRun (opening : Opening) (now : Option Tape) (moment : ℕ)
   pub id : ℕ
   pub view : View
   pub sound : IsSound first opening words (some writer) views
-  pub order_is : sound.order ≡ order_told opening script lists
+  pub order_is : sound.order ≡ order_from (opening.setup).segment_size 1 script lists
   pub tape_is : tape_from first writer.calls ≡ now
   pub moment_is : writer.moment ≡ moment
   pub here : HasAt views id view
   pub taken : HasTakenIn opening view script lists
+  pub lies : LiesBehind opening front
 
 -- the run was such a one, on a disk that had the tape `began` at the opening and has the tape `now`
 -- in the end; its lines are told of no moment before the opening's
-pub record IsRunOn (opening : Opening) (began now : Option Tape) (moment : ℕ)
+pub record IsRunOn (opening : Opening) (front : List Entry) (began now : Option Tape) (moment : ℕ)
     (script : List (List AskedLine)) (lists : List (List Told)) : Type 0 where
-  pub machine : IsMachineRun opening now moment script lists
+  pub machine : IsMachineRun opening front now moment script lists
   pub goes_on : TapeGoesOn began now
   pub moments : EachRises opening.moment script lists moment
 
--- the disk had the tape `began` at the opening, and has the tape `now`, this moment and this count
--- of faults in the end
-pub record RunAssures (opening : Opening) (began now : Option Tape) (moment faults : ℕ)
-    (script : List (List AskedLine)) (lists : List (List Told)) : Type 0 where
-  pub machine : IsMachineRun opening now moment script lists
-  pub told : TellsAll (logged_at_end opening (order_told opening script lists) faults) 1 script
-      lists
+-- the log was opened behind the entries `front`; the disk had the tape `began` at the opening, and
+-- has the tape `now`, this moment and this count of faults in the end
+pub record RunAssures (opening : Opening) (front : List Entry) (began now : Option Tape)
+    (moment faults : ℕ) (script : List (List AskedLine)) (lists : List (List Told)) : Type 0 where
+  pub machine : IsMachineRun opening front now moment script lists
+  pub told : TellsAll (logged_at_end opening front
+      (order_told front (opening.setup).segment_size script lists) faults) 1 script lists
   pub stays_down : EachStaysDown lists
   pub one_fault : TellsOneFault lists
-  pub gapless : IsChained (opening.setup).segment_size (order_told opening script lists)
+  pub gapless : IsChained (opening.setup).segment_size
+      (order_told front (opening.setup).segment_size script lists)
   pub in_line_order : RiseInLineOrder (opening.setup).segment_size 1 script lists
   pub caught_up : EachCatchesUp script lists
   pub moments : EachRises opening.moment script lists moment
   pub goes_on : TapeGoesOn began now
   pub words : HoldsSuited opening began → IfSome now (LeavesLogWords (opening.setup).segment_size
-      (opening.setup).sysid (order_told opening script lists) opening.moment)
+      (opening.setup).sysid (order_told front (opening.setup).segment_size script lists)
+      opening.moment)
   pub firm : HoldsSuited opening began
-      → IfSome now (KeepsToldWords opening (order_told opening script lists) lists)
+      → IfSome now (KeepsToldWords opening
+      (order_from (opening.setup).segment_size 1 script lists) lists)
   pub crash : HoldsSuited opening began → IfSome now (SurvivesCrashes (opening.setup).segment_size
-      opening.moment (order_told opening script lists) lists)
+      opening.moment (order_told front (opening.setup).segment_size script lists) lists)
   pub keeps_found : HoldsSuited opening began → IfSome now (KeepsFound
-      (opening.setup).segment_size opening.moment (order_told opening script lists) opening.found)
+      (opening.setup).segment_size opening.moment
+      (order_told front (opening.setup).segment_size script lists) front)
   pub no_late_receipt : HoldsSuited opening began → IfSome now
       (λ t. EachIsTimely (opening.setup).segment_size opening.moment
-      (order_told opening script lists) t 1 script lists)
+      (order_told front (opening.setup).segment_size script lists) t 1 script lists)
   pub full : SomeTold IsFullAnswer lists
       → capacity_of (opening.setup).segment_size (opening.setup).cap_segments
-      < rooms_of (opening.setup).segment_size opening.found
+      < rooms_of (opening.setup).segment_size front
       + all_rooms_asked (opening.setup).segment_size script

@@ -66,12 +66,13 @@ pub record HasTakenIn (opening : Opening) (v : View) (script : List (List AskedL
   pub played : PlayedAll (opening.setup).segment_size (log_limit opening.setup) 1 script lists
       others
 
--- the log that lines are told of, where its disk's count of faults was `last` at the end
-abbrev pub logged_at_end : Opening → List Entry → ℕ → Logged
-logged_at_end opening order last = record {
+-- the log that lines are told of, with what its opening found and its whole order, where its disk's
+-- count of faults was `last` at the end
+abbrev pub logged_at_end : Opening → (front order : List Entry) → ℕ → Logged
+logged_at_end opening front order last = record {
   size = (opening.setup).segment_size;
   capacity = capacity_of (opening.setup).segment_size (opening.setup).cap_segments;
-  found = opening.found;
+  found = front;
   order = order;
   faults_at_open = opening.faults;
   last = last;

@@ -244,13 +244,20 @@ module _ (size limit pass : ℕ) where
   Leaves Switch (Refused cause reserved) before after =
       RefusesSwitchLine cause reserved before after
 
-  -- the record asked for can be inserted; the async address that the pass met does not fall, nor
-  -- what it saw reserved; and where the pass knew a fault, it is told again and nothing else
+  -- an insert, or a commit that is flushed, meets no async address: it raises none
+  abbrev pub KeepsAsync : Asked → PassState → PassState → Type 0
+  KeepsAsync (Insert value) before after = after.async_met ≡ before.async_met
+  KeepsAsync (Commit value) before after = after.async_met ≡ before.async_met
+  KeepsAsync other before after = Unit {0}
+
+  -- the record asked for can be inserted; the async address that the pass met does not fall, and by
+  -- such a line it stays; nor does what it saw reserved fall; and where the pass knew a fault, it is told again and nothing else
   pub record PlaysLine (asked : Asked) (told : Told) (before after : PassState) : Type 0 where
     pub writable : AsksWritable asked
     pub leaves : Leaves asked told before after
     pub cause : TellsCause told before after
     pub counts : before.async_met ≤ after.async_met
+    pub async : KeepsAsync asked before after
     pub sees : before.seen ≤ after.seen
     pub again : (faults : ℕ) → KnowsFault faults before → told ≡ Refused (Down faults) None
 

@@ -1,7 +1,7 @@
 //! How a run ends where its disk did not fail, and why its log was full; proved by functions that
 //! do nothing.
 
-ghost use Rattle.std.specs.Prelude.{◌≡◌, ℕ, ◌+◌, ◌^◌, ◌<◌, ◌≤◌, Contains, IfSome, List};
+ghost use Rattle.std.specs.Prelude.{◌≡◌, ℕ, ◌+◌, ◌++◌, ◌^◌, ◌<◌, ◌≤◌, Contains, IfSome, List};
 ghost use mathlib.Core.Option.{none};
 ghost use Rattle.byte_position.specs.Position.{end_address_of};
 ghost use Rattle.wal_page.specs.Order.{Entry, end_position, rooms_of};
@@ -13,6 +13,7 @@ ghost use Rattle.told_lines.specs.Whole.{IsWhole};
 ghost use Rattle.wal_core.specs.Words.{Opening, flushed_word};
 ghost use Rattle.wal_core.specs.Views.{FlushPromise, View};
 ghost use Rattle.wal_core.specs.Suited.{BeganSuited, tape_from};
+ghost use Rattle.machine_laws.specs.WholeOrders.{LiesBehind};
 ghost use Rattle.run_laws.specs.Ended.{HasTakenIn, IsClosedLog};
 ghost use Rattle.run_laws.specs.Reached.{ReachesAll};
 
@@ -28,11 +29,11 @@ pub fn refusals_without_a_fault()
 /// log has for records, on any disk.
 pub fn full_logs_have_too_much_asked_of_them()
     ensures more { (opening : Opening) (order : List Entry) (v : View)
-        → IsClosedLog opening order v → (script : List (List AskedLine))
-        (lists : List (List Told)) → HasTakenIn opening v script lists
-        → SomeTold IsFullAnswer lists
+        → IsClosedLog opening order v → (front : List Entry) → LiesBehind opening front
+        → (script : List (List AskedLine)) (lists : List (List Told))
+        → HasTakenIn opening v script lists → SomeTold IsFullAnswer lists
         → capacity_of (opening.setup).segment_size (opening.setup).cap_segments
-        < rooms_of (opening.setup).segment_size opening.found
+        < rooms_of (opening.setup).segment_size front
         + all_rooms_asked (opening.setup).segment_size script }
 {}
 
@@ -40,23 +41,26 @@ pub fn full_logs_have_too_much_asked_of_them()
 /// leaves all of the order flushed: what was found is so from the opening on.
 pub fn last_flush_reaches()
     ensures reach { (opening : Opening) (order : List Entry) (v : View)
-        (c : IsClosedLog opening order v) (script : List (List AskedLine))
-        (lists : List (List Told)) → HasTakenIn opening v script lists
-        → (c.writer).fault ≡ none → (p : FlushPromise) → Contains (v.writing).promises p
+        (c : IsClosedLog opening order v) (front : List Entry) → LiesBehind opening front
+        → (script : List (List AskedLine)) (lists : List (List Told))
+        → HasTakenIn opening v script lists → (c.writer).fault ≡ none
+        → (p : FlushPromise) → Contains (v.writing).promises p
         → ReachesAll (opening.setup).segment_size p.upto lists
         → end_address_of (opening.setup).segment_size
-        (end_position (opening.setup).segment_size order) ≤ flushed_word c.words }
+        (end_position (opening.setup).segment_size (front ++ order)) ≤ flushed_word c.words }
 {}
 
 /// Then, where the disk tells what it holds, and held what a log may begin on, all of the order is
 /// there for good.
 pub fn runs_leave_whole_logs()
     ensures whole { (opening : Opening) (order : List Entry) (v : View)
-        (c : IsClosedLog opening order v) (script : List (List AskedLine))
-        (lists : List (List Told)) → HasTakenIn opening v script lists
-        → (c.writer).fault ≡ none → (p : FlushPromise) → Contains (v.writing).promises p
+        (c : IsClosedLog opening order v) (front : List Entry) → LiesBehind opening front
+        → (script : List (List AskedLine)) (lists : List (List Told))
+        → HasTakenIn opening v script lists → (c.writer).fault ≡ none
+        → (p : FlushPromise) → Contains (v.writing).promises p
         → ReachesAll (opening.setup).segment_size p.upto lists
         → (opening.setup).sysid < 2 ^ 64
         → IfSome (tape_from c.first (c.writer).calls) (BeganSuited opening)
-        → IsWhole (opening.setup).segment_size (tape_from c.first (c.writer).calls) order }
+        → IsWhole (opening.setup).segment_size (tape_from c.first (c.writer).calls)
+        (front ++ order) }
 {}

@@ -11,20 +11,20 @@ ghost use Rattle.wal_page.specs.Order.{Entry, IsChained, end_position};
 ghost use Rattle.wal_script.specs.Asked.{AskedLine};
 ghost use Rattle.told_lines.specs.declared.told.Told.{Told};
 ghost use Rattle.told_lines.specs.Counts.{TellsOneFault, own_faults_of, reserved_count};
-ghost use Rattle.told_lines.specs.Told.{entries_of, AllDown, EachStaysDown, Logged, MayBeFull, RiseInLineOrder, StaysDown, TellsAll};
+ghost use Rattle.told_lines.specs.Told.{entries_of, AllDown, EachStaysDown, MayBeFull, RiseInLineOrder, StaysDown, TellsAll, order_from};
 ghost use Rattle.segment_disk.specs.Tape.{DiskState};
-ghost use Rattle.wal_core.specs.Words.{Opening, log_limit};
+ghost use Rattle.wal_core.specs.Words.{GoesOnAtPlace, Opening, log_limit};
 ghost use Rattle.wal_core.specs.Views.{HasAt, Plain, View};
 ghost use Rattle.wal_core.specs.Durable.{one_if_some};
 ghost use Rattle.wal_core.specs.Moves.{after_join};
 ghost use Rattle.wal_core.specs.Sound.{IsSound};
 ghost use Rattle.wal_core.specs.Ordered.{entries_under, FrontEndsAt};
 ghost use Rattle.machine_laws.specs.ClosedLogs.{IsLastPass};
+ghost use Rattle.machine_laws.specs.WholeOrders.{LiesBehind};
 ghost use Rattle.wal_core.specs.PassLogs.{PassLog};
 ghost use Rattle.run_laws.specs.Counted.{all_reserved_count};
 ghost use Rattle.run_laws.specs.Played.{AddsFull, KnowsFault, PassState, PlaysAllLines, PlaysLine, PlaysLines, behind_last_own, pass_state_of};
 ghost use Rattle.run_laws.specs.Ended.{HasTakenIn, IsClosedLog, logged_at_end};
-ghost use Rattle.run_laws.specs.Assured.{order_told};
 
 /// Lines are played one after another: one more may follow.
 pub fn lines_are_played_one_by_one()
@@ -90,12 +90,12 @@ pub fn faults_are_told_again()
         (lists : List (List Told)) → HasTakenIn opening v script lists → EachStaysDown lists }
 {}
 
-/// The order is what was found, and behind it that of what the script's lines are told.
+/// The order behind what was found is that of what the script's lines are told.
 pub fn orders_are_told()
     ensures order { (opening : Opening) (order : List Entry) (v : View)
         → IsClosedLog opening order v → (script : List (List AskedLine))
         (lists : List (List Told)) → HasTakenIn opening v script lists
-        → order_told opening script lists ≡ order }
+        → order_from (opening.setup).segment_size 1 script lists ≡ order }
 {}
 
 /// What each backend's lines are told to have reserved rises in the order of the lines.
@@ -113,13 +113,13 @@ pub fn own_entries_end_within()
         ≤ end_position size front }
 {}
 
-/// There are as many entries, beside those found, as answers that say that a record was reserved:
+/// There are as many entries behind what was found as answers that say that a record was reserved:
 /// of all backends together, and of each.
 pub fn records_are_counted()
     ensures all { (opening : Opening) (order : List Entry) (v : View)
         → IsClosedLog opening order v → (script : List (List AskedLine))
         (lists : List (List Told)) → HasTakenIn opening v script lists
-        → length order ≡ length opening.found + all_reserved_count lists }
+        → length order ≡ all_reserved_count lists }
     ensures one { (size limit pass : ℕ) (lines : List AskedLine) (told : List Told)
         (before after : PassState) → PlaysLines size limit pass before lines told after
         → length (entries_of size pass lines told) ≡ reserved_count told }
@@ -140,22 +140,25 @@ pub fn faults_are_told_once()
 /// which has all that was found, what the line's pass had reserved, and nothing that it reserved
 /// later.
 pub fn full_has_its_cause()
-    ensures cause { (logged : Logged) (limit pass : ℕ) → IsChained logged.size logged.order
-        → limit ≡ first_position logged.size + logged.capacity → (all : List Entry)
-        (value : Record) (free : ℕ) (before after : PassLog)
-        → AddsFull logged.size limit pass value free before after
-        → All (FrontEndsAt logged.size pass logged.found logged.order all) after.stops
+    ensures cause { (opening : Opening) (front : List Entry) → LiesBehind opening front
+        → (order : List Entry) (last pass : ℕ) → GoesOnAtPlace opening order
+        → (all : List Entry) (value : Record) (free : ℕ) (before after : PassLog)
+        → AddsFull (opening.setup).segment_size (log_limit opening.setup) pass value free
+        before after
+        → All (FrontEndsAt opening pass order all) after.stops
         → take (length before.entries) all ≡ before.entries
-        → MayBeFull logged pass
-        (behind_last_own logged.size (first_position logged.size) before.entries) value free }
+        → MayBeFull (logged_at_end opening front (front ++ order) last) pass
+        (behind_last_own (opening.setup).segment_size
+        (first_position (opening.setup).segment_size) before.entries) value free }
 {}
 
 /// Each line is told what it may be told of the log: `last` is no less than the count of faults
 /// that the writer met, where it met one.
 pub fn lines_are_told_as_they_may_be()
     ensures tells { (opening : Opening) (order : List Entry) (v : View)
-        (c : IsClosedLog opening order v) (script : List (List AskedLine))
-        (lists : List (List Told)) → HasTakenIn opening v script lists → (last : ℕ)
+        (c : IsClosedLog opening order v) (front : List Entry) → LiesBehind opening front
+        → (script : List (List AskedLine)) (lists : List (List Told))
+        → HasTakenIn opening v script lists → (last : ℕ)
         → ((faults : ℕ) → (c.writer).fault ≡ some faults → faults ≤ last)
-        → TellsAll (logged_at_end opening order last) 1 script lists }
+        → TellsAll (logged_at_end opening front (front ++ order) last) 1 script lists }
 {}

@@ -60,13 +60,13 @@ begins_with_found size sysid upto order es more found is chained nobodys same fr
     }
 
 pub later_orders_begin : LaterOrdersBegin
-later_orders_begin opening order since at upto handed t left began found script lists is hardened later crash none_torn reopened =
+later_orders_begin opening front order since at upto handed t left began found script lists is hardened later crash none_torn reopened =
     let size = (opening.setup).segment_size in
     let sysid = (opening.setup).sysid in
     let image = image_as_read (state_now left) in
     let has = reopened.left.has_found in
-    let front = lawful_images_decode_to_fronts size sysid upto image order is.valid is.known is.narrow is.chained is.bounded (hardened at image later crash.leaves) none_torn found has.answer has.decodes in
-    begins_with_found size sysid upto order opening.found (order_from size 1 script lists) found is reopened.openable.chained reopened.openable.nobodys reopened.found_is front
+    let read = lawful_images_decode_to_fronts size sysid upto image order is.valid is.known is.narrow is.chained is.bounded (hardened at image later crash.leaves) none_torn found has.answer has.decodes in
+    begins_with_found size sysid upto order front (order_from size 1 script lists) found is reopened.lies.chained reopened.lies.nobodys reopened.found_is read
 
 -- ---- frames
 

@@ -36,15 +36,16 @@ pub record BeginsUpto (size : ℕ) (order later : List Entry) (upto : ℕ) : Typ
 -- CRC, and the log was gone on with, the later order begins with all entries up to there
 abbrev pub LaterOrdersBegin : Type 0
 LaterOrdersBegin =
-    (opening : Opening) (order : List Entry) (since at upto handed : ℕ) (t left began : Tape)
+    (opening : Opening) (front order : List Entry) (since at upto handed : ℕ) (t left began : Tape)
     (found : List FoundRecord) (script : List (List AskedLine)) (lists : List (List Told))
     → IsLogOrder (opening.setup).segment_size (opening.setup).sysid order
     → IsHardenedUpto (opening.setup).segment_size (opening.setup).sysid order since upto t
     → since ≤ at → IsLeftByCrash t at left
     → NoTornPass (opening.setup).segment_size
     (pages_in (opening.setup).segment_size (image_as_read (state_now left))) order
-    → IsReopenedOn opening handed left began found
-    → BeginsUpto (opening.setup).segment_size order (order_told opening script lists) upto
+    → IsReopenedOn opening front handed left began found
+    → BeginsUpto (opening.setup).segment_size order
+    (order_told front (opening.setup).segment_size script lists) upto
 
 -- so frames that were sent up to an entry's end are frames of the later order too
 abbrev pub FramesStayOfLog : Type 0

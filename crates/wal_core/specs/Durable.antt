@@ -20,37 +20,35 @@ use Rattle.byte_position.specs.Geometry.{pages_of}
 use Rattle.wal_page.specs.Order.{Entry, finish_of}
 use Rattle.wal_page.specs.EntryWords.{address_of_word}
 use Rattle.segment_disk.specs.ImageWords.{zero_word}
-use Rattle.wal_page.specs.Log.{IsLawfulWord, log_word_bytes}
-use Rattle.wal_core.specs.declared.setup.Setup.{Setup}
 use Rattle.wal_core.specs.Words.{Opening, found_end}
 use Rattle.wal_core.specs.Made.{MakeInTurn}
 use Rattle.wal_core.specs.Suited.{IfSuited}
-use Rattle.wal_core.specs.Ringed.{log_word_of}
+use Rattle.wal_core.specs.Ringed.{log_bytes_of, log_word_of}
 use Rattle.wal_core.specs.Views.{HasAt, Joined, FlushPromise, Plain, Lent, Out, Receipts}
 
 -- ---- words of the disk, by page and number
 
-module _ (setup : Setup) (order : List Entry) where
+module _ (opening : Opening) (order : List Entry) where
   -- each is 0 or the log's
   abbrev pub IsLawfulAt : ℕ → ℕ → List ℕ → Type 0
   IsLawfulAt page word bytes =
-      IsLawfulWord setup.segment_size setup.sysid order (page * 8192 + 8 * word) bytes
+      (bytes ≡ zero_word) ⊎ (bytes ≡ log_bytes_of opening order (page * 8192 + 8 * word))
 
   -- each below an address is the log's
   abbrev pub IsLogBelow : ℕ → ℕ → ℕ → List ℕ → Type 0
   IsLogBelow address page word bytes = page * 8192 + 8 * word < address
-      → bytes ≡ log_word_bytes setup.segment_size setup.sysid order (page * 8192 + 8 * word)
+      → bytes ≡ log_bytes_of opening order (page * 8192 + 8 * word)
 
   -- whatever a crash leaves from a moment on is the log below an address, in segments that are
   -- there
   abbrev pub IsFirm : ℕ → ℕ → Tape → Type 0
-  IsFirm address moment tape = TapeAssures setup.segment_size
-      (IsMadeUpto setup.segment_size address) (IsLogBelow address) moment tape
+  IsFirm address moment tape = TapeAssures opening.setup.segment_size
+      (IsMadeUpto opening.setup.segment_size address) (IsLogBelow address) moment tape
 
   -- a word of the ring that was loaded: 0 or the log's, and the log's below an address
   pub record IsStaged (known : ℕ) (staged : ℕ × ℕ) : Type 0 where
-    pub lawful : (staged.1 ≡ 0) ⊎ (staged.1 ≡ log_word_of setup order (8 * staged.0))
-    pub below : 8 * staged.0 < known → staged.1 ≡ log_word_of setup order (8 * staged.0)
+    pub lawful : (staged.1 ≡ 0) ⊎ (staged.1 ≡ log_word_of opening order (8 * staged.0))
+    pub below : 8 * staged.0 < known → staged.1 ≡ log_word_of opening order (8 * staged.0)
 
 -- a call to a segment puts zeros where it writes a word of an entry
 abbrev pub PutsNone : ℕ → Entry → ℕ → CallKind → Type 0
@@ -71,7 +69,7 @@ pub record IsPromiseKept (opening : Opening) (order : List Entry) (tape : Tape)
     (entries : List Entry)
     (p : FlushPromise) : Type 0 where
   pub since : opening.moment ≤ p.moment
-  pub firm : IsFirm opening.setup order p.upto p.moment tape
+  pub firm : IsFirm opening order p.upto p.moment tape
   pub later : (k : ℕ) (e : Entry) → p.entries ≤ k → slice_get entries k ≡ Some e
       → IsUnwritten opening.setup.segment_size opening.moment tape p.moment e
 
@@ -84,12 +82,12 @@ AreKept opening order tape entries promises =
 pub record IsInHand (first : DiskState) (opening : Opening) (order : List Entry) (moment : ℕ)
     (writer : Plain)
     (l : Lent) : Type 0 where
-  pub staged : All (IsStaged opening.setup order l.known) l.staged
+  pub staged : All (IsStaged opening order l.known) l.staged
   pub hard_low : l.hard ≤ writer.written
   pub moment_low : l.hard_moment ≤ moment
   pub since : l.hard ≢ 0 → opening.moment ≤ l.hard_moment
   pub firm : l.hard ≢ 0
-      → IfSuited first opening writer (IsFirm opening.setup order l.hard l.hard_moment)
+      → IfSuited first opening writer (IsFirm opening order l.hard l.hard_moment)
 
 -- what a promise names is not above what the words say now
 pub record IsPromised (flushed moment : ℕ) (p : FlushPromise) : Type 0 where
@@ -133,13 +131,14 @@ setters (x ∷ xs) = setters_of x + setters xs
 
 -- the segments up to the last one made are there, and in each but the one that waits for a sync the
 -- log is durable below what is written
-pub record IsOnDisk (setup : Setup) (order : List Entry) (writer : Plain) (tape : Tape) : Type 0
-  where
-    pub firm : (segment : ℕ) → writer.waiting ≢ some segment
-        → SegmentAssures setup.segment_size (IsMadeUpto setup.segment_size writer.written)
-        (IsLogBelow setup order writer.written) segment (state_now tape segment)
-    pub there : (segment : ℕ) → 1 ≤ segment → segment ≤ writer.made
-        → IsSomeAnd (state_now tape segment) (λ s. s.pages ≡ pages_of setup.segment_size)
+pub record IsOnDisk (opening : Opening) (order : List Entry) (writer : Plain) (tape : Tape)
+    : Type 0 where
+  pub firm : (segment : ℕ) → writer.waiting ≢ some segment
+      → SegmentAssures opening.setup.segment_size
+      (IsMadeUpto opening.setup.segment_size writer.written)
+      (IsLogBelow opening order writer.written) segment (state_now tape segment)
+  pub there : (segment : ℕ) → 1 ≤ segment → segment ≤ writer.made
+      → IsSomeAnd (state_now tape segment) (λ s. s.pages ≡ pages_of opening.setup.segment_size)
 
 -- since the opening one segment was made behind another, up to the last one that the writer made
 -- unless it failed, and each only where all below it is written
@@ -159,12 +158,12 @@ pub record DurabilityHolds (first : DiskState) (opening : Opening) (order : List
       + opening.setup.segment_size
   pub made : IfSome writer.calls (IsMadeInTurn opening writer)
   pub lawful : IfSuited first opening writer (TapeAssures opening.setup.segment_size IsNowhere
-      (IsLawfulAt opening.setup order) opening.moment)
+      (IsLawfulAt opening order) opening.moment)
   pub found_low : found_end opening ≤ flushed
   pub found : IfSuited first opening writer
-      (IsFirm opening.setup order (found_end opening) opening.moment)
-  pub firm : IfSuited first opening writer (IsFirm opening.setup order flushed moment)
-  pub on_disk : IfSuited first opening writer (IsOnDisk opening.setup order writer)
+      (IsFirm opening order (found_end opening) opening.moment)
+  pub firm : IfSuited first opening writer (IsFirm opening order flushed moment)
+  pub on_disk : IfSuited first opening writer (IsOnDisk opening order writer)
   pub down_is : down ≢ 0 → writer.fault ≡ some down
   pub down_at_home : home ≡ some writer → down ≡ 0 → writer.fault ≡ none
   pub set_once : setters parts ≡ one_if_some down

@@ -20,3 +20,4 @@ pub mod Steps
 pub mod Opened
 pub mod Shown
 pub mod PassLogs
+pub mod Behind

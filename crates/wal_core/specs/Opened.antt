@@ -1,11 +1,10 @@
--- How a log begins, or goes on behind the entries that were found: its words, its writer, and the
--- view of its first pass. Nobody holds anything: the locks and turns are free, the writer is at
--- home, and the first pass has all numbers, of which it may give all others away. Of the entries
--- found it reserved none; they come first in the order. A log that holds nothing is the case of no
--- entries and no segments.
-use Rattle.std.specs.Prelude.{◌≡◌, ℕ, ◌+◌, ◌*◌, ◌/◌, ◌%◌, ◌<◌, ◌≤◌, All, List, length, slice_index, IfSome, None}
+-- How a log begins, or goes on behind what was found: its words, its writer, and the view of its
+-- first pass. Nobody holds anything: the locks and turns are free, the writer is at home, and the
+-- first pass has all numbers, of which it may give all others away. Nothing is reserved yet. A log
+-- that holds nothing is the case of a new log's place and no segments.
+use Rattle.std.specs.Prelude.{◌≡◌, ℕ, ◌+◌, ◌*◌, ◌/◌, ◌%◌, ◌<◌, ◌≤◌, List, [], length, slice_index, IfSome}
 use mathlib.Core.Option.{none}
-use Rattle.wal_page.specs.Order.{IsChained, prev_of}
+use Rattle.wal_page.specs.LogPlace.{IsPlace}
 use Rattle.wal_core.specs.Words.{Opening, position_word, prev_word, initialised_word, written_word, flushed_word, moment_word, down_word, async_word, end_word, initialised_number, word_of_ring, word_count, log_limit, found_position, found_end}
 use Rattle.wal_core.specs.Views.{Plain, View}
 use Rattle.wal_core.specs.Moves.{fresh_view}
@@ -13,13 +12,12 @@ use Rattle.wal_core.specs.Paged.{HoldsPage}
 use Rattle.wal_core.specs.Ringed.{log_word_of}
 use Rattle.wal_core.specs.Sound.{IsSetup}
 
--- a log that may be opened, of a setup that a log can have: what was found stands without a gap, is
--- no pass's, and lies within the log and in the segments that are there, of which the log may fill
--- as many at least
+-- a log that may be opened, of a setup that a log can have: its place is one at which a log may go
+-- on, and lies within the log and in the segments that are there, of which the log may fill as many
+-- at least
 pub record IsOpenable (opening : Opening) : Type 0 where
   pub setup_is : IsSetup opening.setup
-  pub chained : IsChained (opening.setup).segment_size opening.found
-  pub nobodys : All (λ e. e.pass ≡ None) opening.found
+  pub placed : IsPlace (opening.setup).segment_size opening.place
   pub within : found_position opening ≤ log_limit opening.setup
   pub made_within : opening.made ≤ (opening.setup).cap_segments
   pub reaches : found_end opening
@@ -31,7 +29,7 @@ pub record IsOpenable (opening : Opening) : Type 0 where
 pub record AreFirstWords (opening : Opening) (words : List ℕ) : Type 0 where
   pub wide : length words ≡ word_count opening.setup
   pub position : position_word words ≡ found_position opening
-  pub prev : prev_word words ≡ prev_of (opening.setup).segment_size 0 opening.found
+  pub prev : prev_word words ≡ (opening.place).prev
   pub zeros : (n : ℕ) → 2 ≤ n → n < initialised_number → slice_index words n ≡ 0
   pub initialised : initialised_word words
       ≡ (found_end opening / 8192 + (opening.setup).ring_pages) * 8192
@@ -46,7 +44,7 @@ pub record AreFirstWords (opening : Opening) (words : List ℕ) : Type 0 where
   pub ring : (page j : ℕ) → found_end opening / 8192 ≤ page
       → page < found_end opening / 8192 + (opening.setup).ring_pages → j < 1024
       → word_of_ring opening.setup words (page % (opening.setup).ring_pages * 1024 + j)
-      ≡ log_word_of opening.setup opening.found (8 * (page * 1024 + j))
+      ≡ log_word_of opening [] (8 * (page * 1024 + j))
 
 -- a writer that has written what was found and nothing else, on any disk
 pub record IsFirstWriter (opening : Opening) (writer : Plain) : Type 0 where

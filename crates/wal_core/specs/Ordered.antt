@@ -6,12 +6,13 @@
 -- entry is, its pass's number says, which no other pass has, also once its pass was taken in.
 use Rattle.std.specs.Prelude.{◌≡◌, ◌≢◌, ℕ, ◌+◌, ◌%◌, ◌<◌, ◌≤◌, Bool, true, false, All, AllPairs, Contains, List, [], ◌∷◌, ◌++◌, take, length, Option, Some, None, IsSome, ◌==◌, if◌then◌else◌}
 use Rattle.byte_position.specs.Position.{address_of, end_address_of}
-use Rattle.wal_page.specs.Order.{Entry, IsChained, end_position, prev_of}
-use Rattle.wal_core.specs.declared.setup.Setup.{Setup}
-use Rattle.wal_core.specs.Words.{log_limit}
+use Rattle.wal_page.specs.Order.{Entry}
+use Rattle.wal_page.specs.LogPlace.{IsPlace}
+use Rattle.wal_core.specs.Words.{Opening, GoesOnAtPlace, last_start, log_limit, order_end}
 use Rattle.wal_core.specs.Views.{HasAt, Place, Free, Locked, Loaded, Stored, AtSegmentStart, Stop, Joined, Reserving}
 
--- whether an entry is of the pass with this number; one that a restart found has no pass
+-- whether an entry is of the pass with this number; one that a restart finds has no pass, and is in
+-- no order of the machine
 abbrev pub is_pass : ℕ → Option ℕ → Bool
 is_pass number None = false
 is_pass number (Some pass) = pass == number
@@ -37,39 +38,39 @@ IsUnused (spare id) = Unit {0}
 IsUnused (ended id) = ⊥
 IsUnused unborn = Unit {0}
 
--- a pass stopped where an order's front ends that holds all that the pass had reserved by then, and
--- all that was found; and at a segment's start, where it tells that the log stood there
-pub record FrontEndsAt (size number : ℕ) (found order entries : List Entry) (stop : Stop)
+-- a pass stopped where an order's front ends that holds all that the pass had reserved by then; and
+-- at a segment's start, where it tells that the log stood there
+pub record FrontEndsAt (opening : Opening) (number : ℕ) (order entries : List Entry) (stop : Stop)
     : Type 0 where
   pub front : List Entry
   pub back : List Entry
   pub are : order ≡ front ++ back
-  pub end : stop.position ≡ end_position size front
+  pub end : stop.position ≡ order_end opening front
   pub own : entries_under number front ≡ take stop.entries entries
   pub within : stop.entries ≤ length entries
-  pub found_within : length found ≤ length front
-  pub at_start : stop.cause ≡ AtSegmentStart → end_address_of size stop.position % size ≡ 0
+  pub at_start : stop.cause ≡ AtSegmentStart
+      → end_address_of opening.setup.segment_size stop.position % opening.setup.segment_size ≡ 0
 
 -- a pass that this view took in reserves no more, and its log is all that it reserved
-pub record IsEnded (size : ℕ) (found order : List Entry) (role : ℕ → Role) (id : ℕ) (j : Joined)
+pub record IsEnded (opening : Opening) (order : List Entry) (role : ℕ → Role) (id : ℕ) (j : Joined)
     : Type 0 where
   pub role_is : role j.number ≡ ended id
   pub entries_are : j.entries ≡ entries_under j.number order
-  pub stops : All (FrontEndsAt size j.number found order j.entries) j.stops
+  pub stops : All (FrontEndsAt opening j.number order j.entries) j.stops
 
 -- passes that were taken in have numbers that differ
 abbrev pub AreApart : List Joined → Type 0
 AreApart joined = AllPairs (λ i j. i.number ≢ j.number) joined
 
 -- what is said of a live view
-pub record IsPartOf (size : ℕ) (found order : List Entry) (role : ℕ → Role) (id : ℕ)
+pub record IsPartOf (opening : Opening) (order : List Entry) (role : ℕ → Role) (id : ℕ)
     (r : Reserving) : Type 0 where
   pub own : role r.number ≡ active id
   pub entries_are : r.entries ≡ entries_under r.number order
   pub spares : (n : ℕ) → r.spare ≤ n → n < r.spare_end → role n ≡ spare id
-  pub seen : r.seen ≤ end_position size order
-  pub stops : All (FrontEndsAt size r.number found order r.entries) r.stops
-  pub joined : All (IsEnded size found order role id) r.joined
+  pub seen : r.seen ≤ order_end opening order
+  pub stops : All (FrontEndsAt opening r.number order r.entries) r.stops
+  pub joined : All (IsEnded opening order role id) r.joined
   pub apart : AreApart r.joined
 
 -- a live view is there, and of it this holds
@@ -91,35 +92,29 @@ module _ (size end last prev locked holder id : ℕ) where
   AtPlace (Stored at met) =
       (locked ≡ 1) × (holder ≡ id) × (at ≡ end) × (prev ≡ address_of size at) × (met ≡ last)
 
--- an order begins with entries that were found, which are no pass's, and each behind them is some
--- pass's
-abbrev pub BeginsWith : List Entry → List Entry → Type 0
-BeginsWith found order =
-    (back : List Entry) × (order ≡ found ++ back) × All (λ e. IsSome e.pass) back
-    × All (λ e. e.pass ≡ None) found
-
 -- Every view but those that gave up is one that is live or was taken in. `locked` is the lock bit,
 -- `holder` the view that set it, `keeper` the one that has spare numbers. No entry is in the order
--- but those of live views, of the passes that these took in, and those found
-pub record OrderHolds (setup : Setup) (found order : List Entry) (position prev : ℕ)
+-- but those of live views and of the passes that these took in
+pub record OrderHolds (opening : Opening) (order : List Entry) (position prev : ℕ)
     (parts : List Reserving) : Type 0 where
   pub role : ℕ → Role
   pub locked : ℕ
   pub holder : ℕ
   pub keeper : ℕ
-  pub chained : IsChained setup.segment_size order
-  pub found_first : BeginsWith found order
-  pub within : end_position setup.segment_size order ≤ log_limit setup
-  pub position_is : position ≡ end_position setup.segment_size order + locked
+  pub placed : IsPlace opening.setup.segment_size opening.place
+  pub chained : GoesOnAtPlace opening order
+  pub owned : All (λ e. IsSome e.pass) order
+  pub within : order_end opening order ≤ log_limit opening.setup
+  pub position_is : position ≡ order_end opening order + locked
   pub one_bit : locked ≤ 1
-  pub at_rest : locked ≡ 0 → prev ≡ prev_of setup.segment_size 0 order
+  pub at_rest : locked ≡ 0 → prev ≡ last_start opening order
   pub unused : (n : ℕ) → IsUnused (role n) → entries_under n order ≡ []
-  pub beyond : (n : ℕ) → setup.passes ≤ n → role n ≡ unborn
+  pub beyond : (n : ℕ) → opening.setup.passes ≤ n → role n ≡ unborn
   pub views : (id : ℕ) (r : Reserving) → HasAt parts id r → r.live ≡ true
-      → IsPartOf setup.segment_size found order role id r
+      → IsPartOf opening order role id r
   pub places : (id : ℕ) (r : Reserving) → HasAt parts id r → r.live ≡ true
-      → AtPlace setup.segment_size (end_position setup.segment_size order)
-      (prev_of setup.segment_size 0 order) prev locked holder id r.place
+      → AtPlace opening.setup.segment_size (order_end opening order)
+      (last_start opening order) prev locked holder id r.place
   pub spares : (id : ℕ) (r : Reserving) → HasAt parts id r → r.live ≡ true
       → r.spare < r.spare_end → id ≡ keeper
   pub goes_by : (n id : ℕ) → role n ≡ active id → HasLive parts id (λ r. r.number ≡ n)

@@ -8,12 +8,11 @@ use Rattle.std.specs.Prelude.{◌≡◌, ℕ, ◌*◌, ◌<◌, ◌≤◌, List}
 use Rattle.segment_disk.specs.DiskImage.{image_as_read}
 use Rattle.segment_disk.specs.Tape.{DiskState, state_now}
 use mathlib.Core.Option.{Option, some}
-use Rattle.wal_page.specs.Order.{Entry, end_position}
+use Rattle.wal_page.specs.Order.{Entry}
 use Rattle.wal_page.specs.EntryWords.{address_of_word, words_owned}
 use Rattle.segment_disk.specs.ImageWords.{image_word}
-use Rattle.wal_page.specs.Log.{log_word_bytes}
-use Rattle.wal_core.specs.declared.setup.Setup.{Setup}
-use Rattle.wal_core.specs.Words.{Opening, end_form}
+use Rattle.wal_core.specs.Words.{Opening, end_form, order_end}
+use Rattle.wal_core.specs.Ringed.{log_bytes_of}
 use Rattle.wal_core.specs.Suited.{IfSuited}
 use Rattle.wal_core.specs.Views.{HasAt, Copy, Flight, Copying, Plain, Lent, Out, Writing}
 
@@ -24,10 +23,10 @@ IsCopiedBelow size flights address =
     → address ≤ address_of_word size c.entry c.copied
 
 -- as it is read, a disk holds the log below an address
-abbrev pub ReadsBelow : Setup → List Entry → ℕ → DiskState → Type 0
-ReadsBelow setup order address state = (k : ℕ) → 8 * k < address
-    → image_word setup.segment_size (image_as_read state) (8 * k)
-    ≡ log_word_bytes setup.segment_size setup.sysid order (8 * k)
+abbrev pub ReadsBelow : Opening → List Entry → ℕ → DiskState → Type 0
+ReadsBelow opening order address state = (k : ℕ) → 8 * k < address
+    → image_word opening.setup.segment_size (image_as_read state) (8 * k)
+    ≡ log_bytes_of opening order (8 * k)
 
 -- what a view loaded and stored is not above what the words say now
 pub record IsWithin (size end written flushed : ℕ) (flights : List Flight) (x : Writing)
@@ -48,11 +47,11 @@ pub record PositionsHold (first : DiskState) (opening : Opening) (order : List E
     pub written_low : written ≤ writer.written
     pub at_home : home ≡ some writer → down ≡ 0 → written ≡ writer.written
     pub reserved : writer.written
-        ≤ end_form opening.setup (end_position opening.setup.segment_size order)
+        ≤ end_form opening.setup (order_end opening order)
     pub copied : IsCopiedBelow opening.setup.segment_size flights writer.written
     pub reads : IfSuited first opening writer
-        (λ t. ReadsBelow opening.setup order writer.written (state_now t))
+        (λ t. ReadsBelow opening order writer.written (state_now t))
     pub views : (id : ℕ) (x : Writing) → HasAt parts id x
         → IsWithin opening.setup.segment_size
-        (end_form opening.setup (end_position opening.setup.segment_size order)) written flushed
+        (end_form opening.setup (order_end opening order)) written flushed
         flights x

@@ -1,9 +1,9 @@
 -- What the invariant shows of the ring: which pages it has, and what its words are.
 use Rattle.std.specs.Prelude.{◌≡◌, ◌≢◌, ◌⊎◌, ℕ, ◌+◌, ◌*◌, ◌/◌, ◌%◌, ◌<◌, ◌≤◌, All, List, ◌∷◌, ◌++◌, map}
-use Rattle.wal_page.specs.Order.{Entry, end_position}
+use Rattle.wal_page.specs.Order.{Entry}
 use Rattle.wal_page.specs.EntryWords.{address_of_word, words_owned}
 use Rattle.wal_core.specs.declared.setup.Setup.{Setup}
-use Rattle.wal_core.specs.Words.{initialised_word, written_word, end_word, word_of_ring, end_form}
+use Rattle.wal_core.specs.Words.{initialised_word, written_word, end_word, word_of_ring, Opening, end_form, order_end}
 use Rattle.wal_core.specs.Views.{HasAt, Stage, Away, Taken, Looked, Ready, Zeroing, Published, Copy, Copying, Lent, Out, View, flight_of}
 use Rattle.wal_core.specs.Ringed.{IsAwaited, log_word_of}
 use Rattle.wal_core.specs.Durable.{IsStaged}
@@ -36,9 +36,9 @@ IsPublished views at =
     (id : ℕ) × (v : View) × HasAt views id v × ((v.mapping).stage ≡ Published at)
 
 -- a word of the ring is the log's, or it is 0 and some pass is still to copy it
-abbrev pub IsLogOrAwaited : Setup → List Entry → List View → ℕ → ℕ → Type 0
-IsLogOrAwaited setup order views k word = (word ≡ log_word_of setup order (8 * k))
-    ⊎ ((word ≡ 0) × IsAwaited setup.segment_size (map flight_of views) (8 * k))
+abbrev pub IsLogOrAwaited : Opening → List Entry → List View → ℕ → ℕ → Type 0
+IsLogOrAwaited opening order views k word = (word ≡ log_word_of opening order (8 * k))
+    ⊎ ((word ≡ 0) × IsAwaited opening.setup.segment_size (map flight_of views) (8 * k))
 
 -- an entry, which its start names, is in flight in no view
 abbrev pub IsInNoFlight : List View → Entry → Type 0
@@ -46,11 +46,15 @@ IsInNoFlight views e = (id : ℕ) (v : View) (c : Copy) → HasAt views id v
     → (v.working).flight ≡ Copying c → (c.entry).start ≢ e.start
 
 -- where the ring has the page of a word at this address, it has the log's word there
-abbrev pub HasLogWord : Setup → List Entry → List ℕ → ℕ → Type 0
-HasLogWord setup order words address = IsPresent setup words (address / 8192)
-    → word_of_ring setup words (ring_place setup (address / 8)) ≡ log_word_of setup order address
+abbrev pub HasLogWord : Opening → List Entry → List ℕ → ℕ → Type 0
+HasLogWord opening order words address = IsPresent opening.setup words (address / 8192)
+    → word_of_ring opening.setup words (ring_place opening.setup (address / 8))
+    ≡ log_word_of opening order address
 
-module _ (setup : Setup) (order : List Entry) (words : List ℕ) (views : List View) where
+module _ (opening : Opening) (order : List Entry) (words : List ℕ) (views : List View) where
+  abbrev setup : Setup
+  setup = opening.setup
+
   -- what is said of the order's entries: one in flight is in flight in one view, and what counts as
   -- copied of it is the log's; of one that is in no flight all is
   pub record EntriesAreCopied : Type 0 where
@@ -59,24 +63,24 @@ module _ (setup : Setup) (order : List Entry) (words : List ℕ) (views : List V
         → (c.entry).start ≡ (d.entry).start → i ≡ j
     pub copied : (id : ℕ) (v : View) (c : Copy) (n : ℕ) → HasAt views id v
         → (v.working).flight ≡ Copying c → n < c.copied
-        → HasLogWord setup order words (address_of_word setup.segment_size c.entry n)
+        → HasLogWord opening order words (address_of_word setup.segment_size c.entry n)
     pub landed : (front back : List Entry) (e : Entry) (n : ℕ) → order ≡ front ++ e ∷ back
         → IsInNoFlight views e → n < words_owned setup.segment_size e
-        → HasLogWord setup order words (address_of_word setup.segment_size e n)
+        → HasLogWord opening order words (address_of_word setup.segment_size e n)
 
   -- what is said of the ring's words
   pub record WordsAreLogs : Type 0 where
     -- in each page that is present
     pub ring : (k : ℕ) → IsPresent setup words (k / 1024)
-        → IsLogOrAwaited setup order views k (word_of_ring setup words (ring_place setup k))
+        → IsLogOrAwaited opening order views k (word_of_ring setup words (ring_place setup k))
     -- what was loaded for a write is 0 or the log's, and the log's below what was known as copied
     pub staged : (id : ℕ) (v : View) (l : Lent) → HasAt views id v → (v.writing).hold ≡ Out l
-        → All (IsStaged setup order l.known) l.staged
+        → All (IsStaged opening order l.known) l.staged
     -- where a watcher has visited all locks, the ring has all from what is written to its bound
     pub watched : (id : ℕ) (v : View) (k : ℕ) → HasAt views id v → (v.watching).visited ≡ 8
         → written_word words ≤ 8 * k → 8 * k < (v.watching).bound
         → IsPresent setup words (k / 1024)
-        × (word_of_ring setup words (ring_place setup k) ≡ log_word_of setup order (8 * k))
+        × (word_of_ring setup words (ring_place setup k) ≡ log_word_of opening order (8 * k))
 
   -- what is said of its pages
   pub record PagesArePresent : Type 0 where
@@ -94,7 +98,7 @@ module _ (setup : Setup) (order : List Entry) (words : List ℕ) (views : List V
         → initialised_word words < (page + 1) * 8192 → IsPublished views (page * 8192)
     -- a copied word lies in none but these
     pub copied : (k : ℕ) → setup.segment_size ≤ 8 * k
-        → 8 * k < end_form setup (end_position setup.segment_size order)
+        → 8 * k < end_form setup (order_end opening order)
         → initialised_word words ≤ 8 * k
         → IsAwaited setup.segment_size (map flight_of views) (8 * k)
         ⊎ ((8 * k < initialised_word words + 8192) × IsPublished views (initialised_word words))

@@ -6,9 +6,9 @@ use Rattle.std.specs.Prelude.{◌≡◌, ◌≢◌, ◌≤◌, ◌⊎◌, ℕ, t
 use mathlib.Core.Option.{Option}
 use Rattle.segment_disk.specs.Tape.{DiskState}
 use Rattle.byte_position.specs.Geometry.{IsSegmentSize}
-use Rattle.wal_page.specs.Order.{Entry, end_position}
+use Rattle.wal_page.specs.Order.{Entry}
 use Rattle.wal_core.specs.declared.setup.Setup.{Setup}
-use Rattle.wal_core.specs.Words.{Opening, position_word, prev_word, lock_word, mapping_turn, write_turn, initialised_word, written_word, flushed_word, moment_word, down_word, end_word, word_of_ring, word_count, async_word, end_form}
+use Rattle.wal_core.specs.Words.{Opening, position_word, prev_word, lock_word, mapping_turn, write_turn, initialised_word, written_word, flushed_word, moment_word, down_word, end_word, word_of_ring, word_count, async_word, end_form, order_end}
 use Rattle.wal_core.specs.Views.{HasAt, Landed, Away, Idle, Plain, View, Stage, reserving_of, working_of, flight_of, watching_of, mapper_of, confirmed_of, writer_of, writing_of, receipts_of, async_met_of}
 use Rattle.wal_core.specs.Ordered.{OrderHolds}
 use Rattle.wal_core.specs.Locked.{LocksHold, ProgressHolds, SwitchesStandAlone}
@@ -63,7 +63,7 @@ pub record IsSound (first : DiskState) (opening : Opening) (words : List ℕ) (h
   pub grounded : (id : ℕ) (v : View) → HasAt views id v
       → IsGrounded opening (down_word words) v
   -- the order without a gap, up to the position, and each pass's log its entries of it
-  pub reserved : OrderHolds opening.setup opening.found order (position_word words)
+  pub reserved : OrderHolds opening order (position_word words)
       (prev_word words) (map reserving_of views)
   -- no lock and no turn has two holders, and the writer is at home or with who has its turn
   pub locks : LocksHold (lock_word words) (map working_of views)
@@ -71,12 +71,12 @@ pub record IsSound (first : DiskState) (opening : Opening) (words : List ℕ) (h
       (write_turn words) home writer (map writer_of views)
   -- no lock tells more than is copied under it
   pub progress : ProgressHolds opening.setup.segment_size
-      (end_form opening.setup (end_position opening.setup.segment_size order))
+      (end_form opening.setup (order_end opening order))
       (lock_word words) (map working_of views)
   -- a segment switch in flight stands under all eight locks, until its last word is copied
   pub alone : SwitchesStandAlone opening.setup.segment_size (map working_of views)
   -- each word in memory is the log's, or 0 and still to be copied
-  pub ring : RingHolds opening.setup order reach memory (map flight_of views)
+  pub ring : RingHolds opening order reach memory (map flight_of views)
   -- the buffers hold a window of pages with these words; what was given up is written
   pub pages : PagesHold opening.setup.ring_pages reach stage (initialised_word words)
       (written_word words) (end_word words) (word_of_ring opening.setup words) memory
@@ -91,11 +91,11 @@ pub record IsSound (first : DiskState) (opening : Opening) (words : List ℕ) (h
   pub reading : ReadingHolds first opening memory writer (map writing_of views)
   -- what watchers have found to be copied is so
   pub watching : WatchHolds opening.setup.segment_size
-      (end_form opening.setup (end_position opening.setup.segment_size order))
+      (end_form opening.setup (order_end opening order))
       (map working_of views) (map watching_of views)
   -- up to where commits are told ahead is reserved, and no pass counts on more
   pub async : AsyncHolds (async_word opening.setup words)
-      (end_form opening.setup (end_position opening.setup.segment_size order))
+      (end_form opening.setup (order_end opening order))
       (map async_met_of views)
   -- addresses that passes learn are multiples of 8
   pub aligned : AlignmentHolds (lock_word words) (written_word words) (flushed_word words) writer

@@ -1,29 +1,28 @@
 -- The disks on which a log may begin, or go on; of what any other one holds nothing is said. Steps
 -- and words are the same on each disk: only what the invariant says of the disk's words stands
 -- under this premise.
-use Rattle.std.specs.Prelude.{◌≡◌, ℕ, ◌+◌, ◌*◌, ◌≤◌, List, Option, IfSome, None, Some}
+use Rattle.std.specs.Prelude.{◌≡◌, ℕ, ◌+◌, ◌*◌, ◌≤◌, List, [], Option, IfSome, None, Some}
 use Rattle.segment_disk.specs.declared.disk.Call.{Call}
 use Rattle.segment_disk.specs.Assured.{StateAssures}
 use Rattle.segment_disk.specs.Tape.{DiskState, Tape, state_at}
 use Rattle.wal_page.specs.Order.{Entry}
-use Rattle.wal_page.specs.Log.{log_word_bytes}
-use Rattle.wal_core.specs.declared.setup.Setup.{Setup}
 use Rattle.wal_core.specs.Words.{Opening}
+use Rattle.wal_core.specs.Ringed.{log_bytes_of}
 use Rattle.wal_core.specs.Views.{Plain}
 
 -- a word of the disk, by its page's number in the log and its own in the page, is the log's: 0
 -- where no entry is
-abbrev pub IsLogAt : Setup → List Entry → ℕ → ℕ → List ℕ → Type 0
-IsLogAt setup order page word bytes =
-    bytes ≡ log_word_bytes setup.segment_size setup.sysid order (page * 8192 + 8 * word)
+abbrev pub IsLogAt : Opening → List Entry → ℕ → ℕ → List ℕ → Type 0
+IsLogAt opening order page word bytes =
+    bytes ≡ log_bytes_of opening order (page * 8192 + 8 * word)
 
 -- what a log may begin on: the segments that it was opened with are there, and whatever a crash
--- leaves has in each segment the words of the log that was found. (Where nothing was found and no
--- segment is there, this asks nothing more.)
+-- leaves has in each segment the words below the place, and zeros behind. (Where nothing was found
+-- and no segment is there, this asks nothing more.)
 abbrev pub IsSuited : Opening → DiskState → Type 0
 IsSuited opening state = StateAssures (opening.setup).segment_size
     (λ segment. (1 ≤ segment) × (segment ≤ opening.made))
-    (IsLogAt opening.setup opening.found) state
+    (IsLogAt opening []) state
 
 -- a disk held that when the log was opened
 abbrev pub BeganSuited : Opening → Tape → Type 0

@@ -15,7 +15,8 @@
 -- with the flushed address. No step loads or stores the words between, which stay 0.
 use Rattle.std.specs.Prelude.{ℕ, ◌+◌, ◌*◌, List, slice_index}
 use Rattle.byte_position.specs.Position.{end_address_of, first_position, usable_bytes_in_segment}
-use Rattle.wal_page.specs.Order.{Entry, end_position}
+use Rattle.wal_page.specs.Order.{Entry, FollowsFrom, prev_of}
+use Rattle.wal_page.specs.LogPlace.{LogPlace, end_from}
 use Rattle.wal_core.specs.declared.setup.Setup.{Setup}
 
 -- an insertion lock's number, of eight: 16, 32, up to 128
@@ -117,11 +118,12 @@ abbrev pub log_limit : Setup → ℕ
 log_limit setup =
     log_start setup + setup.cap_segments * usable_bytes_in_segment setup.segment_size
 
--- what is fixed of a run: how its log was set up, the entries that it held when it was opened, how
--- many segments its disk had then, from segment 1 on, and the disk's moment and count of faults
+-- what is fixed of a run: how its log was set up, the place at which its order begins, how many
+-- segments its disk had when it was opened, from segment 1 on, and the disk's moment and count of
+-- faults. Of what lies below the place, which was found there, the machine knows nothing else
 pub record Opening : Type 0 where
   pub setup : Setup
-  pub found : List Entry
+  pub place : LogPlace
   pub made : ℕ
   pub moment : ℕ
   pub faults : ℕ
@@ -130,9 +132,22 @@ pub record Opening : Type 0 where
 abbrev pub end_form : Setup → ℕ → ℕ
 end_form setup position = end_address_of setup.segment_size position
 
+-- an order goes on at the place without a gap; the byte position at which it ends, and the address
+-- at which its last entry starts
+module _ (opening : Opening) (order : List Entry) where
+  abbrev pub GoesOnAtPlace : Type 0
+  GoesOnAtPlace =
+      FollowsFrom (opening.setup).segment_size (opening.place).position order
+
+  abbrev pub order_end : ℕ
+  order_end = end_from (opening.setup).segment_size opening.place order
+
+  abbrev pub last_start : ℕ
+  last_start = prev_of (opening.setup).segment_size (opening.place).prev order
+
 -- the byte position and the address at which the log that was found ends
 abbrev pub found_position : Opening → ℕ
-found_position opening = end_position (opening.setup).segment_size opening.found
+found_position opening = (opening.place).position
 
 abbrev pub found_end : Opening → ℕ
 found_end opening = end_form opening.setup (found_position opening)

@@ -12,6 +12,7 @@ use Rattle.wal_core.specs.Suited.{IsSuited}
 use Rattle.wal_core.specs.Views.{FlushPromise, Joined, View}
 use Rattle.wal_core.specs.Words.{Opening}
 use Rattle.wal_core.proofs.Tapes.{at_suited, at_told}
+use Rattle.machine_laws.specs.WholeOrders.{LiesBehind}
 use Rattle.machine_laws.proofs.DurableGrowth.{IsFirm-lower}
 use Rattle.wal_rule.specs.declared.pass.Pass.{Pass}
 use Rattle.wal_rule.specs.Passes.{view_of_pass}
@@ -33,9 +34,9 @@ use Rattle.wal_lives.specs.History.{IsPromisedDurable}
 
 -- ---- a log that was closed on a disk on which it may go on
 
-module _ (opening : Opening) (order : List Entry) (t : Tape) (v : View)
-    (c : IsClosedOn opening order t v) where
-  pub closed_written : IsWrittenLog opening order t
+module _ (opening : Opening) (front order : List Entry) (t : Tape) (v : View)
+    (c : IsClosedOn opening order t v) (lies : LiesBehind opening front) where
+  pub closed_written : IsWrittenLog opening front order t
   closed_written = record {
     first = t.at_first;
     words = c.words;
@@ -45,8 +46,11 @@ module _ (opening : Opening) (order : List Entry) (t : Tape) (v : View)
     order_is = c.order_is;
     tape_is = sound_tape opening order t v c;
     suited = c.began;
+    lies = lies;
   }
 
+module _ (opening : Opening) (order : List Entry) (t : Tape) (v : View)
+    (c : IsClosedOn opening order t v) where
   promise_kept : (entries : List Entry) (p : FlushPromise) → WasPromised v entries p
       → IsPromiseKept opening (c.sound).order t entries p
   promise_kept =
@@ -61,22 +65,22 @@ module _ (opening : Opening) (order : List Entry) (t : Tape) (v : View)
       c.began told.joined)
 
   promise_firm : (entries : List Entry) (p : FlushPromise) → WasPromised v entries p
-      → IsFirm opening.setup order p.upto p.moment t
+      → IsFirm opening order p.upto p.moment t
   promise_firm entries p was =
-      subst (λ (es : List Entry). IsFirm opening.setup es p.upto p.moment t) c.order_is
+      subst (λ (es : List Entry). IsFirm opening es p.upto p.moment t) c.order_is
       (promise_kept entries p was).firm
 
-  pub promised_firm : (moment : ℕ) (more : List FoundRecord)
-      → All (IsPromisedDurable (opening.setup).segment_size moment order v) more
-      → All (IsFirmRecord opening order t moment) more
-  promised_firm moment more all =
-      All-weaker (IsPromisedDurable (opening.setup).segment_size moment order v)
-      (IsFirmRecord opening order t moment)
+  pub promised_firm : (front : List Entry) (moment : ℕ) (more : List FoundRecord)
+      → All (IsPromisedDurable (opening.setup).segment_size moment (front ++ order) v) more
+      → All (IsFirmRecord opening front order t moment) more
+  promised_firm front moment more all =
+      All-weaker (IsPromisedDurable (opening.setup).segment_size moment (front ++ order) v)
+      (IsFirmRecord opening front order t moment)
       (λ r k. (
         k.0,
         (k.2).moment,
         k.4,
-        IsFirm-lower opening.setup order r.end.0 (k.2).upto (k.2).moment t k.5
+        IsFirm-lower opening order r.end.0 (k.2).upto (k.2).moment t k.5
             (promise_firm k.1 k.2 k.3),
       )) more all
 

@@ -1,5 +1,6 @@
 -- The record of a commit that was told to be durable was promised to be so.
-use Rattle.std.proofs.Common.{ℕ, Option, sym}
+use Rattle.std.proofs.Common.{ℕ, ◌++◌, Option, sym}
+use Rattle.std.proofs.lemmas.List.Elements.{Contains-append_right}
 use Rattle.segment_disk.specs.Tape.{Tape}
 use Rattle.wal_page.specs.Order.{finish_of}
 use Rattle.written_log.specs.Written.{found_entry}
@@ -15,7 +16,7 @@ use Rattle.wal_lives.specs.Lives.{CommitsArePromised}
 
 module _ {D : Type 0} (tape : D → Option Tape) (moment faults : D → ℕ) where
   pub commits_are_promised : CommitsArePromised tape moment faults
-  commits_are_promised wal pass closed c body old new sealed at s grown by =
+  commits_are_promised wal front pass closed c body old new sealed at s grown by =
       let setup = setup_of_log wal in
       let size = setup.segment_size in
       let v = view_of_pass pass in
@@ -27,7 +28,9 @@ module _ {D : Type 0} (tape : D → Option Tape) (moment faults : D → ℕ) whe
       (commit_promises setup body old new sealed s) grown in
       let among = entry_in_order (opening_of_log wal) order v
       (closed_logs tape moment faults wal pass closed c) s.entry has in
-      let there = found_there size 0 order s.entry among in (
+      let there = found_there size 0 (front ++ order) s.entry
+      (Contains-append_right front order s.entry among)
+      in (
         found_entry size there.0 s.entry,
         sym s.start_is,
         sym s.end_is,

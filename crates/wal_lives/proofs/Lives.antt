@@ -7,7 +7,9 @@ use Rattle.segment_disk.specs.Tape.{IsUncalled, Tape, state_now}
 use Rattle.flush_core.specs.Calls.{with_calls}
 use Rattle.flush_core.specs.Settled.{HasSettled}
 use Rattle.flush_core.proofs.GrowingTapes.{with_calls-some}
-use Rattle.wal_page.specs.Order.{Entry}
+use Rattle.byte_position.specs.Position.{end_address_of}
+use Rattle.wal_page.specs.LogPlace.{new_place}
+use Rattle.wal_page.specs.Order.{Entry, end_position}
 use Rattle.wal_reader.specs.declared.found.FoundRecord.{FoundRecord}
 use Rattle.written_log.specs.Written.{found_of}
 use Rattle.found_log.specs.Found.{HasBegunToSettle, IsFound}
@@ -22,6 +24,8 @@ use Rattle.wal_log.specs.declared.reopening.Found.{Found}
 use Rattle.wal_log.specs.declared.wal.Wal.{Wal}
 use Rattle.wal_log.specs.Logs.{opening_of_log, setup_of_log, table_of}
 use Rattle.wal_log.specs.Reopening.{IsReopened, TellsReopenFault}
+use Rattle.machine_laws.specs.WholeOrders.{LiesBehind}
+use Rattle.machine_laws.proofs.WholeOrders.{LiesBehind-new}
 use Rattle.run_laws.specs.Assured.{TapeGoesOn}
 use Rattle.run_laws.proofs.ClosedRuns.{empty_suited}
 use Rattle.reopened_log.specs.Lives.{LifeEndsAt}
@@ -68,11 +72,17 @@ module _ {D : Type 0} (tape : D → Option Tape) (moment faults : D → ℕ)
       abbrev opening : Opening
       opening = opening_of_log life.wal
 
-      abbrev l : IsLived tape moment faults size life.wal next order more
+      abbrev l : IsLived tape moment faults size life.wal [] next order more
       l = life.lived
 
       setup_is : setup_of_log life.wal ≡ life.setup
       setup_is = ap (λ (o : Opening). o.setup) (life.opened).opening
+
+      -- nothing lies below its place
+      lies : LiesBehind (opening_of_log life.wal) []
+      lies = LiesBehind-new opening ((l.closes.closes).sound).setup_is.size
+          (ap (λ (o : Opening). o.place) (life.opened).opening
+          ∙ ap (λ (s : Setup). new_place s.segment_size) (sym setup_is))
 
       sized : (setup_of_log life.wal).segment_size ≡ size
       sized = ap (λ (s : Setup). s.segment_size) setup_is ∙ (life.handed).sized
@@ -110,9 +120,9 @@ module _ {D : Type 0} (tape : D → Option Tape) (moment faults : D → ℕ)
           let c = closed_there tape moment faults life.wal l.pass l.closed l.closes t l.now began_is
           l.after its_narrow counted (empty_suited opening (Some t) none_made life.empty) in
           begun_keeps opening l.at t l.now next its_order
-          (closed_written opening its_order l.now (view_of_pass l.pass) c) on life.empty none_made
-          counted its_narrow l.since ends.left ends.no_torn_pass more
-          (promised_firm opening its_order l.now (view_of_pass l.pass) c l.at more promised) hard
+          (closed_written opening [] its_order l.now (view_of_pass l.pass) c lies) on life.empty
+          none_made counted its_narrow l.since ends.left ends.no_torn_pass more
+          (promised_firm opening its_order l.now (view_of_pass l.pass) c [] l.at more promised) hard
           none
 
       begun_of : (hard : List FoundRecord) → All (λ (f : FoundRecord). ⊥) hard
@@ -150,9 +160,6 @@ module _ {D : Type 0} (tape : D → Option Tape) (moment faults : D → ℕ)
     setup_as : setup_of_log wal ≡ setup
     setup_as = ap (λ (o : Opening). o.setup) r.opening
 
-    found_as : (opening_of_log wal).found ≡ r.es
-    found_as = ap (λ (o : Opening). o.found) r.opening
-
     abbrev calls : List Call
     calls = r.settled.calls.calls
 
@@ -166,7 +173,9 @@ module _ {D : Type 0} (tape : D → Option Tape) (moment faults : D → ℕ)
 
     ends_as : told.end.0 ≡ found_end (opening_of_log wal)
     ends_as = r.end_is
-        ∙ ap (λ (o : Opening). found_end o) (sym r.opening)
+        ∙ ap (λ (s : Setup). end_address_of s.segment_size (end_position s.segment_size r.es))
+        (sym setup_as)
+        ∙ ap (end_address_of its_size) (sym r.lies.position_is)
 
     is_found : IsFound setup.segment_size setup.sysid setup.cap_segments r.es r.made t
     is_found = at_some (IsFound setup.segment_size setup.sysid setup.cap_segments r.es r.made)
@@ -174,20 +183,20 @@ module _ {D : Type 0} (tape : D → Option Tape) (moment faults : D → ℕ)
 
     module _ (found : List FoundRecord)
         (left : WasLeft (setup_of_log wal).segment_size (setup_of_log wal).sysid t found) where
-      read_as : found_of (setup_of_log wal).segment_size (opening_of_log wal).found ≡ found
+      read_as : found_of (setup_of_log wal).segment_size r.es ≡ found
       read_as =
           let own = subst (λ (s : Setup).
           IsFound s.segment_size s.sysid s.cap_segments r.es r.made t) (sym setup_as) is_found in
-          ap (found_of its_size) found_as
-          ∙ left_logs_are_read its_size its_sysid t found (found_of its_size r.es) own.own.answer
+          left_logs_are_read its_size its_sysid t found (found_of its_size r.es) own.own.answer
           left own.own.decodes
 
-      abbrev reopened_on : IsReopenedOn (opening_of_log wal) (moment disk) t
+      abbrev reopened_on : IsReopenedOn (opening_of_log wal) r.es (moment disk) t
           (record t { calls = t.calls ++ r.settled.calls.calls }) found
       reopened_on = record {
         left = left;
         counted = counted_at disk t before;
         openable = r.openable;
+        lies = r.lies;
         found_is = read_as;
         settled = settled_as setup.segment_size its_size
             (ap (λ (s : Setup). s.segment_size) (sym setup_as)) told.end.0
@@ -217,28 +226,36 @@ module _ {D : Type 0} (tape : D → Option Tape) (moment faults : D → ℕ)
     abbrev c_sysid : ℕ
     c_sysid = (setup_of_log life.wal).sysid
 
-    abbrev lived : IsLived tape moment faults size life.wal next order more
+    abbrev lived : IsLived tape moment faults size life.wal life.reopened.es next order more
     lived = life.lived
 
+    -- what was reserved, and the whole order
     abbrev its_order : List Entry
     its_order = order_of tape moment faults life.wal lived.pass lived.closed lived.closes
+
+    abbrev its_whole : List Entry
+    its_whole = life.reopened.es ++ its_order
 
     module _ (found : List FoundRecord)
         (left : WasLeft (setup_of_log life.wal).segment_size (setup_of_log life.wal).sysid t found)
         (kept : All (IsSureRecord (setup_of_log life.wal).segment_size
         (setup_of_log life.wal).sysid left.order (state_now t)) hard) where
       continued : LifeEndsAt (setup_of_log life.wal).segment_size
-          (order_of tape moment faults life.wal lived.pass lived.closed lived.closes) lived.now
+          (life.reopened.es
+          ++ order_of tape moment faults life.wal lived.pass lived.closed lived.closes) lived.now
           lived.at next
           → All (IsPromisedDurable (setup_of_log life.wal).segment_size lived.at
-          (order_of tape moment faults life.wal lived.pass lived.closed lived.closes)
+          (life.reopened.es
+          ++ order_of tape moment faults life.wal lived.pass lived.closed lived.closes)
           (view_of_pass lived.pass)) more
           → KeepsSure (setup_of_log life.wal).segment_size (setup_of_log life.wal).sysid next
-          (order_of tape moment faults life.wal lived.pass lived.closed lived.closes)
+          (life.reopened.es
+          ++ order_of tape moment faults life.wal lived.pass lived.closed lived.closes)
           (hard ++ more)
       continued ends promised =
           let began = record t { calls = t.calls ++ life.reopened.settled.calls.calls } in
           let its_opening = opening_of_log life.wal in
+          let es = life.reopened.es in
           let on = reopened_on life.setup life.disk life.wal life.first life.found life.reopened t
           (life.handed).before found left in
           let is = began_as life.setup life.disk life.wal life.first life.found life.reopened t
@@ -248,12 +265,13 @@ module _ {D : Type 0} (tape : D → Option Tape) (moment faults : D → ℕ)
           lived.now is lived.after narrow in
           let c = closed_there tape moment faults life.wal lived.pass lived.closed lived.closes
           began lived.now is lived.after narrow
-          (calls_counted its_opening (moment life.disk) t began found on)
-          (reopened_logs_are_suited its_opening (moment life.disk) t began found on) in
-          reopened_keeps its_opening (moment life.disk) lived.at t began lived.now next found on
-          its_order (closed_written its_opening its_order lived.now (view_of_pass lived.pass) c)
-          goes hard kept lived.since ends.left ends.no_torn_pass more
-          (promised_firm its_opening its_order lived.now (view_of_pass lived.pass) c lived.at more
+          (calls_counted its_opening es (moment life.disk) t began found on)
+          (reopened_logs_are_suited its_opening es (moment life.disk) t began found on) in
+          reopened_keeps its_opening es (moment life.disk) lived.at t began lived.now next found on
+          its_order
+          (closed_written its_opening es its_order lived.now (view_of_pass lived.pass) c
+          life.reopened.lies) goes hard kept lived.since ends.left ends.no_torn_pass more
+          (promised_firm its_opening its_order lived.now (view_of_pass lived.pass) c es lived.at more
           promised)
 
     continued_at : KeepsSure (setup_of_log life.wal).segment_size (setup_of_log life.wal).sysid t
@@ -267,7 +285,7 @@ module _ {D : Type 0} (tape : D → Option Tape) (moment faults : D → ℕ)
         → All (IsPromisedDurable c_size lived.at es (view_of_pass lived.pass)) more
         → KeepsSure c_size c_sysid next es (hard ++ more)) (sym lived.order_is)
         (λ ends promised. with_left c_size c_sysid t before hard
-        (λ (o : List Entry). KeepsSure c_size c_sysid next its_order (hard ++ more)) k
+        (λ (o : List Entry). KeepsSure c_size c_sysid next its_whole (hard ++ more)) k
         (λ found left kept. continued found left kept ends promised))
 
     pub continues_keeps : KeepsSure size sysid t before hard
@@ -308,7 +326,8 @@ module _ {D : Type 0} (tape : D → Option Tape) (moment faults : D → ℕ)
         let began : Tape = record t { calls = t.calls ++ life.reopened.settled.calls.calls } in
         let here = subst (λ (b : Tape). LifeEndsAt s_size left.order b life.at next) began_same ends
         in
-        settled_keeps (opening_of_log life.wal) (moment life.disk) life.at t began began next found
+        settled_keeps (opening_of_log life.wal) life.reopened.es (moment life.disk) life.at t began
+        began next found
         (reopened_on life.setup life.disk life.wal life.first life.found life.reopened t
         (life.handed).before found left) (
           [],

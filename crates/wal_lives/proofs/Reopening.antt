@@ -116,7 +116,7 @@ module _ {D : Type 0} (tape : D → Option Tape) (moment faults : D → ℕ)
       × IsPromisedDurable (setup_of_log wal).segment_size
       (length (behind.0).calls + sealed.moment)
       (order_of tape moment faults wal pass closed closes) (view_of_pass pass) f
-  commit = commits_are_promised tape moment faults wal pass closed closes body old new sealed at s
+  commit = commits_are_promised tape moment faults wal [] pass closed closes body old new sealed at s
       grown (omega arith)
 
   promised : IsPromisedDurable setup.segment_size (length (behind.0).calls + sealed.moment)
@@ -127,7 +127,7 @@ module _ {D : Type 0} (tape : D → Option Tape) (moment faults : D → ℕ)
   module _ (none_torn : NoTornPass setup.segment_size
       (pages_in setup.segment_size (image_as_read (state_now behind.0)))
       (order_of tape moment faults wal pass closed closes)) where
-    lived : IsLived tape moment faults setup.segment_size wal behind.0
+    lived : IsLived tape moment faults setup.segment_size wal [] behind.0
         (order_of tape moment faults wal pass closed closes) (commit.0 ∷ [])
     lived = record {
       pass = pass;
@@ -175,13 +175,11 @@ module _ {D : Type 0} (tape : D → Option Tape) (moment faults : D → ℕ)
         (some_id setup.sysid its_setup.named) narrow empty) begins)).finds setup closed.disk again
         next found handed r).has
 
-    among_found : Contains (found_of setup.segment_size (opening_of_log again).found) commit.0
-    among_found = subst (λ (es : List Entry). Contains (found_of setup.segment_size es) commit.0)
-        (sym (ap (λ (o : Opening). o.found) r.opening)) among
-
   pub finds_commit : FindsCommit (opening_of_log again) sealed
   finds_commit = record {
     order = its_order;
+    front = r.es;
+    lies = r.lies;
     closed = behind.0;
     commit = commit.0;
     start_is = commit.1;
@@ -190,6 +188,5 @@ module _ {D : Type 0} (tape : D → Option Tape) (moment faults : D → ℕ)
         (sym setup_again) promised.0;
     found = subst (λ (x : Setup). NoTornPass x.segment_size
         (pages_in x.segment_size (image_as_read (state_now behind.0))) its_order
-        → Contains (found_of x.segment_size (opening_of_log again).found) commit.0)
-        (sym setup_again) among_found;
+        → Contains (found_of x.segment_size r.es) commit.0) (sym setup_again) among;
   }

@@ -1,5 +1,6 @@
 -- Over all lives of a log what was promised to be durable is kept.
-use Rattle.std.proofs.Common.{◌≡◌, ℕ, All, List, [], ◌++◌, length, Option, IfSome, ap, subst}
+use Rattle.std.proofs.Common.{◌≡◌, ℕ, All, List, [], ◌++◌, length, Option, IfSome, subst}
+use Rattle.std.specs.Prelude.{IsSome}
 use Rattle.std.proofs.lemmas.List.Elements.{All-nil}
 use Rattle.segment_disk.specs.DiskImage.{image_as_read}
 use Rattle.segment_disk.specs.Tape.{Tape, state_now}
@@ -11,14 +12,15 @@ use Rattle.written_log.specs.Written.{found_of}
 use Rattle.found_log.specs.Found.{IsFound, RefusesLog}
 use Rattle.found_log.specs.declared.fault.FindFault.TheVariants as finding
 use Rattle.wal_core.specs.declared.setup.Setup.{Setup}
-use Rattle.wal_core.specs.Ordered.{BeginsWith}
-use Rattle.wal_core.specs.Words.{Opening}
+use Rattle.machine_laws.specs.WholeOrders.{IsWholeOrder}
+use Rattle.machine_laws.proofs.WholeOrders.{whole_order}
 use Rattle.wal_rule.specs.declared.pass.Pass.{Pass}
 use Rattle.wal_log.specs.declared.closing.Closed.{Closed}
 use Rattle.wal_log.specs.declared.opening.OpenFaultKind.TheVariants.{Foreign}
 use Rattle.wal_log.specs.declared.reopening.Found.{Found}
 use Rattle.wal_log.specs.declared.wal.Wal.{Wal}
 use Rattle.wal_log.specs.Closing.{ClosesLog}
+use Rattle.wal_log.specs.Logs.{opening_of_log}
 use Rattle.wal_log.specs.Reopening.{IsReopened, TellsReopenFault}
 use Rattle.reopened_log.specs.Lives.{IsFrontWith}
 use Rattle.reopened_log.specs.WasLeft.{WasLeft}
@@ -90,11 +92,15 @@ module _ {D : Type 0} (tape : D → Option Tape) (moment faults : D → ℕ)
     goes_on_at : (setup : Setup) (disk : D) (wal : Wal D) (first pass : Pass) (told : Found)
         (closed : Closed D) → (r : IsReopened tape moment faults setup disk wal first told)
         → (c : ClosesLog tape moment faults wal pass closed)
-        → BeginsWith r.es (order_of tape moment faults wal pass closed c)
+        → IsWholeOrder (opening_of_log wal) (order_of tape moment faults wal pass closed c)
+        (r.es ++ order_of tape moment faults wal pass closed c)
+        × All (λ e. IsSome e.pass) (order_of tape moment faults wal pass closed c)
     goes_on_at setup disk wal first pass told closed r c =
-        subst (λ (es : List Entry). BeginsWith es
-        (order_of tape moment faults wal pass closed c))
-        (ap (λ (o : Opening). o.found) r.opening) ((c.closes).sound).reserved.found_first
+        let sound = (c.closes).sound in (
+          whole_order (opening_of_log wal) sound.setup_is.size r.es r.lies sound.order
+              sound.reserved.chained,
+          sound.reserved.owned,
+        )
 
     keeps_hard : KeepsPromised tape moment faults size sysid t left.order hard
     keeps_hard = record {

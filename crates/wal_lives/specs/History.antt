@@ -47,18 +47,19 @@ module _ {D : Type 0} (tape : D → Option Tape) (moment faults : D → ℕ) whe
     pub named : setup.sysid ≡ sysid
     pub before : tape disk ≡ Some t
 
-  -- the order of a log, as the close has it
+  -- the order of what was reserved, as the close has it
   abbrev pub order_of : (wal : Wal D) (pass : Pass) (closed : Closed D)
       → ClosesLog tape moment faults wal pass closed → List Entry
   order_of wal pass closed closes = ((closes.closes).sound).order
 
-  -- a log was filled and closed, and its life ended at a moment since the opening
-  pub record IsLived (size : ℕ) (wal : Wal D) (next : Tape) (order : List Entry)
-      (hard : List FoundRecord) : Type 0 where
+  -- a log was filled behind these entries and closed, and its life ended at a moment since the
+  -- opening
+  pub record IsLived (size : ℕ) (wal : Wal D) (front : List Entry) (next : Tape)
+      (order : List Entry) (hard : List FoundRecord) : Type 0 where
     pub pass : Pass
     pub closed : Closed D
     pub closes : ClosesLog tape moment faults wal pass closed
-    pub order_is : order ≡ order_of wal pass closed closes
+    pub order_is : order ≡ front ++ order_of wal pass closed closes
     pub now : Tape
     pub after : tape closed.disk ≡ Some now
     pub at : ℕ
@@ -76,7 +77,7 @@ module _ {D : Type 0} (tape : D → Option Tape) (moment faults : D → ℕ) whe
     pub handed : IsHandedIn size sysid t setup disk
     pub empty : HoldsNothing (Some t)
     pub opened : IsOpened tape moment faults setup disk wal first
-    pub lived : IsLived size wal next order hard
+    pub lived : IsLived size wal [] next order hard
 
   -- one that is gone on with
   pub record ContinuesWal (size sysid : ℕ) (t next : Tape) (order : List Entry)
@@ -88,7 +89,7 @@ module _ {D : Type 0} (tape : D → Option Tape) (moment faults : D → ℕ) whe
     pub found : Found
     pub handed : IsHandedIn size sysid t setup disk
     pub reopened : IsReopened tape moment faults setup disk wal first found
-    pub lived : IsLived size wal next order hard
+    pub lived : IsLived size wal reopened.es next order hard
 
   -- such a life that was cut short while what was found was settled: the log is as it was
   pub record EndsReopening (size sysid : ℕ) (t next : Tape) (order : List Entry) : Type 0 where

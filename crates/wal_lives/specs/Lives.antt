@@ -1,7 +1,7 @@
 -- One theorem over all lives of a log that a program embeds: a record that was promised to be
 -- durable is in the log for ever, through any number of openings, crashes, kills, failed disks and
 -- reopenings.
-use Rattle.std.specs.Prelude.{◌≡◌, ℕ, ◌^◌, ◌<◌, ◌≤◌, List, ◌++◌, Option, Some}
+use Rattle.std.specs.Prelude.{◌≡◌, ℕ, ◌^◌, ◌<◌, ◌≤◌, All, List, ◌++◌, Option, IsSome, Some}
 use Rattle.byte_position.specs.Geometry.{IsSegmentSize}
 use Rattle.record_spelling.specs.Spelling.{Assembled}
 use Rattle.wal_types.specs.declared.answers.Sealed.{Sealed}
@@ -17,8 +17,8 @@ use Rattle.wal_reader.specs.Pages.{pages_in}
 use Rattle.written_log.specs.Torn.{NoTornPass}
 use Rattle.written_log.specs.Written.{found_of}
 use Rattle.wal_core.specs.declared.setup.Setup.{Setup}
-use Rattle.wal_core.specs.Ordered.{BeginsWith}
 use Rattle.wal_core.specs.Views.{View}
+use Rattle.machine_laws.specs.WholeOrders.{IsWholeOrder}
 use Rattle.wal_rule.specs.declared.pass.Pass.{Pass}
 use Rattle.wal_rule.specs.Passes.{view_of_pass}
 use Rattle.wal_log.specs.declared.closing.Closed.{Closed}
@@ -27,7 +27,7 @@ use Rattle.wal_log.specs.declared.reopening.Found.{Found}
 use Rattle.wal_log.specs.declared.wal.Wal.{Wal}
 use Rattle.wal_log.specs.Closing.{ClosesLog}
 use Rattle.wal_log.specs.Committing.{IsSealed}
-use Rattle.wal_log.specs.Logs.{setup_of_log}
+use Rattle.wal_log.specs.Logs.{opening_of_log, setup_of_log}
 use Rattle.wal_log.specs.PassLogs.{log_of_pass}
 use Rattle.wal_log.specs.Reopening.{IsReopened, TellsReopenFault}
 use Rattle.wal_log_laws.specs.Growing.{HasGrown}
@@ -55,11 +55,13 @@ module _ {D : Type 0} (tape : D → Option Tape) (moment faults : D → ℕ) whe
         → IsHandedIn tape moment faults size sysid t setup disk
         → (r : IsReopened tape moment faults setup disk wal first found)
         → IsFrontWith size order hard (found_of size r.es)
-    -- and what is closed then begins with them
+    -- and what is closed then goes on behind them as one log, with entries of its passes alone
     pub goes_on : (setup : Setup) (disk : D) (wal : Wal D) (first pass : Pass) (found : Found)
         (closed : Closed D) → (r : IsReopened tape moment faults setup disk wal first found)
         → (c : ClosesLog tape moment faults wal pass closed)
-        → BeginsWith r.es (order_of tape moment faults wal pass closed c)
+        → IsWholeOrder (opening_of_log wal) (order_of tape moment faults wal pass closed c)
+        (r.es ++ order_of tape moment faults wal pass closed c)
+        × All (λ e. IsSome e.pass) (order_of tape moment faults wal pass closed c)
 
   -- this holds behind each history
   abbrev pub PromisedRecordsStay : Type 0
@@ -69,16 +71,17 @@ module _ {D : Type 0} (tape : D → Option Tape) (moment faults : D → ℕ) whe
       → KeepsPromised size sysid t order hard
 
   -- of each commit that was told to be durable by a moment, where the closing pass has the log of
-  -- the commit's pass, grown since, the record that its receipt names was promised to be durable
+  -- the commit's pass, grown since, the record that its receipt names was promised to be durable:
+  -- that of the log which goes on behind these entries, whichever they are
   abbrev pub CommitsArePromised : Type 0
   CommitsArePromised =
-      (wal : Wal D) (pass : Pass) (closed : Closed D)
+      (wal : Wal D) (front : List Entry) (pass : Pass) (closed : Closed D)
       (c : ClosesLog tape moment faults wal pass closed) (body : Assembled) (old new : View)
       (sealed : Sealed) (at : ℕ) → IsSealed (setup_of_log wal) body old new sealed
       → HasGrown (log_of_pass new) (view_of_pass pass) → sealed.moment ≤ at
       → (r : FoundRecord) × (r.start.0 ≡ sealed.start.0) × (r.end.0 ≡ sealed.end.0)
       × IsPromisedDurable (setup_of_log wal).segment_size at
-      (order_of tape moment faults wal pass closed c) (view_of_pass pass) r
+      (front ++ order_of tape moment faults wal pass closed c) (view_of_pass pass) r
 
   -- so three lives of a log have all that was promised in any of them, each of which may have been
   -- killed or ended by a crash

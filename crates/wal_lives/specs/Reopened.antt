@@ -9,12 +9,15 @@ use Rattle.wal_reader.specs.Pages.{pages_in}
 use Rattle.written_log.specs.Torn.{NoTornPass}
 use Rattle.written_log.specs.Written.{found_of}
 use Rattle.wal_core.specs.Words.{Opening}
+use Rattle.machine_laws.specs.WholeOrders.{LiesBehind}
 
 -- a log was closed with this order on a disk that had this tape then; the order has a record at the
--- place that a commit told, and so has what a reopening found, if no torn record passed its CRC as
--- the disk was read then
+-- place that a commit told, and so have the entries that lie below the place of a reopening, if no
+-- torn record passed its CRC as the disk was read then
 pub record FindsCommit (opening : Opening) (sealed : Sealed) : Type 0 where
   pub order : List Entry
+  pub front : List Entry
+  pub lies : LiesBehind opening front
   pub closed : Tape
   pub commit : FoundRecord
   pub start_is : commit.start.0 ≡ sealed.start.0
@@ -22,4 +25,4 @@ pub record FindsCommit (opening : Opening) (sealed : Sealed) : Type 0 where
   pub in_order : Contains (found_of (opening.setup).segment_size order) commit
   pub found : NoTornPass (opening.setup).segment_size
       (pages_in (opening.setup).segment_size (image_as_read (state_now closed))) order
-      → Contains (found_of (opening.setup).segment_size opening.found) commit
+      → Contains (found_of (opening.setup).segment_size front) commit

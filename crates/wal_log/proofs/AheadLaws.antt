@@ -3,7 +3,6 @@ use Rattle.std.proofs.Common.{◌≡◌, ◌≢◌, ℕ, ◌%◌, ◌<◌, ◌�
 use Rattle.std.proofs.Math.Logic.{∥∥₁_elim}
 use Rattle.std.specs.Coded.{Coded-set, coded_ℕ}
 use Rattle.std.specs.Prelude.{if◌then◌else◌, ◌==◌, Result, Err}
-use Rattle.byte_position.specs.Position.{first_position}
 use Rattle.byte_position.specs.Geometry.{IsSegmentSize}
 use Rattle.byte_position.proofs.EndAddresses.{end_address_of-mono}
 use Rattle.byte_position.proofs.Words.{end_address_of-mod_word}
@@ -11,7 +10,6 @@ use Rattle.record_spelling.specs.Spelling.{Assembled}
 use Rattle.wal_types.specs.declared.answers.Receipt.{Receipt}
 use Rattle.wal_page.specs.Order.{Entry, FollowsFrom, finish_of, position_behind}
 use Rattle.wal_page.proofs.PaddingLaws.{room_at-whole}
-use Rattle.wal_page.proofs.WordPositions.{first_position-whole}
 use Rattle.wal_core.specs.declared.setup.Setup.{Setup}
 use Rattle.wal_core.specs.Moves.{with_async}
 use Rattle.wal_core.specs.Steps.{IsResting, load_async, raise_async, MayStep}
@@ -171,8 +169,8 @@ finish_is_whole v e stands =
     let sound = (stands.stands).sound in
     let size : ℕ = ((v.opening).setup).segment_size in
     let valid = (sound.setup_is).size in
-    let start = starts_whole size (first_position size) sound.order valid
-    (first_position-whole size valid) (sound.reserved).chained e stands.in_order in
+    let start = starts_whole size ((v.opening).place).position sound.order valid
+    ((sound.reserved).placed).whole (sound.reserved).chained e stands.in_order in
     end_address_of-mod_word size valid (position_behind size e) (behind_whole size valid e start)
 
 -- ---- a record that was inserted

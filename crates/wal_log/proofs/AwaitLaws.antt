@@ -69,6 +69,7 @@ end_keeps end v = record {
   working = refl;
   stage = refl;
   confirmed = le-max_left (v.mapping).confirmed end;
+  async = refl;
 }
 
 pub end_stays : {D : Type 0} → (end : ℕ) (a b : SeatedPass D)
@@ -136,6 +137,7 @@ written_work written old new is stage = record {
   working = ap (λ (w : View). w.working) is;
   stage = stage;
   confirmed = (let same = ap (λ (w : View). w.mapping.confirmed) is in omega (arith, same));
+  async = ap (λ (w : View). w.async_met) is;
 }
 
 -- one look more, at the written address: the pass paused before, and maps no page
@@ -275,4 +277,5 @@ tried_and_looked old now new tried sees = record {
   });
   log = ap (λ (w : View). log_of_pass w) (view_is sees.view) ∙ tried.log;
   down_set = ap (λ (w : View). w.writing.down_set) (view_is sees.view) ∙ tried.down_set;
+  async = ap (λ (w : View). w.async_met) (view_is sees.view) ∙ tried.async;
 }

@@ -197,6 +197,11 @@ module _ (setup : Setup) (body : Assembled) (old between : View) where
   keeps_in_vain (Full free) why = subst (KeepsPass old) (sym why.new_is)
       (stopped_keeps old LogFull why.at)
 
+  pub vain_async : (e : ReserveErr) → TellsWhy setup body old between e
+      → between.async_met ≡ old.async_met
+  vain_async (Busy seen) why = ap (λ (v : View). v.async_met) why.new_is
+  vain_async (Full free) why = ap (λ (v : View). v.async_met) why.new_is
+
   pub holds_in_vain : (locks : List ℕ) → HasLocks locks old → (e : ReserveErr)
       → TellsWhy setup body old between e → HasLocks locks between
   holds_in_vain locks holds (Busy seen) why = subst (HasLocks locks) (sym why.new_is) (record {

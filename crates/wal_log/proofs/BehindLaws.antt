@@ -6,12 +6,11 @@ use Rattle.byte_position.specs.Geometry.{IsSegmentSize}
 use Rattle.byte_position.specs.Position.{position_of}
 use Rattle.byte_position.proofs.EndAddresses.{end_address_of-mono}
 use Rattle.wal_types.specs.declared.answers.Hard.{Hard}
-use Rattle.wal_page.specs.Order.{end_position}
 use Rattle.machine_laws.proofs.OrderSteps.{unlocked-is}
 use Rattle.wal_core.specs.Moves.{unlocked, with_async}
-use Rattle.wal_core.specs.Steps.{load_async, load_down, load_flushed, view_behind}
+use Rattle.wal_core.specs.Steps.{IsResting, load_async, load_down, load_flushed, view_behind}
 use Rattle.wal_core.specs.Views.{FlushPromise, View, async_met_of, reserving_of, writing_of}
-use Rattle.wal_core.specs.Words.{Opening, end_form, position_word, prev_word}
+use Rattle.wal_core.specs.Words.{Opening, end_form, position_word, prev_word, order_end}
 use Rattle.wal_rule.specs.declared.seated.SeatedPass.{SeatedPass}
 use Rattle.wal_rule.specs.Downs.{KnowsDown}
 use Rattle.wal_rule.specs.SeatedPasses.{StandsAtRest, StaysSeated, Steps, view_of}
@@ -24,10 +23,10 @@ use Rattle.wal_log.specs.Behind.{FindsNothing, FindsTarget, FlushesBehind, Refus
 use Rattle.wal_log.specs.Downs.{KnowsNoFault}
 use Rattle.wal_log.specs.Flushing.{HasReached, IsUnreserved, TellsFlushErr, view_met_up}
 use Rattle.wal_log.specs.PassLogs.{log_of_pass}
-use Rattle.wal_log.specs.Standing.{ComesToRest, KeepsPass, KeepsWork}
+use Rattle.wal_log.specs.Standing.{ComesToRest, KeepsPass}
 use Rattle.wal_log.proofs.FlushLaws.{fault_behind, told_behind}
 use Rattle.wal_log.proofs.BeginLaws.{loaded_rests}
-use Rattle.wal_log.proofs.Keeping.{down_met_keeps, further_pass, meets_since, rested_on}
+use Rattle.wal_log.proofs.Keeping.{down_met_keeps, further_pass, meets_since}
 use Rattle.wal_log.proofs.Plain.{flushed_loaded}
 use Rattle.wal_log.proofs.Seated.{hand_is, view_is}
 
@@ -39,9 +38,9 @@ async_is_reserved v seen sees =
     let s : Stands v = (sees.met).before in
     let sound = s.sound in
     let size : ℕ = ((v.opening).setup).segment_size in
-    let is : seen ≡ end_position size sound.order =
+    let is : seen ≡ order_end v.opening sound.order =
     sees.seen_is ∙ ap unlocked (sees.met).met_is
-    ∙ unlocked-is (v.opening).setup (v.opening).found sound.order (position_word s.words)
+    ∙ unlocked-is v.opening sound.order (position_word s.words)
     (prev_word s.words) (map reserving_of s.views) sound.reserved (sound.setup_is).size in
     let low = ((sound.async).met s.id v.async_met
     (at_map async_met_of s.views s.id v s.here)).0 in
@@ -56,9 +55,9 @@ flushed_is_reserved v seen sees =
     let s : Stands v = (sees.met).before in
     let sound = s.sound in
     let size : ℕ = ((v.opening).setup).segment_size in
-    let is : seen ≡ end_position size sound.order =
+    let is : seen ≡ order_end v.opening sound.order =
     sees.seen_is ∙ ap unlocked (sees.met).met_is
-    ∙ unlocked-is (v.opening).setup (v.opening).found sound.order (position_word s.words)
+    ∙ unlocked-is v.opening sound.order (position_word s.words)
     (prev_word s.words) (map reserving_of s.views) sound.reserved (sound.setup_is).size in
     let positions = sound.positions in
     let low = (positions.views s.id v.writing
@@ -171,23 +170,26 @@ module _ (flushed async seen : ℕ) (old first next new : View)
 -- ---- what is left of a pass
 
 module _ (flushed target : ℕ) (old new : View) (sees : SeesTarget flushed target old new) where
-  pub sight_work : KeepsWork old new
-  sight_work = subst (λ (v : View). KeepsWork old v) (sym sees.new_is) (record {
-    pass = record {
-      opening = refl;
-      live = refl;
-      number = refl;
-      spare = refl;
-      spare_end = refl;
-      joined = refl;
-      counts = omega arith;
-      rises = sees.rises;
-      down = λ faults knows. knows;
-    };
-    place = refl;
-    working = refl;
-    stage = refl;
-    confirmed = omega arith;
+  pub sight_pass : KeepsPass old new
+  sight_pass = subst (λ (v : View). KeepsPass old v) (sym sees.new_is) (record {
+    opening = refl;
+    live = refl;
+    number = refl;
+    spare = refl;
+    spare_end = refl;
+    joined = refl;
+    counts = omega arith;
+    rises = sees.rises;
+    down = λ faults knows. knows;
+  })
+
+  pub sight_rested : IsResting old → IsResting new
+  sight_rested rests = subst IsResting (sym sees.new_is) (record {
+    place = rests.place;
+    locks = rests.locks;
+    flight = rests.flight;
+    stage = rests.stage;
+    hold = rests.hold;
   })
 
   pub sight_up : KnowsNoFault old → KnowsNoFault new
@@ -319,14 +321,12 @@ module _ {D : Type 0} (old down sight : SeatedPass D) (faults flushed target : �
       (stays : StaysSeated down sight) where
     pub sight_rests : ComesToRest old sight
     sight_rests =
-        let work = sight_work flushed target (view_of down) (view_of sight) sees in
         let before = (down_rests.rests).rests in record {
           same_table = stays.same_table ∙ steps.same_table;
           keeps = further_pass (view_of old) (view_of down) (view_of sight) down_rests.keeps
-              work.pass;
+              (sight_pass flushed target (view_of down) (view_of sight) sees);
           rests = record {
-            rests = rested_on (view_of down) (view_of sight) work
-                (ap (λ (v : View). v.writing.hold) sees.new_is ∙ before.hold) before;
+            rests = sight_rested flushed target (view_of down) (view_of sight) sees before;
             empty = stays.same_hand ∙ (down_rests.rests).empty;
           };
         }

@@ -5,11 +5,11 @@ use Rattle.std.proofs.Math.Logic.{∥∥₁_elim}
 use Rattle.std.specs.Coded.{Coded-set, coded_ℕ, le_prop}
 use Rattle.atomic_table.proofs.Lists.{at_map}
 use Rattle.byte_position.specs.Geometry.{IsSegmentSize}
-use Rattle.byte_position.specs.Position.{end_address_of, first_position}
+use Rattle.byte_position.specs.Position.{end_address_of}
 use Rattle.byte_position.proofs.EndAddresses.{end_address_of-le_address_of, end_address_of-mono}
 use Rattle.byte_position.proofs.Rising.{address_of-bound}
 use Rattle.machine_words.proofs.Bounds.{limit_low}
-use Rattle.wal_page.specs.Order.{Entry, IsChained, end_position, finish_of, position_behind, rooms_of}
+use Rattle.wal_page.specs.Order.{Entry, finish_of, position_behind, rooms_of}
 use Rattle.wal_page.specs.EntryWords.{address_of_word, words_owned}
 use Rattle.wal_page.specs.Placed.{PlacedState, placed_end}
 use Rattle.wal_page.proofs.OrderLaws.{FollowsFrom-parts, rooms_of-append, rooms_of_cons}
@@ -32,14 +32,18 @@ use Rattle.wal_log.specs.PassLogs.{log_of_pass}
 use Rattle.wal_log.specs.Standing.{CopiesAlone, CopiesUnder, GoesOnSeated, HasNoTurn, KeepsPass, KeepsWork, entry_in_flight, entry_of_flight}
 use Rattle.wal_log.proofs.Keeping.{copies_stay, further_pass, same_pass, told_pass}
 use Rattle.wal_log.proofs.Seated.{further_seated, own_setup, same_setup, seat_stays, view_is}
+use Rattle.wal_core.specs.Words.{Opening, order_end, GoesOnAtPlace}
 
 -- an entry in flight ends at the order's end or before
-entry-within : (size : ℕ) (order : List Entry) → IsChained size order → (c : Copy)
-    → IsOfOrder size order c → position_behind size c.entry ≤ end_position size order
-entry-within size order chain c s =
-    let parts = FollowsFrom-parts size (first_position size) s.front (c.entry ∷ s.back)
-    (subst (IsChained size) s.are chain) in
-    let start : (c.entry).start ≡ first_position size + rooms_of size s.front = parts.1.0 in
+entry-within : (opening : Opening) (order : List Entry) → GoesOnAtPlace opening order → (c : Copy)
+    → IsOfOrder opening order c
+    → position_behind (opening.setup).segment_size c.entry ≤ order_end opening order
+entry-within opening order chain c s =
+    let size : ℕ = (opening.setup).segment_size in
+    let from : ℕ = (opening.place).position in
+    let parts = FollowsFrom-parts size from s.front (c.entry ∷ s.back)
+    (subst (GoesOnAtPlace opening) s.are chain) in
+    let start : (c.entry).start ≡ from + rooms_of size s.front = parts.1.0 in
     let all : rooms_of size order
     ≡ rooms_of size s.front + rooms_of size (c.entry ∷ s.back) =
     ap (rooms_of size) s.are ∙ rooms_of-append size s.front (c.entry ∷ s.back) in
@@ -53,18 +57,18 @@ module _ (v : View) (stands : Stands v) (c : Copy) (is : (v.working).flight ≡ 
   sound = stands.sound
 
   abbrev last : ℕ
-  last = end_position size sound.order
+  last = order_end v.opening sound.order
 
   valid : IsSegmentSize size
   valid = (sound.setup_is).size
 
-  of_order : IsOfOrder size sound.order c
+  of_order : IsOfOrder v.opening sound.order c
   of_order = (sound.ring).in_flight stands.id c
       (subst (λ (f : Flight). HasAt (map flight_of stands.views) stands.id f) is
       (at_map flight_of stands.views stands.id v stands.here))
 
   whole : (c.entry).start % 8 ≡ 0
-  whole = copy-whole size valid sound.order (sound.reserved).chained c of_order
+  whole = copy-whole v.opening valid (sound.reserved).placed sound.order (sound.reserved).chained c of_order
 
   -- behind its last word the entry ends
   ends : address_of_word size c.entry (words_owned size c.entry) ≡ finish_of size c.entry
@@ -84,7 +88,7 @@ module _ (v : View) (stands : Stands v) (c : Copy) (is : (v.working).flight ≡ 
   pub word_low : address_of_word size c.entry c.copied < 2 ^ 50
   word_low =
       let within = of_order.copied_within in
-      let inside = entry-within size sound.order (sound.reserved).chained c of_order in
+      let inside = entry-within v.opening sound.order (sound.reserved).chained c of_order in
       let rises = end_address_of-mono size valid (position_behind size c.entry) last inside in
       let ended = ends in
       let low = end_low in
@@ -134,6 +138,7 @@ pub record StaysCopying (setup : Setup) (before after : PlacedState) (old new : 
     pub copies : (locks : List ℕ) → CopiesUnder setup locks before old
         → CopiesUnder setup locks after new
     pub keeps : KeepsPass old new
+    pub async : new.async_met ≡ old.async_met
     pub up : KnowsNoFault old → KnowsNoFault new
     pub entry_is : entry_in_flight new ≡ entry_in_flight old
     pub log_is : log_of_pass new ≡ log_of_pass old
@@ -143,6 +148,7 @@ module _ (setup : Setup) (p : PlacedState) (v : View) where
   stays = record {
     copies = λ locks c. c;
     keeps = same_pass v;
+    async = refl;
     up = λ up. up;
     entry_is = refl;
     log_is = refl;
@@ -171,6 +177,7 @@ module _ (setup : Setup) (p : PlacedState) (v : View) where
       rises = omega arith;
       down = λ faults knows. knows;
     };
+    async = refl;
     up = λ up. record { met = up.met; set = up.set };
     entry_is = refl;
     log_is = refl;
@@ -206,6 +213,7 @@ module _ (setup : Setup) (p : PlacedState) (v : View) where
       rises = omega arith;
       down = λ faults knows. knows;
     };
+    async = refl;
     up = λ up. record { met = up.met; set = up.set };
     entry_is = further_same count (v.working).flight;
     log_is = refl;
@@ -217,6 +225,7 @@ module _ (setup : Setup) (p q r : PlacedState) (u v w : View) where
   stays_on x y = record {
     copies = λ locks c. y.copies locks (x.copies locks c);
     keeps = further_pass u v w x.keeps y.keeps;
+    async = y.async ∙ x.async;
     up = λ up. y.up (x.up up);
     entry_is = y.entry_is ∙ x.entry_is;
     log_is = y.log_is ∙ x.log_is;
@@ -249,7 +258,7 @@ module _ {D : Type 0} (old new : SeatedPass D) (seats : StaysSeated old new) whe
     went_on place = record {
       place = place;
       entry = s.entry_is;
-      goes_on = record { stays = seats; keeps = s.keeps };
+      goes_on = record { stays = seats; keeps = s.keeps; async = s.async };
       log = s.log_is;
     }
 
@@ -290,6 +299,7 @@ copied_on p q r a b c x y = record {
   goes_on = record {
     stays = further_seated a b c (x.goes_on).stays (y.goes_on).stays;
     keeps = further_pass (view_of a) (view_of b) (view_of c) (x.goes_on).keeps (y.goes_on).keeps;
+    async = (y.goes_on).async ∙ (x.goes_on).async;
   };
   log = y.log ∙ x.log;
 }
@@ -351,6 +361,7 @@ pub goes_on_itself : {D : Type 0} → (a : SeatedPass D) → GoesOnSeated a a
 goes_on_itself a = record {
   stays = record { same_table = refl; same_hand = refl };
   keeps = same_pass (view_of a);
+  async = refl;
 }
 
 pub told_keeps : {D : Type 0} → (a b : SeatedPass D) (locks : List ℕ) (upto : ℕ)
@@ -359,6 +370,7 @@ told_keeps a b locks upto has = record {
   stays = seat_stays has.view;
   keeps = subst (λ (w : View). KeepsPass (view_of a) w) (sym (view_is has.view))
       (told_pass upto has.under (view_of a));
+  async = ap (λ (w : View). w.async_met) (view_is has.view);
 }
 
 -- what was told under each lock of a copy alone was told under each under which its entry stands

@@ -127,6 +127,7 @@ flushed_work flushed old new is = subst (λ (w : View). KeepsWork old w) (sym is
   working = refl;
   stage = refl;
   confirmed = omega arith;
+  async = refl;
 })
 
 -- ---- the view that was told so, met this as flushed, and has this of the turn to write
@@ -199,6 +200,7 @@ module _ (upto moment flushed : ℕ) (hold : Hold) (old new : View)
     working = refl;
     stage = refl;
     confirmed = omega arith;
+    async = refl;
   })
 
 -- ---- loaded as flushed, with the moment behind it

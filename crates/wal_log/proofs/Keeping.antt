@@ -64,6 +64,7 @@ same_work v = record {
   working = refl;
   stage = refl;
   confirmed = omega arith;
+  async = refl;
 }
 
 pub further_work : (a b c : View) → KeepsWork a b → KeepsWork b c → KeepsWork a c
@@ -73,6 +74,7 @@ further_work a b c x y = record {
   working = y.working ∙ x.working;
   stage = y.stage ∙ x.stage;
   confirmed = omega (arith, x.confirmed, y.confirmed);
+  async = y.async ∙ x.async;
 }
 
 -- where only the down values change, and what the pass has of the write turn
@@ -97,6 +99,7 @@ downs_keep v hold met set knows = record {
   working = refl;
   stage = refl;
   confirmed = omega arith;
+  async = refl;
 }
 
 pub hold_keeps : (v : View) (hold : Hold) (w : View) → w ≡ with_hold hold v

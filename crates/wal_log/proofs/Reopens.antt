@@ -1,15 +1,22 @@
 -- A log that was found may be opened, and the words with which it goes on are those of another moment but for one.
-use Rattle.std.proofs.Common.{◌≡◌, ℕ, ◌+◌, ◌*◌, ◌/◌, ◌<◌, ◌≤◌, ◌%◌, ◌^◌, List, Option, set, refl, sym, ap, ◌∙◌, subst, arith}
+use Rattle.std.proofs.Common.{◌≡◌, ℕ, ◌+◌, ◌*◌, ◌/◌, ◌<◌, ◌≤◌, ◌%◌, ◌^◌, List, [], Option, set, refl, sym, ap, ◌∙◌, subst, arith}
 use Rattle.std.specs.Prelude.{slice_index}
-use Rattle.std.proofs.lemmas.List.{get_or-set_other, get_or-set_same, length-set}
+use Rattle.std.proofs.lemmas.List.{append-nil, get_or-set_other, get_or-set_same, length-set}
 use Rattle.std.proofs.lemmas.Nat.{mul-le}
+use Rattle.byte_position.specs.Geometry.{IsSegmentSize}
 use Rattle.byte_position.specs.Position.{end_address_of, usable_bytes_in_segment}
 use Rattle.byte_position.proofs.EndAddresses.{le-position_of}
 use Rattle.byte_position.proofs.SegmentSizes.{segment_size_in_pages}
 use Rattle.byte_position.proofs.Segments.{first_position-usable, position_of-segment}
 use Rattle.record_spelling.specs.Spelling.{word_at}
 use Rattle.segment_disk.specs.Tape.{Tape}
-use Rattle.wal_page.specs.Order.{Entry, IsChained, end_position}
+use Rattle.wal_page.specs.Order.{Entry, end_position}
+use Rattle.wal_page.specs.Log.{log_word}
+use Rattle.wal_page.specs.LogPlace.{IsPlace}
+use Rattle.wal_core.specs.Behind.{place_of_found}
+use Rattle.wal_core.specs.Ringed.{log_word_of}
+use Rattle.machine_laws.specs.WholeOrders.{LiesBehind}
+use Rattle.machine_laws.proofs.WholeOrders.{LiesBehind-found, place_of_found-stands, whole_order}
 use Rattle.flush_core.specs.Planned.{IsPlanOf}
 use Rattle.flush_core.specs.Settled.{HasSettled}
 use Rattle.flush_core.specs.declared.planning.SettlePlan.{SettlePlan}
@@ -18,7 +25,7 @@ use Rattle.wal_core.specs.declared.setup.Setup.{Setup}
 use Rattle.wal_core.specs.Opened.{AreFirstWords, IsOpenable}
 use Rattle.wal_core.specs.Paged.{HoldsPage}
 use Rattle.wal_core.specs.Sound.{IsSetup}
-use Rattle.wal_core.specs.Words.{Opening, found_end, log_limit, initialised_number, written_number, flushed_number, moment_number, down_number, ends_number}
+use Rattle.wal_core.specs.Words.{Opening, found_end, log_limit, initialised_number, written_number, flushed_number, moment_number, down_number, ends_number, order_end, last_start, GoesOnAtPlace}
 use Rattle.machine_words.specs.declared.first.LogEnd.{LogEnd}
 use Rattle.machine_words.specs.FirstWords.{IsEndOf, IsLastPage}
 use Rattle.wal_rule.specs.Founded.{found_log_opening}
@@ -45,14 +52,20 @@ module _ (setup : Setup) (valid : IsSetup setup) (log : FoundLog) (is : IsFoundW
       let times : (setup.cap_segments + 1) * usable_bytes_in_segment size ≡ usable_bytes_in_segment size + setup.cap_segments * usable_bytes_in_segment size = omega arith in
       omega (arith, upto, start, times, first_position-usable size valid.size)
 
+  -- the entries that were found lie below the place
+  pub found_lies : (moment faults : ℕ) → LiesBehind (found_log_opening setup (entries_found log) log.made moment faults) (entries_found log)
+  found_lies moment faults = LiesBehind-found (found_log_opening setup (entries_found log) log.made moment faults) valid.size (entries_found log) refl is.ends.chained is.ends.nobodys
+
+  found_stands : (place_of_found size setup.sysid (entries_found log)).position ≡ end
+  found_stands = (found_lies 0 0).position_is
+
   pub found_openable : (moment faults : ℕ) → IsOpenable (found_log_opening setup (entries_found log) log.made moment faults)
   found_openable moment faults = record {
     setup_is = valid;
-    chained = is.ends.chained;
-    nobodys = is.ends.nobodys;
-    within = end_within;
+    placed = place_of_found-stands size setup.sysid valid.size (entries_found log) is.ends.chained;
+    within = omega (arith, end_within, found_stands);
     made_within = is.within;
-    reaches = omega (arith, is.reaches, is.ends.end_is);
+    reaches = omega (arith, is.reaches, is.ends.end_is, ap (end_address_of size) found_stands);
   }
 
   -- an address of the log is a small one
@@ -97,11 +110,23 @@ module _ (opening : Opening) (words : List ℕ) (first : AreFirstWords (record o
 
 -- ---- a log is opened behind the one that was found
 
-module _ (setup : Setup) (log : FoundLog) (is : IsFoundWithin setup log) (moment : ℕ) (opening : Opening) (behind : IsOpenedBehind setup log moment opening) where
+module _ (setup : Setup) (valid : IsSetup setup) (log : FoundLog) (is : IsFoundWithin setup log) (moment : ℕ) (opening : Opening) (behind : IsOpenedBehind setup log moment opening) where
+  abbrev segment : ℕ
+  segment = setup.segment_size
+
+  abbrev fixed : Opening
+  fixed = found_log_opening setup (entries_found log) opening.made moment opening.faults
+
+  lies : LiesBehind fixed (entries_found log)
+  lies = LiesBehind-found fixed valid.size (entries_found log) refl is.ends.chained is.ends.nobodys
+
+  end_there : found_end fixed ≡ end_address_of segment (end_position segment (entries_found log))
+  end_there = ap (end_address_of segment) lies.position_is
+
   opening_is : found_log_opening setup (entries_found log) opening.made moment opening.faults ≡ opening
   opening_is = λ j. record {
     setup = sym behind.setup_is j;
-    found = sym behind.found_is j;
+    place = sym behind.place_is j;
     made = opening.made;
     moment = sym behind.moment_is j;
     faults = opening.faults;
@@ -116,17 +141,24 @@ module _ (setup : Setup) (log : FoundLog) (is : IsFoundWithin setup log) (moment
 
   pub ends_there : IsEndOf opening end_of_found
   ends_there = subst (λ (o : Opening). IsEndOf o end_of_found) opening_is (record {
-    position_is = is.ends.position_is;
-    address_is = is.ends.end_is;
-    last_start_is = is.ends.last_start_is;
+    position_is = is.ends.position_is ∙ sym lies.position_is;
+    address_is = is.ends.end_is ∙ sym end_there;
+    last_start_is = is.ends.last_start_is ∙ sym lies.prev_is;
   })
 
-  pub chained_there : IsChained setup.segment_size opening.found
-  chained_there = subst (λ (es : List Entry). IsChained setup.segment_size es) (sym behind.found_is) is.ends.chained
+  pub placed_there : IsPlace setup.segment_size opening.place
+  placed_there = subst (IsPlace setup.segment_size) (sym behind.place_is) (place_of_found-stands setup.segment_size setup.sysid valid.size (entries_found log) is.ends.chained)
+
+  -- the words below the place are those of the entries
+  word_there : (address : ℕ) → address % 8 ≡ 0 → log_word segment setup.sysid (entries_found log) address ≡ log_word_of fixed [] address
+  word_there address whole = sym ((whole_order fixed valid.size (entries_found log) lies [] tt).words address whole ∙ ap (λ (es : List Entry). log_word segment setup.sysid es address) (append-nil (entries_found log)))
 
   pub last_page_there : (page : List ℕ) → ((n : ℕ) → n < 1024 → word_at page n ≡ slice_index log.spelled.words.value n) → IsLastPage opening page
-  last_page_there page same = subst (λ (o : Opening). IsLastPage o page) opening_is
-      (λ j low. same j (omega (arith, low)) ∙ is.ends.words_are j low)
+  last_page_there page same = subst (λ (o : Opening). IsLastPage o page) opening_is (λ j low.
+      let finish = end_address_of segment (end_position segment (entries_found log)) in
+      let at : finish / 8192 * 8192 + 8 * j ≡ found_end fixed / 8192 * 8192 + 8 * j = ap (λ (n : ℕ). n / 8192 * 8192 + 8 * j) (sym end_there) in
+      same j (omega (arith, low)) ∙ is.ends.words_are j (omega (arith, low, end_there, at))
+      ∙ ap (log_word segment setup.sysid (entries_found log)) at ∙ word_there (found_end fixed / 8192 * 8192 + 8 * j) (omega arith))
 
 -- ---- what is fixed of a log that was found
 
@@ -136,7 +168,11 @@ module _ (setup : Setup) (valid : IsSetup setup) (log : FoundLog) (is : IsFoundW
 
   -- it begins where the log was found to end
   pub fixed_end : log.spelled.end.0 ≡ found_end opening
-  fixed_end = is.ends.end_is ∙ sym (ap (λ (o : Opening). found_end o) opening_is)
+  fixed_end = is.ends.end_is ∙ sym (ap (end_address_of setup.segment_size) (found_lies setup valid log is moment faults).position_is)
+      ∙ sym (ap (λ (o : Opening). found_end o) opening_is)
+
+  pub fixed_lies : LiesBehind opening (entries_found log)
+  fixed_lies = subst (λ (o : Opening). LiesBehind o (entries_found log)) (sym opening_is) (found_lies setup valid log is moment faults)
 
   pub fixed_made : log.made ≡ opening.made
   fixed_made = sym (ap (λ (o : Opening). o.made) opening_is)
@@ -149,7 +185,7 @@ module _ (setup : Setup) (valid : IsSetup setup) (log : FoundLog) (is : IsFoundW
   fixed_words words first = moment_stored opening words (first (record opening { moment = 0 }) (record {
     setup_is = ap (λ (o : Opening). o.setup) opening_is;
     moment_is = refl;
-    found_is = ap (λ (o : Opening). o.found) opening_is;
+    place_is = ap (λ (o : Opening). o.place) opening_is;
   }))
 
   -- what is planned is said of it as of the log that was found

@@ -11,12 +11,13 @@ use Rattle.wal_core.specs.Views.{View, Working}
 use Rattle.wal_rule.specs.declared.seated.SeatedPass.{SeatedPass}
 use Rattle.wal_rule.specs.SeatedPasses.{StandsAtRest, setup_of, view_of}
 use Rattle.wal_rule.specs.Stepping.{Meets}
+use Rattle.word_ring.specs.Mapped.{MapsAhead}
 use Rattle.wal_log.specs.declared.fault.Fault.{Fault}
 use Rattle.wal_log.specs.declared.fault.Fault.TheVariants.{Disk, Down}
 use Rattle.wal_log.specs.Copying.{MapsPage, mapped_view}
 use Rattle.wal_log.specs.Downs.{KnowsNoFault, MeetsFault}
 use Rattle.wal_log.specs.PassLogs.{log_of_pass}
-use Rattle.wal_log.specs.Room.{MakesRoom, MeetsMapped, MeetsUnmapped, end_in_the_way}
+use Rattle.wal_log.specs.Room.{MakesRoom, MeetsMapped, MeetsUnmapped, end_in_the_way, most_ahead}
 use Rattle.wal_log.specs.Standing.{AddsNothing, ComesToRest, CopiesUnder, HasNoTurn, KeepsWork, entry_in_flight, entry_of_flight}
 use Rattle.wal_log.specs.Writing.{IsHeldUp, WritesCopied}
 use Rattle.wal_log.proofs.AddingNothing.{adds_on, as_before}
@@ -69,6 +70,7 @@ mapped_keeps confirmed written v rises = record {
   working = refl;
   stage = refl;
   confirmed = rises;
+  async = refl;
 }
 
 pub pages_made : {D : Type 0} → (old now new : SeatedPass D) → HasRoomMade old now
@@ -137,8 +139,9 @@ module _ {D : Type 0} (tape : D → Option Tape) (moment faults : D → ℕ) (pa
   -- it was, and pages were mapped
   pub was_written : wrote ≡ true → upto ≡ end_in_the_way (setup_of old) page
       → AddsNothing old now → (mapped : SeatedPass D) → MapsPage new mapped
+      → MapsAhead (setup_of new) most_ahead (view_of new) (view_of mapped)
       → MakesRoom tape moment faults page old mapped
-  was_written has_written is adds mapped maps = inr (
+  was_written has_written is adds mapped maps ahead = inr (
     unmapped,
     inr (record {
       written = new;
@@ -148,5 +151,6 @@ module _ {D : Type 0} (tape : D → Option Tape) (moment faults : D → ℕ) (pa
           (subst (λ (b : Bool). MatchBool b (WritesCopied tape moment faults upto (view_of now) new)
           (IsHeldUp upto (view_of new))) has_written tells));
       maps = maps;
+      ahead = ahead;
     }),
   )

@@ -100,6 +100,7 @@ module _ {D : Type 0} where
     goes_on = record {
       stays = record { same_table = refl; same_hand = refl };
       keeps = same_pass (view_of p);
+      async = refl;
     };
     log_is = refl;
     has = has;
@@ -112,6 +113,7 @@ module _ {D : Type 0} where
       stays = further_seated a b c (x.goes_on).stays (y.goes_on).stays;
       keeps = further_pass (view_of a) (view_of b) (view_of c) (x.goes_on).keeps
           (y.goes_on).keeps;
+      async = (y.goes_on).async ∙ (x.goes_on).async;
     };
     log_is = y.log_is ∙ x.log_is;
     has = y.has;
@@ -119,12 +121,14 @@ module _ {D : Type 0} where
 
   -- a step of a pass that leaves this view
   steps_on : (old new : SeatedPass D) (v : View) → HasView v old new → KeepsPass (view_of old) v
+      → v.async_met ≡ (view_of old).async_met
       → log_of_pass v ≡ log_of_pass (view_of old) → (locks : List ℕ) → HasLocks locks v
       → HoldsOn locks old new
-  steps_on old new v is keeps same locks has = record {
+  steps_on old new v is keeps async same locks has = record {
     goes_on = record {
       stays = seat_stays is;
       keeps = subst (KeepsPass (view_of old)) (sym (view_is is)) keeps;
+      async = ap (λ (w : View). w.async_met) (view_is is) ∙ async;
     };
     log_is = ap (λ (w : View). log_of_pass w) (view_is is) ∙ same;
     has = subst (HasLocks locks) (sym (view_is is)) has;
@@ -134,7 +138,7 @@ module _ {D : Type 0} where
       → HasView (with_lock lock (view_of old)) old new → HasLocks (lock_run 0 lock) (view_of old)
       → HoldsOn (lock_run 0 (lock + 1)) old new
   lock_taken old new lock is has = steps_on old new (with_lock lock (view_of old)) is
-      (lock_keeps (view_of old) lock) refl (lock_run 0 (lock + 1))
+      (lock_keeps (view_of old) lock) refl refl (lock_run 0 (lock + 1))
       (lock_more (view_of old) lock has)
 
   pub taken_up : (old new : SeatedPass D) (lock : ℕ)
@@ -147,7 +151,7 @@ module _ {D : Type 0} where
   pub vain_holds : (old new : SeatedPass D) → HasView (view_of old) old new → (locks : List ℕ)
       → HasLocks locks (view_of old) → HoldsOn locks old new
   vain_holds old new is locks has =
-      steps_on old new (view_of old) is (same_pass (view_of old)) refl locks has
+      steps_on old new (view_of old) is (same_pass (view_of old)) refl refl locks has
 
   pub vain_up : (old new : SeatedPass D) → HasView (view_of old) old new
       → KnowsNoFault (view_of old) → KnowsNoFault (view_of new)
@@ -160,6 +164,7 @@ module _ {D : Type 0} where
     goes_on = record {
       stays = seat_stays load;
       keeps = loaded_keeps (view_of old) (view_of new) met (view_is load) known;
+      async = ap (λ (w : View). w.async_met) (view_is load);
     };
     log_is = loaded_log (view_of old) (view_of new) met (view_is load) known;
     has = subst (HasLocks locks) (sym (view_is load ∙ down_loaded met (view_of old))) (record {
@@ -174,7 +179,7 @@ module _ {D : Type 0} where
       → HasView (rested (view_of old)) old new → HasLocks locks (view_of old)
       → HoldsOn [] old new
   released_holds old new locks is has = steps_on old new (rested (view_of old)) is
-      (rested_keeps (view_of old) (view_of old) (same_pass (view_of old))) refl [] (record {
+      (rested_keeps (view_of old) (view_of old) (same_pass (view_of old))) refl refl [] (record {
         working = refl;
         place = has.place;
         stage = has.stage;
@@ -361,6 +366,7 @@ busy_holds old new setup body seen stays why holds = record {
   goes_on = record {
     stays = stays;
     keeps = keeps_in_vain setup body (view_of old) (view_of new) (reserving.Busy seen) why;
+    async = ap (λ (v : View). v.async_met) why.new_is;
   };
   log_is = ap (λ (v : View). log_of_pass v) why.new_is;
   has = holds_in_vain setup body (view_of old) (view_of new) every_lock holds (reserving.Busy seen)

@@ -13,6 +13,7 @@ pub record HasTriedOn {D : Type 0} (old now : SeatedPass D) : Type 0 where
   pub comes : ComesToRest old now
   pub log : log_of_pass (view_of now) ≡ log_of_pass (view_of old)
   pub down_set : (view_of now).writing.down_set ≡ (view_of old).writing.down_set
+  pub async : (view_of now).async_met ≡ (view_of old).async_met
 
 pub rests_again : {D : Type 0} → (old now new : SeatedPass D) → ComesToRest old now
     → ComesToRest now new → ComesToRest old new
@@ -27,17 +28,20 @@ first_try p rests = record {
   comes = record { same_table = refl; keeps = same_pass (view_of p); rests = rests };
   log = refl;
   down_set = refl;
+  async = refl;
 }
 
 -- nor did one more, behind which the disk is up
 pub tried_again : {D : Type 0} → (old now new : SeatedPass D) → HasTriedOn old now
     → ComesToRest now new → log_of_pass (view_of new) ≡ log_of_pass (view_of now)
-    → KnowsNoFault (view_of new) → HasTriedOn old new
-tried_again old now new tried comes same up = record {
+    → KnowsNoFault (view_of new) → (view_of new).async_met ≡ (view_of now).async_met
+    → HasTriedOn old new
+tried_again old now new tried comes same up async = record {
   comes = rests_again old now new tried.comes comes;
   log = same ∙ tried.log;
   down_set = both_up (view_of now) (view_of new)
       (up_before (view_of now) (view_of new) comes.keeps up) up ∙ tried.down_set;
+  async = async ∙ tried.async;
 }
 
 -- nor did one more, which goes on and rests
@@ -57,4 +61,5 @@ tried_in_vain_again old now new tried goes_on rests same set_none = record {
   };
   log = same;
   down_set = set_none ∙ tried.down_set;
+  async = goes_on.async ∙ tried.async;
 }

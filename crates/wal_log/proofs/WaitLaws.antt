@@ -70,6 +70,7 @@ module _ {D : Type 0} (old mid new : SeatedPass D) (p : PlacedState) where
   paused_on goes stays same = copied_on p p p old mid new goes (stood_still p mid new (record {
     stays = stays.stays;
     keeps = (stays.work).pass;
+    async = (stays.work).async;
   }) same (stays.work).working)
 
 pub paused_alone : {D : Type 0} → (mid new : SeatedPass D) (locks : List ℕ) (p : PlacedState)

@@ -46,6 +46,7 @@ watched_leaves seen watching old new rises is =
         working = refl;
         stage = refl;
         confirmed = omega arith;
+        async = refl;
       };
       log = refl;
       hold = refl;

@@ -11,6 +11,8 @@ use Rattle.found_log.specs.declared.fault.FindFault.{FindFault}
 use Rattle.found_log.specs.declared.fault.FindFault.TheVariants as finding
 use Rattle.found_log.specs.declared.finding.FoundLog.{FoundLog}
 use Rattle.wal_core.specs.declared.setup.Setup.{Setup}
+use Rattle.wal_core.specs.Behind.{place_of_found}
+use Rattle.machine_laws.specs.WholeOrders.{LiesBehind}
 use Rattle.wal_core.specs.Opened.{IsOpenable, first_view}
 use Rattle.wal_core.specs.Sound.{IsSetup}
 use Rattle.wal_core.specs.Words.{Opening}
@@ -41,7 +43,8 @@ pub record IsOpenedBehind (setup : Setup) (log : FoundLog) (moment : ℕ) (openi
     : Type 0 where
   pub setup_is : opening.setup ≡ setup
   pub moment_is : opening.moment ≡ moment
-  pub found_is : opening.found ≡ entries_found log
+  pub place_is : opening.place
+      ≡ place_of_found setup.segment_size setup.sysid (entries_found log)
 
 -- why a log was not reopened that was not found
 abbrev pub unfound_kind : FindFault → OpenFaultKind
@@ -62,6 +65,7 @@ module _ {D : Type 0} (tape : D → Option Tape) (moment faults : D → ℕ) whe
     pub opening : opening_of_log wal
         ≡ found_log_opening setup es made (opening_of_log wal).moment (faults disk)
     pub openable : IsOpenable (opening_of_log wal)
+    pub lies : LiesBehind (opening_of_log wal) es
     pub settled : HasSettled setup.segment_size found.end.0 made (tape disk)
         (began_of_table tape (table_of wal)) (moment disk) (opening_of_log wal).moment
     pub count_is : found.count ≡ length es
@@ -79,6 +83,7 @@ module _ {D : Type 0} (tape : D → Option Tape) (moment faults : D → ℕ) whe
         ≡ found_log_opening setup (entries_found log) log.made (opening_of_log wal).moment
         (faults disk)
     pub openable : IsOpenable (opening_of_log wal)
+    pub lies : LiesBehind (opening_of_log wal) (entries_found log)
     pub settled : HasSettled setup.segment_size log.spelled.end.0 log.made (tape disk)
         (began_of_table tape (table_of wal)) (moment disk) (opening_of_log wal).moment
     pub count_is : found.count ≡ log.spelled.count

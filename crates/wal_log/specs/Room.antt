@@ -7,6 +7,7 @@ use Rattle.wal_core.specs.Views.{View}
 use Rattle.wal_rule.specs.declared.seated.SeatedPass.{SeatedPass}
 use Rattle.wal_rule.specs.SeatedPasses.{setup_of, view_of}
 use Rattle.wal_rule.specs.Stepping.{Meets}
+use Rattle.word_ring.specs.Mapped.{MapsAhead}
 use Rattle.wal_log.specs.Copying.{MapsPage}
 use Rattle.wal_log.specs.Hands.{MeetsFreeWriteTurn, MeetsWriteTurn}
 use Rattle.wal_log.specs.Standing.{ComesToRest}
@@ -47,17 +48,23 @@ page_ahead setup page = page + setup.ring_pages / 2
 abbrev pub end_in_the_way : Setup → ℕ → ℕ
 end_in_the_way setup page = (page + 1 - setup.ring_pages) * 8192
 
--- all that a pass knew to be copied was written, behind which it is `written`; and since then no
--- more of it has changed than what mapping pages changes
+-- so many pages are mapped ahead at most
+abbrev pub most_ahead : ℕ
+most_ahead = 32
+
+-- all that a pass knew to be copied was written, behind which it is `written`; and then pages were
+-- mapped, as many as may be at most, unless the turn to map was somebody's, or a page that had to
+-- go from its buffer was not all written. No more has changed since than what that changes
 pub record WritesAndMaps {D : Type 0} (tape : D → Option Tape) (moment faults : D → ℕ) (upto : ℕ)
     (old new : SeatedPass D) : Type 0 where
   pub written : SeatedPass D
   pub writes : WritesCopied tape moment faults upto (view_of old) written
   pub maps : MapsPage written new
+  pub ahead : MapsAhead (setup_of written) most_ahead (view_of written) (view_of new)
 
 -- room was made for a page: it was met mapped; or not, and then the turn to write was taken, or a
 -- lock's holder had not copied up to the end of the page in the way, or all that was known to be
--- copied was written
+-- copied was written, and pages were mapped
 abbrev pub MakesRoom : {D : Type 0} → (D → Option Tape) → (moment faults : D → ℕ) → (page : ℕ)
     → (old new : SeatedPass D) → Type 0
 MakesRoom tape moment faults page old new = MeetsMapped (setup_of old) page (view_of old)

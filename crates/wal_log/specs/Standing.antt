@@ -28,13 +28,15 @@ pub record KeepsPass (old new : View) : Type 0 where
   pub counts : old.async_met ≤ new.async_met
   pub down : (faults : ℕ) → KnowsDown faults old → KnowsDown faults new
 
--- and it is about what it was about: a place, locks and an entry, and a page that it maps
+-- and it is about what it was about: a place, locks and an entry, and a page that it maps; and it
+-- has met no other async address
 pub record KeepsWork (old new : View) : Type 0 where
   pub pass : KeepsPass old new
   pub place : (new.reserving).place ≡ (old.reserving).place
   pub working : new.working ≡ old.working
   pub stage : (new.mapping).stage ≡ (old.mapping).stage
   pub confirmed : (old.mapping).confirmed ≤ (new.mapping).confirmed
+  pub async : new.async_met ≡ old.async_met
 
 -- ---- what it is about, by its view
 
@@ -90,10 +92,11 @@ pub record HasNoTurn {D : Type 0} (p : SeatedPass D) : Type 0 where
 
 -- ---- what stays of it at its table
 
--- it goes on with what it had in hand, and keeps what a pass keeps
+-- it goes on with what it had in hand, keeps what a pass keeps, and has met no other async address
 pub record GoesOnSeated {D : Type 0} (old new : SeatedPass D) : Type 0 where
   pub stays : StaysSeated old new
   pub keeps : KeepsPass (view_of old) (view_of new)
+  pub async : (view_of new).async_met ≡ (view_of old).async_met
 
 -- it keeps what a pass keeps, and stands at rest
 pub record ComesToRest {D : Type 0} (old new : SeatedPass D) : Type 0 where

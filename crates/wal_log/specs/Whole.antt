@@ -13,7 +13,7 @@ use Rattle.wal_log.specs.Standing.{KeepsPass}
 pub record StandsWhole (v : View) (e : Entry) : Type 0 where
   pub stands : Stands v
   pub in_order : Contains (stands.sound).order e
-  pub words : IsCopiedWhole (v.opening).setup (stands.sound).order stands.words e
+  pub words : IsCopiedWhole v.opening (stands.sound).order stands.words e
 
 -- a pass that had this view before a call, and has that one behind it, had the entry in flight in
 -- between, with each of its words copied: it stood whole then

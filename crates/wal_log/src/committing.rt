@@ -65,6 +65,8 @@ impl<D: Disk> Wal<D> {
             → result ≡ commit_known_down faults }
         // However it ends, the pass is about nothing, with its numbers and all that it had seen.
         ensures keeps { KeepsPass (view_of_pass pass.old) (view_of_pass pass.new) }
+        // It meets no async address: that is raised by `commit_async` alone.
+        ensures async_met { (view_of_pass pass.new).async_met ≡ (view_of_pass pass.old).async_met }
         ensures pass { IsPassOfLog self.now pass.new }
     {
         let mut seated = pass.seat(&self.table);
@@ -94,6 +96,7 @@ fn commit_on<'p, D: Disk, R: Wait>(
         HasNoted sealed.start.0 sealed.end company.old company.new) }
     ensures down_again { (faults : _) → KnowsDown faults (view_of seated.old)
         → result ≡ commit_known_down faults }
+    ensures async_met { (view_of seated.new).async_met ≡ (view_of seated.old).async_met }
     ensures rests { ComesToRest seated.old seated.new }
 {
     let Receipt { start, end } = insert_on(rt, seated, company, body)?;

@@ -172,6 +172,7 @@ pub(crate) fn flush_in_company<'p, D: Disk, R: Wait>(
 ) -> Result<Hard, FlushErr>
     requires rests { StandsAtRest seated.old }
     ensures flushes { AnswersFlush upto.0 (view_of seated.old) result (view_of seated.new) }
+    ensures async_met { (view_of seated.new).async_met ≡ (view_of seated.old).async_met }
     ensures rests { ComesToRest seated.old seated.new }
 {
     gather(seated, is_in_company);
@@ -193,6 +194,7 @@ pub(crate) fn flush_on<'p, D: Disk, R: Wait>(
     ensures unreserved { JudgesFlush upto.0 (view_of seated.old) result }
     ensures down_again { (faults : _) → KnowsDown faults (view_of seated.old)
         → result ≡ flush_err_known_down faults }
+    ensures async_met { (view_of seated.new).async_met ≡ (view_of seated.old).async_met }
     ensures rests { ComesToRest seated.old seated.new }
 {
     let mut patience = Patience::new();
@@ -275,6 +277,7 @@ fn try_flush<'p, D: Disk>(seated: &mut SeatedPass<'p, D>, upto: Lsn) -> Result<H
     ensures unreserved { JudgesFlushTry upto.0 (view_of seated.old) result }
     ensures down_again { (faults : _) → KnowsDown faults (view_of seated.old)
         → result ≡ try_flush_err_known_down faults }
+    ensures async_met { (view_of seated.new).async_met ≡ (view_of seated.old).async_met }
     ensures rests { ComesToRest seated.old seated.new }
 {
     let faults = seated.load_down();

@@ -89,6 +89,8 @@ impl<D: Disk> Wal<D> {
             → result ≡ Err (Down faults None) }
         // However it ends, the pass is about nothing, with its numbers and all that it had seen.
         ensures keeps { KeepsPass (view_of_pass pass.old) (view_of_pass pass.new) }
+        // It meets no async address: that is raised by `commit_async` alone.
+        ensures async_met { (view_of_pass pass.new).async_met ≡ (view_of_pass pass.old).async_met }
         ensures pass { IsPassOfLog self.now pass.new }
     {
         let mut seated = pass.seat(&self.table);
@@ -126,6 +128,7 @@ pub(crate) fn insert_on<'p, D: Disk, R: Wait>(
         receipt) }
     ensures down_again { (faults : _) → KnowsDown faults (view_of seated.old)
         → result ≡ Err (Down faults None) }
+    ensures async_met { (view_of seated.new).async_met ≡ (view_of seated.old).async_met }
     ensures rests { ComesToRest seated.old seated.new }
 {
     let mut begun = begin(rt, seated, body)?;

@@ -56,6 +56,7 @@ pub(crate) fn land<'p, 'a, D: Disk, R: Wait>(
         → IfOk result (λ _. CopiesLast (view_of seated.old) (view_of seated.new) e) }
     // The pass is about nothing, and its log is as it was.
     ensures log { log_of_pass (view_of seated.new) ≡ log_of_pass (view_of seated.old) }
+    ensures async_met { (view_of seated.new).async_met ≡ (view_of seated.old).async_met }
     ensures rests { ComesToRest seated.old seated.new }
 {
     match copy_whole(rt, seated, held, end, placed) {
@@ -100,6 +101,7 @@ pub(crate) fn land_and_make_room<'p, 'a, D: Disk, R: Wait>(
         → IfOk result (λ _. MakesRoomBehind D.tape D.moment D.faults
         (page_ahead (setup_of seated.old) (placed.old.next / 8192)) seated.old seated.new) }
     ensures log { log_of_pass (view_of seated.new) ≡ log_of_pass (view_of seated.old) }
+    ensures async_met { (view_of seated.new).async_met ≡ (view_of seated.old).async_met }
     ensures rests { ComesToRest seated.old seated.new }
 {
     let page = placed.next_lsn().0 / PAGE_SIZE;

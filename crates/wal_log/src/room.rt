@@ -39,10 +39,11 @@ pub(crate) fn make_room<'p, D: Disk>(seated: &mut SeatedPass<'p, D>, page: u64) 
     ensures ends { MatchResult result (λ _. KnowsNoFault (view_of seated.new))
         (λ e. MeetsFault (view_of seated.old) (view_of seated.new) e) }
     // At Ok the page half a ring behind was met mapped, or somebody or a copy was in the way, or
-    // all that it knew to be copied is written. Whether pages were mapped then is in no clause.
+    // all that it knew to be copied is written and pages are mapped, as far as they may be.
     ensures makes { IfOk result (λ _. MakesRoom D.tape D.moment D.faults
         (page_ahead (setup_of seated.old) page) seated.old seated.new) }
     ensures log { log_of_pass (view_of seated.new) ≡ log_of_pass (view_of seated.old) }
+    ensures async_met { (view_of seated.new).async_met ≡ (view_of seated.old).async_met }
     ensures rests { ComesToRest seated.old seated.new }
 {
     let pages = u64::from(seated.shape().ring_pages());

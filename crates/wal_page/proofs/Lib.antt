@@ -12,4 +12,5 @@ pub mod OwnerLaws
 pub mod EntryWordLaws
 pub mod LogByteLaws
 pub mod LogWordLaws
+pub mod PlaceLaws
 mod PageRows

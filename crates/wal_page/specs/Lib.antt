@@ -4,3 +4,4 @@ pub mod Log
 pub mod LogPage
 pub mod Placed
 pub mod EntryWords
+pub mod LogPlace

@@ -15,6 +15,7 @@ ghost use Rattle.wal_page.specs.Page.{header_size};
 ghost use Rattle.wal_page.specs.Log.{bytes_of_entry, log_byte, log_word, owner_at, stream_of};
 ghost use Rattle.wal_page.specs.LogPage.{IsLogPage};
 ghost use Rattle.wal_page.specs.Placed.{Owns, entry_word, header_word};
+ghost use Rattle.wal_page.specs.LogPlace.{LogPlace, end_from, new_place, word_below, word_from};
 
 /// What an entry adds to the order that it follows: its room, its start as the next record's one
 /// before, its bytes.
@@ -146,4 +147,40 @@ pub fn words_and_pages_are_their_bytes()
         → IsChained size es → length bytes ≡ 8192 → All (λ b. b < 256) bytes → ((n : ℕ) → n < 1024
         → word_at bytes n ≡ log_word size sysid es (page * 8192 + 8 * n))
         → IsLogPage size sysid es page bytes }
+{}
+
+/// A log that goes on at a place: its words below the place are as they are, and from there on each
+/// is the one that its owner gives, 0 behind the last. Behind entries that are found, with their
+/// words below, those that follow give the words that all give together; so from a new log's place
+/// on they give the words of a new log.
+pub fn logs_go_on_at_a_place()
+    ensures below { (size sysid : ℕ) (place : LogPlace) (es : List Entry) (address : ℕ)
+        → IsSegmentSize size → address < end_address_of size place.position
+        → word_from size sysid place es address ≡ word_below size place address }
+    ensures entry { (size sysid : ℕ) (place : LogPlace) (front back : List Entry) (e : Entry)
+        → IsSegmentSize size → FollowsFrom size place.position (front ++ e ∷ back) → (address : ℕ)
+        → Owns size (assembled e.value) e.start address
+        → word_from size sysid place (front ++ e ∷ back) address
+        ≡ entry_word size sysid (assembled e.value) e.start (prev_of size place.prev front)
+        address }
+    ensures further { (size sysid : ℕ) (place : LogPlace) (es : List Entry) (e : Entry)
+        → IsSegmentSize size → FollowsFrom size place.position es
+        → e.start ≡ end_from size place es → (address : ℕ)
+        → ¬ Owns size (assembled e.value) e.start address
+        → word_from size sysid place (es ++ e ∷ []) address
+        ≡ word_from size sysid place es address }
+    ensures behind { (size sysid : ℕ) (place : LogPlace) (es : List Entry) (address : ℕ)
+        → IsSegmentSize size → FollowsFrom size place.position es
+        → end_address_of size (end_from size place es) ≤ address
+        → word_from size sysid place es address ≡ 0 }
+    ensures found { (size sysid : ℕ) (place : LogPlace) (found es : List Entry)
+        → IsSegmentSize size → IsChained size (found ++ es)
+        → place.position ≡ end_position size found → place.prev ≡ prev_of size 0 found
+        → ((address : ℕ) → address % 8 ≡ 0 → address < end_address_of size place.position
+        → word_below size place address ≡ log_word size sysid found address)
+        → (address : ℕ) → address % 8 ≡ 0
+        → word_from size sysid place es address ≡ log_word size sysid (found ++ es) address }
+    ensures fresh { (size sysid : ℕ) (es : List Entry) (address : ℕ) → IsSegmentSize size
+        → IsChained size es → address % 8 ≡ 0
+        → word_from size sysid (new_place size) es address ≡ log_word size sysid es address }
 {}

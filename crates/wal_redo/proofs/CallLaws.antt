@@ -8,7 +8,7 @@ use Rattle.wal_redo.specs.declared.blocks.PutErr.TheVariants as putting
 use Rattle.wal_redo.specs.declared.redoing.RedoErr.{RedoErr}
 use Rattle.wal_redo.specs.declared.redoing.RedoErr.TheVariants as redoing
 use Rattle.wal_redo.specs.BlockMap.{PagePut}
-use Rattle.wal_redo.specs.Calls.{CallsAll, CallsFront, CallsPuts, CallsRedo, CallsUpTo, PutCall, done_call, with_put}
+use Rattle.wal_redo.specs.Calls.{CallsAll, CallsFront, CallsPuts, CallsRedo, CallsUpTo, PutCall, done_call, with_put_call}
 
 pub CallsAll-none : (calls : List PutCall) → CallsAll calls calls []
 CallsAll-none calls = sym (append-nil calls)
@@ -21,7 +21,7 @@ CallsAll-more old between new puts others called then_called =
     ∙ ap (λ (calls : List PutCall). old ++ calls) (sym (map-append done_call puts others))
 
 -- the first of these puts was refused
-pub CallsUpTo-first : (old : List PutCall) (new : List PutCall) (error : PutErr) (block : BlockId) (page : List ℕ) → new ≡ with_put old block page (Err error) → CallsUpTo old new error (record { block = block; page = page } ∷ [])
+pub CallsUpTo-first : (old : List PutCall) (new : List PutCall) (error : PutErr) (block : BlockId) (page : List ℕ) → new ≡ with_put_call old block page (Err error) → CallsUpTo old new error (record { block = block; page = page } ∷ [])
 CallsUpTo-first old new error block page last = record {
   front = [];
   refused = record { block = block; page = page };

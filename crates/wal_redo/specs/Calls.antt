@@ -19,8 +19,8 @@ pub record PutCall : Type 0 where
   pub answer : Result Unit PutErr
 
 -- calls, with one more behind them
-abbrev pub with_put : List PutCall → BlockId → List ℕ → Result Unit PutErr → List PutCall
-with_put calls block page answer =
+abbrev pub with_put_call : List PutCall → BlockId → List ℕ → Result Unit PutErr → List PutCall
+with_put_call calls block page answer =
     calls ++ record { put = record { block = block; page = page }; answer = answer } ∷ []
 
 -- a call that was answered Ok
@@ -46,7 +46,7 @@ pub record CallsUpTo (old new : List PutCall) (error : PutErr) (puts : List Page
   pub parts : puts ≡ front ++ refused ∷ rest
   pub between : List PutCall
   pub called : CallsAll old between front
-  pub last : new ≡ with_put between refused.block refused.page (Err error)
+  pub last : new ≡ with_put_call between refused.block refused.page (Err error)
 
 -- the calls of puts that are made one behind another, by how they ended
 abbrev pub CallsPuts : List PutCall → List PutCall → List PagePut → Result ℕ RedoErr → Type 0

@@ -3,7 +3,7 @@
 // (`cause`). Each put is noted once, with its answer, behind those before (`called`).
 ghost use Rattle.std.specs.Prelude.{◌≡◌, ℕ, ◌≤◌, Bool, false, IfSome, IsTrue, List, Option, OnErr, OnOk};
 ghost use Rattle.wal_redo.specs.BlockMap.{BlockMap, IsFinite, told_with};
-ghost use Rattle.wal_redo.specs.Calls.{PutCall, with_put};
+ghost use Rattle.wal_redo.specs.Calls.{PutCall, with_put_call};
 ghost use Rattle.wal_redo.specs.Redo.{HasPutCause, is_failed};
 
 use crate::block_id::BlockId;
@@ -38,7 +38,7 @@ pub trait Blocks {
     fn put(&mut self, alloc: Global, block: BlockId, page: &[u8; 8192]) -> Result<(), PutErr>
         ensures put { OnOk result (pages self.new ≡ told_with (pages self.old) block page.now) }
         ensures refused { OnErr result (pages self.new ≡ pages self.old) }
-        ensures called { calls self.new ≡ with_put (calls self.old) block page.now result }
+        ensures called { calls self.new ≡ with_put_call (calls self.old) block page.now result }
         ensures cause { HasPutCause (faults self.old) (faults self.new) result }
         ensures never { IsTrue (never_fails self.old)
             → (is_failed result ≡ false) × IsTrue (never_fails self.new) };

@@ -111,7 +111,7 @@ impl MemBlocks {
 
 impl Blocks for MemBlocks {
     ghost use Rattle.wal_redo.specs.BlockMap.{BlockMap, told_with};
-    ghost use Rattle.wal_redo.specs.Calls.{with_put};
+    ghost use Rattle.wal_redo.specs.Calls.{with_put_call};
     ghost use Rattle.wal_redo.specs.MemBlocks.{lists_none, pages_told, pages_told-finite, puts_failing};
     ghost use Rattle.wal_redo.specs.Redo.{HasPutCause, is_failed};
 
@@ -128,7 +128,7 @@ impl Blocks for MemBlocks {
             (pages_told self.new ≡ told_with (pages_told self.old) block page.now) }
         ensures refused { OnErr result (pages_told self.new ≡ pages_told self.old) }
         ensures called { self.new.calls.calls
-            ≡ with_put self.old.calls.calls block page.now result }
+            ≡ with_put_call self.old.calls.calls block page.now result }
         ensures cause { HasPutCause self.old.faults self.new.faults result }
         ensures never { IsTrue (lists_none self.old)
             → (is_failed result ≡ false) × IsTrue (lists_none self.new) }

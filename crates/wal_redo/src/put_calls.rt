@@ -1,7 +1,7 @@
 //! The puts that were asked of a store, which clauses alone read.
 ghost use Rattle.std.specs.Prelude.{◌≡◌, List, []};
 ghost use Rattle.std.specs.Borrow.{ftrue};
-ghost use Rattle.wal_redo.specs.Calls.{PutCall, with_put};
+ghost use Rattle.wal_redo.specs.Calls.{PutCall, with_put_call};
 
 use crate::block_id::BlockId;
 use crate::blocks::PutErr;
@@ -38,7 +38,7 @@ impl PutCalls {
 
     /// With one more behind them.
     pub fn with(&self, block: BlockId, page: &[u8; 8192], answer: Result<(), PutErr>) -> PutCalls
-        ensures { result.calls ≡ with_put self.now.calls block page.now answer }
+        ensures { result.calls ≡ with_put_call self.now.calls block page.now answer }
     {
         self.with_picked::<Brand>(block, page, answer)
     }

@@ -57,7 +57,7 @@ module _ (v : View) (met : ℕ) where
       let holds = (s.sound).reserved in
       let part = holds.views s.id v.reserving
       (at_map reserving_of s.views s.id v s.here) live in
-      let end = unlocked-is setup (v.opening).found (s.sound).order (position_word s.words)
+      let end = unlocked-is v.opening (s.sound).order (position_word s.words)
       (prev_word s.words) (map reserving_of s.views) holds ((s.sound).setup_is).size in
       let low = limit_low setup (s.sound).setup_is in
       let met_is : met ≡ position_word s.words = m.met_is in (

@@ -1,6 +1,6 @@
 -- A tape that goes on from the one at the opening tells what the disk held then.
 use Rattle.std.specs.Prelude.{IfSome}
-use Rattle.std.proofs.Common.{◌≡◌, ℕ, ◌≤◌, List, ◌++◌, length, take, sym, ap, ◌∙◌, subst, Some, None, arith}
+use Rattle.std.proofs.Common.{◌≡◌, [], ℕ, ◌≤◌, List, ◌++◌, length, take, sym, ap, ◌∙◌, subst, Some, None, arith}
 use Rattle.std.proofs.Math.Seq.{take-append_seam}
 use Rattle.segment_disk.specs.declared.disk.Call.{Call}
 use Rattle.segment_disk.specs.Assured.{SegmentAssures}
@@ -25,7 +25,7 @@ none_assures : (opening : Opening) → opening.made ≡ 0 → (state : DiskState
     → ((n : ℕ) → state n ≡ None) → IsSuited opening state
 none_assures opening none_made state none_there = λ n. subst
     (SegmentAssures (opening.setup).segment_size
-    (λ segment. (1 ≤ segment) × (segment ≤ opening.made)) (IsLogAt opening.setup opening.found) n)
+    (λ segment. (1 ≤ segment) × (segment ≤ opening.made)) (IsLogAt opening []) n)
     (sym (none_there n)) (λ made. omega (arith, none_made, made.0, made.1))
 
 -- what a disk held at the opening that a log may go on on

@@ -6,15 +6,23 @@ use Rattle.segment_disk.specs.Tape.{Tape}
 use Rattle.flush_core.specs.Planned.{settled_tape}
 use Rattle.wal_page.specs.Order.{Entry}
 use Rattle.wal_core.specs.declared.setup.Setup.{Setup}
+use Rattle.wal_core.specs.Behind.{place_of_found}
 use Rattle.wal_core.specs.Views.{Plain}
 use Rattle.wal_core.specs.Words.{Opening, found_end}
 use Rattle.wal_rule.specs.declared.seats.Founding.{Founding}
 use Rattle.wal_rule.specs.Slotted.{resting_plain}
 
--- what is fixed of a log in which these entries were found, in segments from 1 up to the last made
+-- what is fixed of a log that goes on behind these entries, which were found in segments from 1 up
+-- to the last made
 abbrev pub found_log_opening : Setup → List Entry → (made moment faults : ℕ) → Opening
 found_log_opening setup found made moment faults =
-    record { setup = setup; found = found; made = made; moment = moment; faults = faults }
+    record {
+      setup = setup;
+      place = place_of_found setup.segment_size setup.sysid found;
+      made = made;
+      moment = moment;
+      faults = faults;
+    }
 
 -- .. and of one that holds nothing
 abbrev pub empty_log_opening : Setup → (moment faults : ℕ) → Opening

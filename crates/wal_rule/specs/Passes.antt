@@ -17,7 +17,7 @@ no_view = first_view (record {
     sysid = 0;
     passes = 0;
   };
-  found = [];
+  place = record { position = 0; prev = 0; below = [] };
   made = 0;
   moment = 0;
   faults = 0;

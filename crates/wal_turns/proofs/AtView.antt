@@ -5,9 +5,8 @@ use Rattle.std.proofs.Math.Dec.{ltb}
 use Rattle.std.proofs.lemmas.Bool.{cases_eq}
 use mathlib.Core.Option.{Option, none, some, some-injective, some-ne-none}
 use Rattle.byte_position.specs.Geometry.{IsSegmentSize}
-use Rattle.wal_page.specs.Order.{end_position}
-use Rattle.wal_page.proofs.OwnerLaws.{end_position-whole}
-use Rattle.wal_core.specs.Words.{Opening, down_word, lock_word, write_turn}
+use Rattle.wal_page.proofs.PlaceLaws.{end-whole_from}
+use Rattle.wal_core.specs.Words.{Opening, down_word, lock_word, write_turn, order_end}
 use Rattle.wal_core.specs.Views.{Place, Free, Locked, Loaded, Stored, Stage, Away, Taken, Looked, Ready, Zeroing, Published, Plain, Lent, Hold, Turned as HasTurned, Out, View, reserving_of, writer_of, receipts_of}
 use Rattle.wal_core.specs.Ordered.{AtPlace}
 use Rattle.wal_core.specs.Locked.{StandsTo}
@@ -95,12 +94,13 @@ module _ (m : Machine) (run : IsRunning m) (number : ℕ) (v : View)
 
   -- ---- the position
 
-  whole_end : (at : ℕ) → at ≡ end_position size sound.order → at % 8 ≡ 0
+  whole_end : (at : ℕ) → at ≡ order_end v.opening sound.order → at % 8 ≡ 0
   whole_end at is =
-      ap (λ n. n % 8) is ∙ end_position-whole size valid sound.order (sound.reserved).chained
+      ap (λ n. n % 8) is ∙ end-whole_from size valid ((v.opening).place).position sound.order
+      (sound.reserved).chained ((sound.reserved).placed).whole
 
   whole_at : (p : Place) (last prev locked holder : ℕ)
-      → AtPlace size (end_position size sound.order) last prev locked holder id p
+      → AtPlace size (order_end v.opening sound.order) last prev locked holder id p
       → IsPlaceWhole m ask p
   whole_at Free last prev locked holder s = tt
   whole_at (Locked at) last prev locked holder s = whole_end at s.2

@@ -28,14 +28,14 @@ module _ (v : View) (stands : Stands v) (c : Copy) (is : (v.working).flight ≡ 
   abbrev setup : Setup
   setup = (v.opening).setup
 
-  of_order : IsOfOrder setup.segment_size (stands.sound).order c
+  of_order : IsOfOrder v.opening (stands.sound).order c
   of_order = ((stands.sound).ring).in_flight stands.id c
       (subst (λ (f : Flight). HasAt (map flight_of stands.views) stands.id f) is
       (at_map flight_of stands.views stands.id v stands.here))
 
   whole : (c.entry).start % 8 ≡ 0
-  whole = copy-whole setup.segment_size (((stands.sound).setup_is).size) (stands.sound).order
-      ((stands.sound).reserved).chained c of_order
+  whole = copy-whole v.opening ((stands.sound).setup_is).size ((stands.sound).reserved).placed
+      (stands.sound).order ((stands.sound).reserved).chained c of_order
 
   module _ (p : PlacedState) (rest : p ≡ rest_of setup c) where
     next_is : p.next ≡ address_of_word setup.segment_size c.entry c.copied

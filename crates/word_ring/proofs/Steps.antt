@@ -1,18 +1,19 @@
 -- What several steps leave of a pass, as one plain update of the view before the first.
-use Rattle.std.proofs.Common.{◌≡◌, ℕ, ◌+◌, ◌*◌, ◌≤◌, max, List, refl, sym, ap, ◌∙◌, subst, arith}
+use Rattle.std.proofs.Common.{◌≡◌, ◌≢◌, ℕ, ◌+◌, ◌*◌, ◌<◌, ◌≤◌, suc, max, List, inl, inr, refl, sym, ap, ◌∙◌, subst, arith}
 use Rattle.std.specs.Borrow.{Bor}
 use mathlib.Core.Option.{none}
 use Rattle.wal_rule.specs.declared.seated.SeatedPass.{SeatedPass}
 use Rattle.wal_rule.specs.declared.table.LogTable.{LogTable}
 use Rattle.wal_rule.specs.declared.writer.LogWriter.{LogWriter}
 use Rattle.wal_rule.specs.SeatedPasses.{HasView, Steps, hand_of, setup_of, view_of}
+use Rattle.wal_rule.specs.Stepping.{Meets}
 use Rattle.wal_rule.specs.Tables.{setup_of_table}
 use Rattle.wal_core.specs.Views.{Away, Published, Ready, Stage, Taken, Zeroing, View}
-use Rattle.wal_core.specs.Steps.{buffer_of, clear_end, page_mapped, publish_end, publish_initialised_end, ring_number, view_behind, word_of_step, words_zeroed, zero_ring_word}
+use Rattle.wal_core.specs.Steps.{buffer_of, clear_end, page_mapped, publish_end, publish_initialised_end, ring_number, take_mapping_turn, view_behind, word_of_step, words_zeroed, zero_ring_word}
 use Rattle.wal_core.specs.Words.{Opening}
 use Rattle.wal_core.specs.declared.setup.Setup.{Setup}
 use Rattle.word_ring.specs.Ring.{confirmed_view}
-use Rattle.word_ring.specs.Mapped.{MapsOn, further_view, looked_view, staged_view}
+use Rattle.word_ring.specs.Mapped.{IsOldPageUnwritten, LooksAt, MapsAhead, MapsMany, MapsOn, MapsPages, further_view, looked_view, staged_view}
 
 pub at_stage : (v : View) (s : Stage) → (v.mapping).stage ≡ s → v ≡ staged_view s v
 at_stage v s is = ap (λ (t : Stage). staged_view t v) is
@@ -169,13 +170,14 @@ module _ {D : Type 0} (p : SeatedPass D) where
   first = view_of p
 
   -- with the turn had, so many pages were mapped
-  pub record MappedSome (q : SeatedPass D) : Type 0 where
+  pub record MappedSome (count : ℕ) (q : SeatedPass D) : Type 0 where
     pub confirmed : ℕ
     pub written : ℕ
     pub rises : (first.mapping).confirmed ≤ confirmed
     pub view : HasView (staged_view Taken (further_view confirmed written first)) p q
+    pub pages : MapsPages (setup_of p) count first (view_of q)
 
-  pub mapped_none : (first.mapping).stage ≡ Taken → MappedSome p
+  pub mapped_none : (first.mapping).stage ≡ Taken → MappedSome 0 p
   mapped_none is = record {
     confirmed = (first.mapping).confirmed;
     written = (first.writing).written;
@@ -184,11 +186,18 @@ module _ {D : Type 0} (p : SeatedPass D) where
       same_table = refl;
       me_is = ap (λ (w : View). (w, hand_of p)) (at_stage first Taken is);
     };
+    pages = refl;
   }
 
-  module _ (q looked left : SeatedPass D) (some : MappedSome q) (at written : ℕ)
+  pub still_taken : (count : ℕ) (q : SeatedPass D) → MappedSome count q
+      → (view_of q).mapping.stage ≡ Taken
+  still_taken count q some = ap (λ (w : View). w.mapping.stage)
+      (view_is (staged_view Taken (further_view some.confirmed some.written first)) p q some.view)
+
+  module _ (count : ℕ) (q looked left : SeatedPass D) (some : MappedSome count q)
+      (at written : ℕ)
       (by_look : HasView (staged_view (Ready at written) (looked_view at written (view_of q)))
-      q looked) where
+      q looked) (looks : LooksAt (view_of q) at written) where
     behind_look : HasView (staged_view (Ready at written)
         (further_view (max some.confirmed at) written first)) p looked
     behind_look =
@@ -196,10 +205,18 @@ module _ {D : Type 0} (p : SeatedPass D) where
         (staged_view Taken (further_view some.confirmed some.written first)) p q looked some.view
         by_look
 
+    looked_is : view_of looked ≡ staged_view (Ready at written) (looked_view at written (view_of q))
+    looked_is = view_is (staged_view (Ready at written) (looked_view at written (view_of q)))
+        q looked by_look
+
+    one_more : suc count ≡ count + 1
+    one_more = omega arith
+
     -- one more was
     pub mapped_more : HasView (confirmed_view (at + 8192) (staged_view Taken (view_of looked)))
-        looked left → MappedSome left
-    mapped_more by_replace = record {
+        looked left → (IsOldPageUnwritten (setup_of p) at written → ⊥)
+        → MappedSome (count + 1) left
+    mapped_more by_replace may = record {
       confirmed = max (max some.confirmed at) (at + 8192);
       written = written;
       rises = (let rises = some.rises in omega (arith, rises));
@@ -207,7 +224,48 @@ module _ {D : Type 0} (p : SeatedPass D) where
           (staged_view (Ready at written)
           (further_view (max some.confirmed at) written first)) p looked left behind_look
           by_replace;
+      pages = subst (λ (n : ℕ). MapsPages (setup_of p) n first (view_of left)) one_more (
+        view_of q,
+        some.pages,
+        record {
+          at = at;
+          written = written;
+          looks = looks;
+          may = may;
+          view_is = view_is (confirmed_view (at + 8192) (staged_view Taken (view_of looked)))
+              looked left by_replace
+              ∙ ap (λ (w : View). confirmed_view (at + 8192) (staged_view Taken w)) looked_is
+              ∙ ap (λ (w : View). confirmed_view (at + 8192) (looked_view at written w))
+              (sym (at_stage (view_of q) Taken (still_taken count q some)));
+        },
+      );
     }
+
+    -- or a page was met that was not all written
+    pub ended_early : (most : ℕ) → count < most → IsOldPageUnwritten (setup_of p) at written
+        → HasView (staged_view Away (view_of looked)) looked left
+        → (last : View) × MapsMany (setup_of p) most first last
+        × (view_of left ≡ staged_view Away last)
+    ended_early most fewer old_page by_release = (
+      looked_view at written (view_of q),
+      record {
+        count = count;
+        last = view_of q;
+        pages = some.pages;
+        ends = inr (
+          fewer,
+          record {
+            at = at;
+            written = written;
+            looks = looks;
+            old_page = old_page;
+            view_is = refl;
+          },
+        );
+      },
+      view_is (staged_view Away (view_of looked)) looked left by_release
+          ∙ ap (staged_view Away) looked_is,
+    )
 
     -- or none, and the turn was given back
     pub mapped_no_more : HasView (staged_view Away (view_of looked)) looked left
@@ -223,17 +281,32 @@ module _ {D : Type 0} (p : SeatedPass D) where
     )
 
   -- so many pages as were asked for were mapped, and the turn was given back
-  pub mapped_all : (q left : SeatedPass D) → MappedSome q
+  pub mapped_all : (count : ℕ) (q left : SeatedPass D) → MappedSome count q
       → HasView (staged_view Away (view_of q)) q left
       → (confirmed loaded : ℕ) × ((first.mapping).confirmed ≤ confirmed)
       × HasView (staged_view Away (further_view confirmed loaded first)) p left
-  mapped_all q left some by_release = (
+  mapped_all count q left some by_release = (
     some.confirmed,
     some.written,
     some.rises,
     then_view (staged_view Away)
         (staged_view Taken (further_view some.confirmed some.written first)) p q left some.view
         by_release,
+  )
+
+  pub ended_at_most : (count most : ℕ) (q left : SeatedPass D) → MappedSome count q
+      → count ≡ most → HasView (staged_view Away (view_of q)) q left
+      → (last : View) × MapsMany (setup_of p) most first last
+      × (view_of left ≡ staged_view Away last)
+  ended_at_most count most q left some all by_release = (
+    view_of q,
+    record {
+      count = count;
+      last = view_of q;
+      pages = some.pages;
+      ends = inl (all, refl);
+    },
+    view_is (staged_view Away (view_of q)) q left by_release,
   )
 
 -- ---- beside somebody else's turn, and with the turn had
@@ -262,3 +335,26 @@ maps_with_turn p taken left is by_take (confirmed, written, rises, by_map) =
           ∙ ap (λ (w : View). staged_view Away (further_view confirmed written w)) took
           ∙ ap (further_view confirmed written) (sym (at_stage (view_of p) Away is));
     }
+
+-- as far as the turn to map
+pub maps_beside_turn : {D : Type 0} (p left : SeatedPass D) (most turn : ℕ) → turn ≢ 0
+    → Meets (view_of p) take_mapping_turn turn → view_of left ≡ view_of p
+    → MapsAhead (setup_of p) most (view_of p) (view_of left)
+maps_beside_turn p left most turn some met same = inl (turn, some, met, same)
+
+pub maps_ahead : {D : Type 0} (p taken left : SeatedPass D) (most turn : ℕ) → turn ≡ 0
+    → Meets (view_of p) take_mapping_turn turn → HasView (staged_view Taken (view_of p)) p taken
+    → ((last : View) × MapsMany (setup_of taken) most (view_of taken) last
+    × (view_of left ≡ staged_view Away last))
+    → MapsAhead (setup_of p) most (view_of p) (view_of left)
+maps_ahead p taken left most turn free met by_take (last, many, is) = inr (
+  subst (λ (n : ℕ). Meets (view_of p) take_mapping_turn n) free met,
+  (
+    last,
+    subst (λ (v : View). MapsMany (setup_of p) most v last)
+        (view_is (staged_view Taken (view_of p)) p taken by_take)
+        (subst (λ (s : Setup). MapsMany s most (view_of taken) last)
+        (same_setup p taken by_take.same_table) many),
+    is,
+  ),
+)

@@ -1,5 +1,5 @@
--- A try to map the next page: what it leaves of its pass's view, and when it maps none.
-use Rattle.std.specs.Prelude.{◌≡◌, ◌≢◌, ℕ, ◌+◌, ◌*◌, ◌<◌, ◌≤◌}
+-- A try to map the next page, or several: what it leaves of its pass's view, and when it maps none.
+use Rattle.std.specs.Prelude.{◌≡◌, ◌≢◌, ◌⊎◌, ℕ, ◌+◌, ◌*◌, ◌<◌, ◌≤◌, zero, suc}
 use mathlib.Core.Option.{none}
 use Rattle.wal_core.specs.declared.setup.Setup.{Setup}
 use Rattle.wal_core.specs.Views.{Stage, View}
@@ -66,3 +66,43 @@ TriesMapping setup page old new Mapped = (at written : ℕ) × (at < end_of_page
     × (new ≡ confirmed_view (at + 8192) (looked_view at written old))
     × LooksAt (staged_view stages.Taken old) at written
     × (IsOldPageUnwritten setup at written → ⊥)
+
+-- ---- several pages under one turn
+
+-- with the turn to map had, a page was mapped: the initialised end and the written address were
+-- met, and the page in its buffer was all written
+pub record MapsOne (setup : Setup) (old new : View) : Type 0 where
+  pub at : ℕ
+  pub written : ℕ
+  pub looks : LooksAt old at written
+  pub may : IsOldPageUnwritten setup at written → ⊥
+  pub view_is : new ≡ confirmed_view (at + 8192) (looked_view at written old)
+
+-- so many were, one behind another
+abbrev pub MapsPages : Setup → (count : ℕ) → (old new : View) → Type 0
+MapsPages setup zero old new = new ≡ old
+MapsPages setup (suc n) old new = (mid : View) × MapsPages setup n old mid × MapsOne setup mid new
+
+-- none was, since the page in its buffer was met not all written
+pub record MeetsOldPage (setup : Setup) (old new : View) : Type 0 where
+  pub at : ℕ
+  pub written : ℕ
+  pub looks : LooksAt old at written
+  pub old_page : IsOldPageUnwritten setup at written
+  pub view_is : new ≡ looked_view at written old
+
+-- pages were mapped: as many as were asked for, or fewer, and then an old page was met that was
+-- not all written
+pub record MapsMany (setup : Setup) (most : ℕ) (old new : View) : Type 0 where
+  pub count : ℕ
+  pub last : View
+  pub pages : MapsPages setup count old last
+  pub ends : ((count ≡ most) × (new ≡ last)) ⊎ ((count < most) × MeetsOldPage setup last new)
+
+-- the turn to map was met somebody's; or it was taken, so pages mapped, and it was given back
+abbrev pub MapsAhead : Setup → (most : ℕ) → (old new : View) → Type 0
+MapsAhead setup most old new =
+    ((turn : ℕ) × (turn ≢ 0) × Meets old take_mapping_turn turn × (new ≡ old))
+    ⊎ (Meets old take_mapping_turn 0 × ((last : View)
+    × MapsMany setup most (staged_view stages.Taken old) last
+    × (new ≡ staged_view stages.Away last)))

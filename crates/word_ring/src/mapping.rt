@@ -10,10 +10,10 @@
 ghost use Rattle.std.specs.Prelude.{◌≡◌, ◌≢◌, ℕ, ◌+◌, ◌*◌, ◌<◌, ◌≤◌, ◌^◌};
 ghost use Rattle.wal_core.specs.Paged.{IsOpen};
 ghost use Rattle.wal_core.specs.Steps.{buffer_of, ring_number, take_mapping_turn};
-ghost use Rattle.wal_core.specs.Views.{Away, Ready, Taken, Zeroing};
+ghost use Rattle.wal_core.specs.Views.{Away, Ready, Taken, View, Zeroing};
 ghost use Rattle.wal_rule.specs.SeatedPasses.{HasView, StaysSeated, setup_of, view_of};
 ghost use Rattle.wal_rule.specs.Stepping.{Meets};
-ghost use Rattle.word_ring.specs.Mapped.{LooksAt, MapsOn, TriesMapping, further_view, looked_view, staged_view};
+ghost use Rattle.word_ring.specs.Mapped.{LooksAt, MapsAhead, MapsMany, MapsOn, TriesMapping, further_view, looked_view, staged_view};
 ghost use Rattle.word_ring.specs.Ring.{confirmed_view};
 
 use byte_position::PAGE_SIZE;
@@ -81,6 +81,9 @@ pub fn map_ahead<'p, D: Disk>(seated: &mut SeatedPass<'p, D>, most: u32)
     // highest end met, which is no less, and the written address loaded have changed.
     requires away { (view_of seated.old).mapping.stage ≡ Away }
     ensures maps { MapsOn (view_of seated.old) (view_of seated.new) }
+    // It maps as many as it may, unless it meets the turn taken, or a page not all written.
+    ensures ahead { MapsAhead (setup_of seated.old) most (view_of seated.old)
+        (view_of seated.new) }
     ensures stays { StaysSeated seated.old seated.new }
 {
     let turn = take_turn(seated);
@@ -97,6 +100,8 @@ fn map_on<'p, D: Disk>(seated: &mut SeatedPass<'p, D>, most: u32)
         × ((view_of seated.old).mapping.confirmed ≤ confirmed)
         × HasView (staged_view Away (further_view confirmed written (view_of seated.old)))
         seated.old seated.new }
+    ensures many { (last : View) × MapsMany (setup_of seated.old) most (view_of seated.old) last
+        × (view_of seated.new ≡ staged_view Away last) }
 {
     for _mapped in 0..most {
         let (at, written) = look(seated);

@@ -1,5 +1,5 @@
 -- What is made ready is played; what is not touches nothing.
-use Rattle.std.proofs.Common.{[], refl, subst, sym}
+use Rattle.std.proofs.Common.{refl, subst, sym}
 use Rattle.backend_cli.specs.Appending.{AppendHolds}
 use Rattle.backend_cli.specs.Outside.{Outside, outside_of, source_view}
 use Rattle.backend_cli.proofs.AppendUnopened.{unprepared_holds}

@@ -1,6 +1,7 @@
 -- The words and the writer are those of the log that the table is of.
 use Rattle.std.proofs.Common.{◌≡◌, ◌∙◌, ap, sym, subst, refl, arith}
 use Rattle.segment_disk.specs.declared.memory.disk.MemDisk.{MemDisk}
+use Rattle.wal_page.specs.LogPlace.{new_place}
 use Rattle.wal_core.specs.Words.{Opening}
 use Rattle.wal_core.specs.declared.setup.Setup.{Setup}
 use Rattle.wal_core.specs.Views.{Plain}
@@ -26,7 +27,8 @@ open-requires-clause-openable c =
       passes_low = omega arith;
       passes_high = omega arith;
     }))
-    (ap (λ (o : Opening). o.found) c.of-founding.ensures.opening)
+    (subst (λ (o : Opening). o.place ≡ new_place (o.setup).segment_size)
+    (sym c.of-founding.ensures.opening) refl)
     (omega (arith, ap (λ (o : Opening). o.made) c.of-founding.ensures.opening))
 
 pub open-requires-clause-made : goal.open-requires-clause-made
@@ -38,7 +40,7 @@ open-requires-clause-words c =
     subst (λ ws. AreFirstWords opening ws) (sym c.as_slice.ensures)
     (c.in_ok-words.ensures.first opening
     (ap (λ (o : Opening). o.setup) c.of-founding.ensures.opening) refl
-    (ap (λ (o : Opening). o.found) c.of-founding.ensures.opening))
+    (ap (λ (o : Opening). o.place) c.of-founding.ensures.opening))
 
 pub open-requires-clause-writer : goal.open-requires-clause-writer
 open-requires-clause-writer c =

@@ -1,25 +1,42 @@
 -- The words, the writer and the plan are those of the log that the table is of.
-use Rattle.std.proofs.Common.{◌≡◌, ℕ, ◌+◌, ◌<◌, ◌^◌, [], Option, ◌∙◌, ap, sym, subst, refl, arith}
+use Rattle.std.proofs.Common.{◌≡◌, ℕ, ◌+◌, ◌<◌, ◌^◌, List, [], Option, ◌∙◌, ap, sym, subst, refl, arith}
 use Rattle.byte_position.specs.Geometry.{IsSegmentSize}
 use Rattle.segment_disk.specs.declared.memory.disk.MemDisk.{MemDisk}
 use Rattle.segment_disk.specs.MemDisk.{faults_of, moment_of, tape_of}
 use Rattle.segment_disk.specs.Tape.{Tape}
 use Rattle.flush_core.specs.declared.planning.SettlePlan.{SettlePlan}
 use Rattle.flush_core.specs.Planned.{IsPlanOf, call_count}
+use Rattle.wal_page.specs.LogPlace.{new_place}
+use Rattle.wal_page.specs.Order.{Entry}
+use Rattle.wal_core.specs.Behind.{place_of_found}
 use Rattle.wal_core.specs.Words.{Opening, found_end}
 use Rattle.wal_core.specs.declared.setup.Setup.{Setup}
 use Rattle.wal_core.proofs.NothingFound.{nothing_ends, nothing_opens}
 use Rattle.wal_core.specs.Opened.{AreFirstWords}
 use Rattle.wal_core.specs.Sound.{IsSetup}
-use Rattle.wal_rule.specs.Founded.{founded_opening}
+use Rattle.wal_rule.specs.Founded.{found_log_opening, founded_opening}
 use Rattle.wal_rule.specs.Slotted.{resting_plain}
 use Rattle.log_tests.proofs.tables.resume.Goals as goal
 
 -- a log of this size in which nothing was found ends where it starts
 ends_at : (o : Opening) (size : ℕ) → IsSegmentSize size → (o.setup).segment_size ≡ size
-    → o.found ≡ [] → found_end o ≡ size
-ends_at o size valid same none =
-    nothing_ends o (subst (λ (n : ℕ). IsSegmentSize n) (sym same) valid) none ∙ same
+    → o.place ≡ new_place (o.setup).segment_size → found_end o ≡ size
+ends_at o size valid same fresh =
+    nothing_ends o (subst (λ (n : ℕ). IsSegmentSize n) (sym same) valid) fresh ∙ same
+
+-- .. and it goes on where a new one begins, by its setup or by its own
+new_as : (o : Opening) (setup : Setup) (es : List Entry) (made moment faults : ℕ)
+    → o ≡ found_log_opening setup es made moment faults → es ≡ []
+    → o.place ≡ new_place setup.segment_size
+new_as o setup es made moment faults is none =
+    ap (λ (p : Opening). p.place) is ∙ ap (place_of_found setup.segment_size setup.sysid) none
+
+new_there : (o : Opening) (setup : Setup) (es : List Entry) (made moment faults : ℕ)
+    → o ≡ found_log_opening setup es made moment faults → es ≡ []
+    → o.place ≡ new_place (o.setup).segment_size
+new_there o setup es made moment faults is none =
+    new_as o setup es made moment faults is none
+    ∙ sym (ap (λ (p : Opening). new_place (p.setup).segment_size) is)
 
 plan_of : (size end made other_size other_end count : ℕ) (t other : Option Tape)
     (plan : SettlePlan) → size ≡ other_size → end ≡ other_end → made ≡ count → t ≡ other
@@ -54,7 +71,7 @@ resume-requires-clause-openable c =
       passes_low = omega arith;
       passes_high = omega arith;
     }))
-    (ap (λ (o : Opening). o.found) opening ∙ c.none.ensures)
+    (new_there _ _ _ _ _ _ opening c.none.ensures)
     (omega (
       arith,
       few,
@@ -69,7 +86,7 @@ resume-requires-clause-words c =
     subst (λ ws. AreFirstWords opening ws) (sym c.as_slice.ensures)
     (c.in_ok-words.ensures.first opening
     (ap (λ (o : Opening). o.setup) c.of_found-founding.ensures.opening) refl
-    (ap (λ (o : Opening). o.found) c.of_found-founding.ensures.opening ∙ c.none.ensures))
+    (new_as _ _ _ _ _ _ c.of_found-founding.ensures.opening c.none.ensures))
 
 pub resume-requires-clause-writer : goal.resume-requires-clause-writer
 resume-requires-clause-writer c =
@@ -79,7 +96,7 @@ resume-requires-clause-writer c =
     let same_size = ap (λ (o : Opening). (o.setup).segment_size) opening in
     let disk = c.of_found-founding.ensures.disk in
     let end = ends_at (founded_opening c.of_found-founding.result) _ refl same_size
-    (ap (λ (o : Opening). o.found) opening ∙ c.none.ensures) in
+    (new_there _ _ _ _ _ _ opening c.none.ensures) in
     record {
       plain = c.resume-writer.ensures.plain ∙ rests _ _ _ _ _ _ (sym disk) (sym end)
           (sym (ap (λ (o : Opening). o.made) opening));
@@ -97,7 +114,7 @@ resume-requires-clause-plan c =
     ∙ sym c.geometry.ensures in
     let same_size = ap (λ (o : Opening). (o.setup).segment_size) opening in
     let end = ends_at (founded_opening c.of_found-founding.result) _ refl same_size
-    (ap (λ (o : Opening). o.found) opening ∙ c.none.ensures) in
+    (new_there _ _ _ _ _ _ opening c.none.ensures) in
     plan_of _ _ _ _ _ _ _ _ _ (same_size ∙ size) end
     (ap (λ (o : Opening). o.made) opening ∙ c.count-made.ensures _ _ _ _ planned.2)
     (ap (λ (d : MemDisk). tape_of d) c.resume-writer.ensures.disk) planned.2

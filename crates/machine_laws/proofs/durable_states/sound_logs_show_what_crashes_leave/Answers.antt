@@ -8,7 +8,7 @@ pub returns-clause-crashes : goal.returns-clause-crashes
 returns-clause-crashes c = λ first opening words home views s.
     crashes_leave_the_log opening s.order (flushed_word words) (moment_word words)
     (down_word words) home s.writer (map receipts_of views) s.durable (s.setup_is).size
-    (s.reserved).chained
+    (s.reserved).placed
 
 pub returns-clause-down : goal.returns-clause-down
 returns-clause-down c = λ first opening words home views s.

@@ -9,5 +9,5 @@ pub returns-clause-suited : goal.returns-clause-suited
 returns-clause-suited c = suited_begins
 
 pub returns-clause-nothing : goal.returns-clause-nothing
-returns-clause-nothing c = λ opening valid none few.
-    (nothing_opens opening valid none few, nothing_ends opening valid.size none)
+returns-clause-nothing c = λ opening valid fresh few.
+    (nothing_opens opening valid fresh few, nothing_ends opening valid.size fresh)

@@ -3,17 +3,17 @@ use Rattle.machine_laws.proofs.StoredWords.{is_mapped}
 use Rattle.machine_laws.proofs.ring.copies_keep_the_ring.Goals as goal
 
 pub returns-clause-begun : goal.returns-clause-begun
-returns-clause-begun c = λ setup order reach memory flights id e prev locks valid chain k.
-    law.reserves setup order reach memory flights k valid chain id e prev locks
+returns-clause-begun c = λ opening order reach memory flights id e prev locks valid chain k.
+    law.reserves opening order reach memory flights k valid chain id e prev locks
 
 pub returns-clause-stored : goal.returns-clause-stored
 returns-clause-stored c =
-    λ setup order reach memory memory2 flights stage initialised written ends ring confirmed id met
-    copy valid chain k pages flies here on.
-    law.copies setup order reach memory flights k valid chain id copy memory2 flies on.left
-    (is_mapped setup reach stage initialised written ends ring memory confirmed pages copy
+    λ opening order reach memory memory2 flights stage initialised written ends ring confirmed id
+    met copy valid placed chain k pages flies here on.
+    law.copies opening order reach memory flights k valid chain placed id copy memory2 flies on.left
+    (is_mapped opening.setup reach stage initialised written ends ring memory confirmed pages copy
     id met here on)
 
 pub returns-clause-released : goal.returns-clause-released
-returns-clause-released c = λ setup order reach memory flights id lock flight valid chain k here.
-    law.releases setup order reach memory flights k valid chain id flight here lock
+returns-clause-released c = λ opening order reach memory flights id lock flight valid placed chain k
+    here. law.releases opening order reach memory flights k valid chain placed id flight here lock

@@ -1,11 +1,12 @@
-use Rattle.std.proofs.Common.{Err, [], ◌∷◌, refl, sym, subst, arith}
+use Rattle.std.proofs.Common.{Err, [], ◌∷◌, refl, sym, ap, ◌∙◌, subst, arith}
+use Rattle.wal_core.specs.Views.{View}
 use Rattle.wal_rule.specs.SeatedPasses.{setup_of, view_of}
 use Rattle.reserve_lock.specs.Reserved.{TellsWhy}
 use Rattle.reserve_lock.specs.declared.reserving.ReserveErr.{ReserveErr}
 use Rattle.wal_log.specs.declared.beginning.TryErr.{TryErr}
 use Rattle.wal_log.specs.Beginning.{AnswersBeginTry}
 use Rattle.wal_log.specs.Standing.{HasLocks}
-use Rattle.wal_log.proofs.BeginLaws.{begun_is, between_holds, place_keeps, tried_in_vain, vain_keeps}
+use Rattle.wal_log.proofs.BeginLaws.{begun_is, between_holds, place_keeps, tried_in_vain, vain_async, vain_keeps}
 use Rattle.wal_log.proofs.Seated.{further_seated, seat_stays, view_is}
 use Rattle.wal_log.proofs.Unlocking.{locks_held, none_flies}
 use Rattle.wal_log.proofs.beginning.reserve_under.Given.{Over}
@@ -44,6 +45,7 @@ returns-in-Ok-clause-goes_on g c = record {
   stays = c.try_reserve.ensures.stays;
   keeps = place_keeps (setup_of c.args.seated.now) c.args.body.now (view_of c.args.seated.now)
       (view_of c.try_reserve.new.seated) (c.args.lock ∷ []) _ _ c.in-Ok.ensures.reserved.place;
+  async = ap (λ (v : View). v.async_met) c.in-Ok.ensures.reserved.place.reserved.new_is;
 }
 
 pub returns-in-Err-clause-begins : goal.returns-in-Err-clause-begins
@@ -63,4 +65,7 @@ returns-in-Err-clause-goes_on g c = record {
   keeps = vain_keeps (setup_of c.args.seated.now) c.args.body.now (view_of c.args.seated.now)
       (view_of c.try_reserve.new.seated) c.args.lock c.requires.holds.has c.in-Err.e
       c.in-Err.ensures.why (view_of c.release.new.seated) (view_is c.release.ensures.view);
+  async = ap (λ (v : View). v.async_met) (view_is c.release.ensures.view)
+      ∙ vain_async (setup_of c.args.seated.now) c.args.body.now (view_of c.args.seated.now)
+      (view_of c.try_reserve.new.seated) c.in-Err.e c.in-Err.ensures.why;
 }

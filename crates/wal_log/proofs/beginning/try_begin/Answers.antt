@@ -20,6 +20,7 @@ returns-then-faults-ne0-clause-goes_on g c =
       stays = seat_stays load.ensures.steps;
       keeps = loaded_keeps (view_of c.args.seated.now) (view_of load.new.self) load.result
           (view_is load.ensures.steps) load.ensures.known;
+      async = ap (λ (v : View). v.async_met) (view_is load.ensures.steps);
     }
 
 pub returns-in_err-lock-clause-begins : goal.returns-in_err-lock-clause-begins
@@ -53,6 +54,7 @@ returns-in_err-lock-clause-goes_on g c =
           (seat_stays load.ensures.steps) (seat_stays held.1);
       keeps = loaded_keeps (view_of c.args.seated.now) (view_of c.try_take.new.seated) load.result
           (view_is held.1 ∙ view_is load.ensures.steps) load.ensures.known;
+      async = ap (λ (v : View). v.async_met) (view_is held.1 ∙ view_is load.ensures.steps);
     }
 
 pub reserve_under-requires-clause-holds : goal.reserve_under-requires-clause-holds
@@ -111,4 +113,7 @@ returns-clause-goes_on g c =
           (taken_keeps old (view_of load.new.self) load.result (view_is load.ensures.steps)
           load.ensures.known c.in_ok-lock.lock taken (view_is took))
           c.reserve_under.ensures.goes_on.keeps;
+      async = c.reserve_under.ensures.goes_on.async
+          ∙ ap (λ (v : View). v.async_met) (view_is took)
+          ∙ ap (λ (v : View). v.async_met) (view_is load.ensures.steps);
     }

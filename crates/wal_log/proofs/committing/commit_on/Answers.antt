@@ -112,3 +112,15 @@ returns-in-Err-Down-clause-down_again g c = λ faults knows. absurd (never_both
 pub returns-in-Err-Down-clause-rests : goal.returns-in-Err-Down-clause-rests
 returns-in-Err-Down-clause-rests g c = rests_again c.args.seated.now c.insert_on.new.seated
     c.flush_in_company.new.seated c.insert_on.ensures.rests c.flush_in_company.ensures.rests
+
+pub returns-in-Ok-clause-async_met : goal.returns-in-Ok-clause-async_met
+returns-in-Ok-clause-async_met g c =
+    c.flush_in_company.ensures.async_met ∙ c.insert_on.ensures.async_met
+
+pub returns-in-Err-Disk-clause-async_met : goal.returns-in-Err-Disk-clause-async_met
+returns-in-Err-Disk-clause-async_met g c =
+    c.flush_in_company.ensures.async_met ∙ c.insert_on.ensures.async_met
+
+pub returns-in-Err-Down-clause-async_met : goal.returns-in-Err-Down-clause-async_met
+returns-in-Err-Down-clause-async_met g c =
+    c.flush_in_company.ensures.async_met ∙ c.insert_on.ensures.async_met

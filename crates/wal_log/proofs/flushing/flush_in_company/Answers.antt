@@ -1,3 +1,4 @@
+use Rattle.std.proofs.Common.{◌∙◌}
 use Rattle.wal_rule.specs.SeatedPasses.{view_of}
 use Rattle.wal_log.proofs.AwaitLaws.{tried_and_looked}
 use Rattle.wal_log.proofs.FlushLaws.{flushed_behind}
@@ -26,3 +27,7 @@ pub returns-clause-rests : goal.returns-clause-rests
 returns-clause-rests g c = rests_again c.args.seated.now c.gather.new.seated
     c.flush_on.new.seated
     (gathered g (goal.at.returns-clause-rests g c).After-gather).comes c.flush_on.ensures.rests
+
+pub returns-clause-async_met : goal.returns-clause-async_met
+returns-clause-async_met g c = c.flush_on.ensures.async_met
+    ∙ (gathered g (goal.at.returns-clause-async_met g c).After-gather).async

@@ -105,7 +105,8 @@ loop-preserved-in-Err-Behind g c =
     c.in-Err-Behind.ensures.only_unflushed in record {
       goes_on = (tt, tt);
       tried = tried_again c.args.seated.now c.loop.seated c.try_flush.new.seated
-          c.loop.invariant.tried c.try_flush.ensures.rests why.1 why.0.1.up;
+          c.loop.invariant.tried c.try_flush.ensures.rests why.1 why.0.1.up
+          c.try_flush.ensures.async_met;
       looked = inr (only_found c.args.upto.0 (view_of c.args.seated.now)
           (rw c.in-Err-Behind.field-0-is at last));
       judged = judged_again c.args.upto.0 c.args.seated.now c.loop.seated
@@ -124,11 +125,12 @@ pub loop-preserved : goal.loop-preserved
 loop-preserved g c =
     let why = rw c.in-Err-Turn.field-0-is at c.in-Err-Turn.ensures.tries in
     let tried = tried_again c.args.seated.now c.loop.seated c.try_flush.new.seated
-    c.loop.invariant.tried c.try_flush.ensures.rests why.1 why.0.2.up in
+    c.loop.invariant.tried c.try_flush.ensures.rests why.1 why.0.2.up
+    c.try_flush.ensures.async_met in
     let awaited = tried_again c.args.seated.now c.try_flush.new.seated c.await_flush.new.seated
     tried (rests_at_work c.try_flush.new.seated c.await_flush.new.seated
     (tried.comes).rests c.await_flush.ensures.stays) c.await_flush.ensures.log
-    c.await_flush.ensures.up in
+    c.await_flush.ensures.up c.await_flush.ensures.stays.work.async in
     let last = last_tried c.args.upto.0 c.args.seated.now c.loop.seated
     (view_of c.try_flush.new.seated) c.loop.invariant.looked (Err c.in-Err-Turn.field-0)
     c.in-Err-Turn.ensures.only_unflushed in record {
@@ -198,3 +200,15 @@ returns-in-Err-Unreserved-clause-unreserved g c =
     (size_so g at) c.loop.invariant.judged (Err (Unreserved c.in-Err-Unreserved.end))
     (rw c.in-Err-Unreserved.field-0-is at c.in-Err-Unreserved.ensures.unreserved)
     (rw c.in-Err-Unreserved.field-0-is at c.in-Err-Unreserved.ensures.tries)
+
+pub returns-in-Ok-clause-async_met : goal.returns-in-Ok-clause-async_met
+returns-in-Ok-clause-async_met g c =
+    c.try_flush.ensures.async_met ∙ c.loop.invariant.tried.async
+
+pub returns-in-Err-Fault-clause-async_met : goal.returns-in-Err-Fault-clause-async_met
+returns-in-Err-Fault-clause-async_met g c =
+    c.try_flush.ensures.async_met ∙ c.loop.invariant.tried.async
+
+pub returns-in-Err-Unreserved-clause-async_met : goal.returns-in-Err-Unreserved-clause-async_met
+returns-in-Err-Unreserved-clause-async_met g c =
+    c.try_flush.ensures.async_met ∙ c.loop.invariant.tried.async

@@ -111,3 +111,11 @@ returns-clause-unreserved g c =
     ∙ ap (λ (n : ℕ). view_behind old load_down n none) zero)
     (subst (λ (n : ℕ). Meets old load_down n) zero c.load_down-faults.ensures.met)
     c.try_up.result c.try_up.ensures.reserved
+
+pub returns-then-faults-ne0-clause-async_met : goal.returns-then-faults-ne0-clause-async_met
+returns-then-faults-ne0-clause-async_met g c =
+    (loaded g (goal.at.returns-then-faults-ne0-clause-async_met g c).After-load_down-faults).async
+
+pub returns-clause-async_met : goal.returns-clause-async_met
+returns-clause-async_met g c = c.try_up.ensures.works.work.async
+    ∙ (loaded g (goal.at.returns-clause-async_met g c).After-load_down-faults).async

@@ -56,6 +56,7 @@ module _ (g : Over) (c : After-try_begin g) where
         };
         keeps = further_pass (view_of c.args.seated.now) (view_of c.loop.seated)
             (view_of c.try_begin.new.seated) comes.keeps last.keeps;
+        async = last.async ∙ c.loop.invariant.tried.async;
       }
 
 pub returns-in-Ok-clause-begins : goal.returns-in-Ok-clause-begins

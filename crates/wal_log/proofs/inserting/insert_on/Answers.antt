@@ -113,3 +113,14 @@ returns-in-Err-clause-down_again g c = λ faults knows. absurd
 
 pub returns-in-Err-clause-rests : goal.returns-in-Err-clause-rests
 returns-in-Err-clause-rests g c = rested g (goal.at.returns-in-Err-clause-rests g c).After-land_and_make_room
+
+pub returns-in_err-begun-clause-async_met : goal.returns-in_err-begun-clause-async_met
+returns-in_err-begun-clause-async_met g c = c.begin.ensures.goes_on.async
+
+pub returns-in-Ok-clause-async_met : goal.returns-in-Ok-clause-async_met
+returns-in-Ok-clause-async_met g c =
+    c.land_and_make_room.ensures.async_met ∙ c.begin.ensures.goes_on.async
+
+pub returns-in-Err-clause-async_met : goal.returns-in-Err-clause-async_met
+returns-in-Err-clause-async_met g c =
+    c.land_and_make_room.ensures.async_met ∙ c.begin.ensures.goes_on.async

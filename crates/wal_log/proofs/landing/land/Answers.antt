@@ -1,4 +1,4 @@
-use Rattle.std.proofs.Common.{◌≡◌, sym, ◌∙◌, subst}
+use Rattle.std.proofs.Common.{◌≡◌, ap, sym, ◌∙◌, subst}
 use mathlib.Core.Option.{some}
 use Rattle.wal_page.specs.EntryWords.{words_owned}
 use Rattle.wal_page.specs.Order.{Entry}
@@ -110,7 +110,15 @@ returns-in-Ok-clause-rests g c =
       };
     }
 
+pub returns-in-Ok-clause-async_met : goal.returns-in-Ok-clause-async_met
+returns-in-Ok-clause-async_met g c = ap (λ (v : View). v.async_met) (view_is c.release.ensures.view)
+    ∙ c.copy_whole.ensures.copies_on.goes_on.async
+
 -- ---- it was given up
+
+pub returns-in-Err-clause-async_met : goal.returns-in-Err-clause-async_met
+returns-in-Err-clause-async_met g c = ap (λ (v : View). v.async_met) (view_is c.give_up.ensures.view)
+    ∙ c.copy_whole.ensures.copies_on.goes_on.async
 
 pub returns-in-Err-clause-lands : goal.returns-in-Err-clause-lands
 returns-in-Err-clause-lands g c =

@@ -1,6 +1,6 @@
 use Rattle.std.proofs.Common.{List, ℕ, ap, ◌∙◌}
 use Rattle.std.specs.Prelude.{slice_index}
-use Rattle.wal_log.proofs.Reopens.{chained_there, ends_there, last_page_there}
+use Rattle.wal_log.proofs.Reopens.{ends_there, last_page_there, placed_there}
 use Rattle.wal_log.proofs.reopening.words_behind.Goals as goal
 
 pub returns-clause-words : goal.returns-clause-words
@@ -8,6 +8,8 @@ returns-clause-words c = λ opening behind.
     let setup = c.args.setup in
     let log = c.args.log.now in
     let found = c.requires.log in
-    c.resume.ensures.first opening behind.setup_is behind.moment_is (chained_there setup log found 0 opening behind)
-    (ends_there setup log found 0 opening behind) (last_page_there setup log found 0 opening behind c.bytes_of-page.result
+    let valid = c.requires.setup in
+    c.resume.ensures.first opening behind.setup_is behind.moment_is
+    (placed_there setup valid log found 0 opening behind)
+    (ends_there setup valid log found 0 opening behind) (last_page_there setup valid log found 0 opening behind c.bytes_of-page.result
     (λ n less. c.bytes_of-page.ensures n less ∙ ap (λ (ws : List ℕ). slice_index ws n) c.deref.ensures))

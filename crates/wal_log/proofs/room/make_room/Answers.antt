@@ -155,4 +155,27 @@ returns-then-branch-clause-makes g c =
     (upto_is g path.After-write_ahead) (looked g path.After-is_seen_to).adds
     c.map_ahead.new.seated
     (further_maps c.write_ahead.new.seated c.map_ahead.new.seated c.map_ahead.ensures.stays
-    c.map_ahead.ensures.maps)
+    c.map_ahead.ensures.maps) c.map_ahead.ensures.ahead
+
+-- ---- it meets no async address
+
+pub returns-then-is_seen_to-clause-async_met : goal.returns-then-is_seen_to-clause-async_met
+returns-then-is_seen_to-clause-async_met g c =
+    let so_far = looked g (goal.at.returns-then-is_seen_to-clause-async_met g c).After-is_seen_to in
+    so_far.adds.works.work.async
+
+pub returns-in_err-write_ahead-clause-async_met : goal.returns-in_err-write_ahead-clause-async_met
+returns-in_err-write_ahead-clause-async_met g c =
+    let so_far = looked g (goal.at.returns-in_err-write_ahead-clause-async_met g c).After-is_seen_to in
+    c.write_ahead.ensures.adds_nothing.works.work.async ∙ so_far.adds.works.work.async
+
+pub returns-else-branch-clause-async_met : goal.returns-else-branch-clause-async_met
+returns-else-branch-clause-async_met g c =
+    let so_far = looked g (goal.at.returns-else-branch-clause-async_met g c).After-is_seen_to in
+    c.write_ahead.ensures.adds_nothing.works.work.async ∙ so_far.adds.works.work.async
+
+pub returns-then-branch-clause-async_met : goal.returns-then-branch-clause-async_met
+returns-then-branch-clause-async_met g c =
+    let path = goal.at.returns-then-branch-clause-async_met g c in
+    (mapped g path.After-map_ahead (written g path.After-write_ahead
+    (looked g path.After-is_seen_to) c.in_ok-write_ahead.ensures.ends)).adds.works.work.async

@@ -31,6 +31,7 @@ told_adds old one locks upto told = record {
       working = refl;
       stage = refl;
       confirmed = omega arith;
+      async = refl;
     });
   };
   log = ap (λ (v : View). log_of_pass v) (view_is told.view);
@@ -85,6 +86,7 @@ returns-clause-copies_on g c =
         same_hand = (c.write_copied.ensures.rests).empty ∙ sym c.requires.copies.empty;
       };
       keeps = ((added.works).work).pass;
+      async = ((added.works).work).async;
     }) added.log ((added.works).work).working
 
 -- what was told of the disk behind it

@@ -1,4 +1,4 @@
-use Rattle.std.proofs.Common.{ℕ, sym, subst}
+use Rattle.std.proofs.Common.{sym, subst}
 use Rattle.record_spelling.specs.Spelling.{word_at}
 use Rattle.wal_page.specs.Placed.{PlacedState}
 use Rattle.word_ring.specs.CopyRuns.{HasCopied, MayCopy}

@@ -1,4 +1,4 @@
-use Rattle.std.proofs.Common.{◌≡◌, ◌-◌, ℕ, length, sym, subst, arith}
+use Rattle.std.proofs.Common.{◌≡◌, ◌-◌, ℕ, sym, subst, arith}
 use Rattle.wal_page.specs.Placed.{LieTogether}
 use Rattle.word_ring.specs.CopyRuns.{MayCopy, MayStoreRun}
 use Rattle.word_ring.proofs.CopyLaws.{copied_nothing, fewer_may, has_copied, run_may}

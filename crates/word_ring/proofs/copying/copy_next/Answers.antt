@@ -1,7 +1,4 @@
-use Rattle.std.proofs.Common.{◌≡◌, length, take, sym, arith}
-use Rattle.std.proofs.lemmas.List.{length-take}
-use Rattle.word_ring.specs.CopyRuns.{MayCopy}
-use Rattle.word_ring.proofs.CopyLaws.{copied_as, fewer_may}
+use Rattle.std.proofs.Common.{arith}
 use Rattle.word_ring.proofs.copying.copy_next.Goals as goal
 
 pub lie_together-requires : goal.lie_together-requires

@@ -17,7 +17,7 @@ returns-in-Ok-clause-plays g c = λ value is.
     c.requires.session c.note.ensures.pass c.commit.ensures.keeps c.commit.ensures.pass
     c.of_commit.result c.as_body-lent.result c.commit.result
     (c.of_commit.ensures ∙ ap told_of_commit (sym c.in-Ok.is)) c.commit.ensures.commits
-    c.body_knows_its_record.ensures c.commit.ensures.down_again
+    c.body_knows_its_record.ensures c.commit.ensures.down_again c.commit.ensures.async_met
     value (subst (IsBodyOf value) (sym c.as_body-lent.ensures) is)
 
 pub returns-in-Ok-clause-leaves : goal.returns-in-Ok-clause-leaves
@@ -35,7 +35,7 @@ returns-clause-plays g c = λ value is.
     c.requires.session refl c.commit.ensures.keeps c.commit.ensures.pass c.of_commit-in-Err.result
     c.as_body-lent.result c.commit.result
     (c.of_commit-in-Err.ensures ∙ ap told_of_commit (sym c.in-Err.is)) c.commit.ensures.commits
-    c.body_knows_its_record.ensures c.commit.ensures.down_again
+    c.body_knows_its_record.ensures c.commit.ensures.down_again c.commit.ensures.async_met
     value (subst (IsBodyOf value) (sym c.as_body-lent.ensures) is)
 
 pub returns-clause-leaves : goal.returns-clause-leaves

@@ -19,7 +19,7 @@ returns-in-Ok-clause-plays g c = λ value is.
     c.requires.session c.note.ensures.pass c.insert.ensures.keeps c.insert.ensures.pass
     c.of_insert.result c.as_body-lent.result c.insert.result
     (c.of_insert.ensures ∙ ap told_of_inserted (sym c.in-Ok.is)) c.insert.ensures.inserts
-    c.body_knows_its_record.ensures c.insert.ensures.down_again
+    c.body_knows_its_record.ensures c.insert.ensures.down_again c.insert.ensures.async_met
     value (subst (IsBodyOf value) (sym c.as_body-lent.ensures) is)
 
 pub returns-in-Ok-clause-leaves : goal.returns-in-Ok-clause-leaves
@@ -38,7 +38,7 @@ returns-clause-plays g c = λ value is.
     c.as_body-lent.result c.insert.result
     (c.of_insert-in-Err.ensures ∙ ap (λ (r : Refused). told_of_insert (Err r)) c.into.ensures
     ∙ ap told_of_inserted (sym c.in-Err.is)) c.insert.ensures.inserts
-    c.body_knows_its_record.ensures c.insert.ensures.down_again
+    c.body_knows_its_record.ensures c.insert.ensures.down_again c.insert.ensures.async_met
     value (subst (IsBodyOf value) (sym c.as_body-lent.ensures) is)
 
 pub returns-clause-leaves : goal.returns-clause-leaves

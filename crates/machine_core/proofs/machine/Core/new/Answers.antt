@@ -1,6 +1,7 @@
 -- A core begins as the machine does.
 use Rattle.std.proofs.Common.{◌≡◌, ◌+◌, ◌<◌, All, false, List, length, min, refl, sym, ap, ◌∙◌, subst, arith}
 use Rattle.byte_position.specs.Position.{end_address_of}
+use Rattle.wal_page.specs.LogPlace.{new_place}
 use Rattle.wal_core.specs.declared.setup.Setup.{Setup}
 use Rattle.wal_core.specs.Opened.{AreFirstWords, IsFirstWriter}
 use Rattle.wal_core.specs.Sound.{IsSetup}
@@ -21,7 +22,8 @@ is_setup c = subst IsSetup (sym c.in-Some.ensures.1) c.in-Some.ensures.0
 words_first : (c : goal.In_ok-lanes)
     → AreFirstWords (first_opening c.in-Some.shape) c.in_ok-words.words.words
 words_first c =
-    c.in_ok-words.ensures.first (first_opening c.in-Some.shape) c.in-Some.ensures.1 refl refl
+    c.in_ok-words.ensures.first (first_opening c.in-Some.shape) c.in-Some.ensures.1 refl
+    (ap (λ (s : Setup). new_place s.segment_size) c.in-Some.ensures.1)
 
 few_scripts : (c : goal.In_ok-lanes) → length c.args.scripts.items < c.in-Some.shape.passes
 few_scripts c = omega (

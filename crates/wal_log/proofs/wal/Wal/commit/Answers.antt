@@ -50,6 +50,11 @@ returns-clause-keeps g c =
     answered_so g (goal.at.returns-clause-keeps g c).After-put_back
     (λ setup old new. KeepsPass old new) c.commit_on-answer.ensures.rests.keeps
 
+pub returns-clause-async_met : goal.returns-clause-async_met
+returns-clause-async_met g c =
+    answered_so g (goal.at.returns-clause-async_met g c).After-put_back
+    (λ setup old new. new.async_met ≡ old.async_met) c.commit_on-answer.ensures.async_met
+
 pub returns-clause-pass : goal.returns-clause-pass
 returns-clause-pass g c = still_pass c.args.self.now c.args.pass.now c.seat-seated.result
     c.seat-seated.ensures.view c.commit_on-answer.new.seated c.commit_on-answer.ensures.rests

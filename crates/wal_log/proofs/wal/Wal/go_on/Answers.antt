@@ -8,6 +8,7 @@ use Rattle.wal_core.specs.Opened.{AreFirstWords, IsOpenable, first_view}
 use Rattle.wal_core.specs.Steps.{IsResting}
 use Rattle.wal_core.specs.Views.{View}
 use Rattle.wal_core.specs.Words.{Opening, found_end}
+use Rattle.machine_laws.specs.WholeOrders.{LiesBehind}
 use Rattle.wal_rule.specs.declared.seats.Founding.{Founding}
 use Rattle.wal_rule.specs.declared.writer.LogWriter.{LogWriter}
 use Rattle.wal_rule.specs.Founded.{disk_of_founding, found_log_opening, founded_opening}
@@ -17,7 +18,7 @@ use Rattle.wal_rule.specs.Slotted.{resting_plain, slot_disk}
 use Rattle.wal_rule.specs.Tables.{began_of_table, opening_of_table}
 use Rattle.wal_log.specs.Reopening.{entries_found}
 use Rattle.wal_log.proofs.Opens.{first_rests}
-use Rattle.wal_log.proofs.Reopens.{fixed_end, fixed_made, fixed_openable, fixed_plan, fixed_settled, fixed_size, fixed_words}
+use Rattle.wal_log.proofs.Reopens.{fixed_end, fixed_lies, fixed_made, fixed_openable, fixed_plan, fixed_settled, fixed_size, fixed_words}
 use Rattle.wal_log.proofs.wal.Wal.go_on.Goals as goal
 
 -- what is fixed is of the log that was found
@@ -86,6 +87,7 @@ returns-in-Ok-clause-goes_on g c =
       opening = ap (λ (f : Founding D). founded_opening f) key ∙ fixed
           ∙ ap (λ (m : ℕ). found_log_opening setup (entries_found log) log.made m (g.D.Disk.faults c.args.disk)) (sym (ap (λ (f : Founding D). f.moment) key));
       openable = subst (λ (f : Founding D). IsOpenable (founded_opening f)) (sym key) (fixed_openable setup c.requires.setup log c.requires.log _ _ _ fixed);
+      lies = subst (λ (f : Founding D). LiesBehind (founded_opening f) (entries_found log)) (sym key) (fixed_lies setup c.requires.setup log c.requires.log _ _ _ fixed);
       settled = subst (λ (d : D). HasSettled setup.segment_size log.spelled.end.0 log.made (g.D.Disk.tape d) (began_of_table g.D.Disk.tape table) (g.D.Disk.moment d) (opening_of_table table).moment) disk
           (fixed_settled setup c.requires.setup log c.requires.log _ _ _ fixed _ _ _ _ c.in-Ok.ensures.settled);
       count_is = refl;

@@ -1,6 +1,7 @@
 use Rattle.std.specs.Prelude.{IfSome}
-use Rattle.std.proofs.Common.{◌≡◌, ℕ, List, None, sym, ap, ◌∙◌, subst, arith}
+use Rattle.std.proofs.Common.{◌≡◌, ℕ, List, None, refl, sym, ap, ◌∙◌, subst, arith}
 use Rattle.segment_disk.specs.Tape.{Tape, page_of_segment, state_now}
+use Rattle.wal_page.specs.LogPlace.{new_place}
 use Rattle.wal_core.proofs.NothingFound.{nothing_opens}
 use Rattle.wal_core.specs.Opened.{IsFirstWriter, first_view}
 use Rattle.wal_core.specs.Sound.{IsSetup}
@@ -21,7 +22,8 @@ pub open-requires-clause-openable : goal.open-requires-clause-openable
 open-requires-clause-openable g c =
     nothing_opens (founded_opening c.of-founding.result)
     (subst (λ (o : Opening). IsSetup o.setup) (sym c.of-founding.ensures.opening) c.requires.setup)
-    (ap (λ (o : Opening). o.found) c.of-founding.ensures.opening)
+    (ap (λ (o : Opening). o.place) c.of-founding.ensures.opening
+    ∙ ap (λ (o : Opening). new_place (o.setup).segment_size) (sym c.of-founding.ensures.opening))
     (omega (arith, ap (λ (o : Opening). o.made) c.of-founding.ensures.opening))
 
 pub open-requires-clause-made : goal.open-requires-clause-made
