@@ -1,7 +1,8 @@
 #!/usr/bin/env bash
 # Makes a small PostgreSQL cluster's log, and compares what `pgwal dump` and pg_waldump list of it: managers, lengths,
 # transactions, addresses and block references, line by line. The log has inserts, an update of an index, a checkpoint,
-# segment switches and logical messages.
+# segment switches and logical messages. Then a copy of it is sent, received twice, gone on with, and received again:
+# what lies below its end stays as the server wrote it.
 #
 #     tests/by_hand/with_postgres.sh [PROGRAM]                    with PostgreSQL 16
 #     tests/by_hand/with_postgres.sh --other-version [PROGRAM]    with another one: a copy is listed,
@@ -19,6 +20,7 @@ elif [[ $version != *' 16.'* ]]; then
   echo "this is $version, and not of version 16: see --other-version" && exit 1
 fi
 program=$(realpath -e "${1:-$top/pgwal}") || exit 1
+size=$((16 << 20))
 
 # as_server WORD..: runs a command as a user that a server may have
 as_server() {
@@ -39,10 +41,11 @@ failed() {
 
 sql() { as_server "$programs/psql" -h "$base" -d postgres -qAtc "$1" >"$base/said" || exit 1; }
 
-# cluster: a server with segments of 1 MiB that keeps its whole log
+# cluster: a server that keeps its whole log. Its segments have 16 MiB: of smaller ones initdb fills several, and keeps
+# the last ones alone
 cluster() {
   [ "$(id -u)" != 0 ] || chown postgres "$base"
-  as_server "$programs/initdb" -D "$base/data" --wal-segsize=1 -A trust -U postgres -N >"$base/said" || exit 1
+  as_server "$programs/initdb" -D "$base/data" --wal-segsize=16 -A trust -U postgres -N >"$base/said" || exit 1
   as_server tee -a "$base/data/postgresql.conf" >"$base/said" <<CONF
 listen_addresses = ''
 unix_socket_directories = '$base'
@@ -108,4 +111,35 @@ cmp "$base/ours" "$base/theirs"
 equal 'the same lines' $? 0
 # (a server's own record between two switches in a row makes the second one count)
 equal 'five segment switches or more' "$(($(grep -c 'desc: SWITCH' "$base/listing") >= 5))" 1
+
+# at FOLDER WORD..: a command of the program in a folder of the temporary one
+at() { (cd "$base/$1" && "$program" "${@:2}" --seg $size); }
+
+# same_below END ONE OTHER: two folders' logs have the same bytes below an address
+same_below() { cmp -n $(($1 - size)) <(cat "$base/$2"/pg_wal/0000*) <(cat "$base/$3"/pg_wal/0000*); }
+
+# (what is gone on with begins with segment 1, as a new cluster's log does)
+equal 'the log begins with segment 1' "$start" 0/1000000
+cp -a "$base/copy" "$base/kept"
+mkdir "$base/standby"
+at copy send >"$base/frames"
+equal 'the log is sent' $? 0
+at standby receive <"$base/frames" >"$base/received"
+equal 'it is received' $? 0
+at copy send | at standby receive >"$base/again"
+equal 'and again' "${PIPESTATUS[*]}" '0 0'
+equal 'with nothing taken' "$(sed -E 's/.* taken ([0-9]+) .*/\1/' "$base/again")" 0
+end=$((16#$(sed -E 's,received 0/([0-9A-F]+) .*,\1,' "$base/again")))
+printf 'C 900 0\nC 901 0\n' | at copy run --append --list >"$base/told"
+equal 'it is gone on with' $? 0
+equal 'two commits are told' "$(grep -c ' hard ' "$base/told")" 2
+same_below "$end" copy kept
+equal 'below its end it is as it was' $? 0
+at copy send | at standby receive >"$base/more"
+equal 'the new records are received' "${PIPESTATUS[*]}" '0 0'
+at copy dump >"$base/listing"
+at standby dump >"$base/their_copy"
+cmp "$base/listing" "$base/their_copy"
+equal 'both list the same' $? 0
+equal 'with both commits last' "$(tail -n 2 "$base/listing" | grep -c 'tx: *90[01],')" 2
 tell

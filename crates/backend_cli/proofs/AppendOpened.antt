@@ -1,5 +1,5 @@
 -- What a run has to show that went on with a log.
-use Rattle.std.proofs.Common.{◌≡◌, ℕ, ◌+◌, ◌<◌, ◌≤◌, List, [], ◌∷◌, ◌++◌, length, take, Option, Some, None, Ok, Result, refl, sym, ◌∙◌, ap, ap₂, codes, length-append, subst, arith}
+use Rattle.std.proofs.Common.{◌≡◌, ℕ, ◌+◌, ◌<◌, ◌≤◌, List, [], ◌∷◌, ◌++◌, length, take, Option, Some, None, Ok, Result, inl, inr, refl, sym, ◌∙◌, ap, ap₂, codes, length-append, subst, arith}
 use Rattle.std.specs.Prelude.{IfSome}
 use Rattle.std.specs.Fmt.{decimal}
 use Rattle.byte_position.specs.Geometry.{IsSegmentSize}
@@ -9,8 +9,10 @@ use Rattle.segment_disk.specs.Tape.{Tape, state_now}
 use Rattle.flush_core.specs.Calls.{AreMade}
 use Rattle.flush_core.specs.Settled.{HasSettled}
 use Rattle.flush_core.proofs.GrowingTapes.{with_calls-none, with_calls-some}
-use Rattle.byte_position.specs.Position.{end_address_of}
-use Rattle.wal_page.specs.Order.{Entry, end_position, rooms_of}
+use Rattle.byte_position.specs.Position.{first_position, position_of}
+use Rattle.byte_position.proofs.EndAddresses.{position_of-end_address_of}
+use Rattle.wal_page.specs.LogPlace.{LogPlace}
+use Rattle.wal_page.specs.Order.{Entry, FollowsFrom, rooms_of}
 use Rattle.wal_types.specs.LsnText.{lsn_text}
 use Rattle.wal_reader.specs.declared.found.FoundRecord.{FoundRecord}
 use Rattle.wal_reader.specs.Cache.{log_of}
@@ -18,8 +20,10 @@ use Rattle.wal_reader.specs.Finds.{FindsRecords}
 use Rattle.wal_reader.proofs.FindsLaws.{finding_is_decoding}
 use Rattle.waldump_text.specs.Put.{Puts, joined}
 use Rattle.waldump_text.specs.declared.putting.SinkFault.{SinkFault}
+use Rattle.written_log.specs.FoundLog.{end_behind}
 use Rattle.written_log.specs.Written.{found_of}
-use Rattle.found_log.specs.Found.{IsFound}
+use Rattle.written_log.proofs.LawfulLaws.{length-found_from}
+use Rattle.found_log.specs.Found.{IsDiskLog}
 use Rattle.wal_core.specs.Opened.{IsOpenable}
 use Rattle.wal_core.specs.Sound.{IsSetup}
 use Rattle.wal_core.specs.Words.{Opening, found_end, found_position}
@@ -37,28 +41,32 @@ use Rattle.told_lines.specs.Told.{entries_from, order_from}
 use Rattle.told_lines.specs.declared.told.Told.{Told}
 use Rattle.told_lines.proofs.Orders.{sorted_permutes}
 use Rattle.run_laws.specs.Ended.{logged_at_end}
-use Rattle.run_laws.specs.Assured.{HoldsSuited, RunAssures, TapeGoesOn, order_told}
+use Rattle.run_laws.specs.Assured.{AssuresBehind, HoldsSuited, RunAssures, TapeGoesOn}
+use Rattle.reopened_log.specs.FoundFirst.{AreFoundEntries}
 use Rattle.reopened_log.specs.Reopened.{IsReopenedOn}
 use Rattle.reopened_log.specs.WasLeft.{WasLeft}
-use Rattle.reopened_log.proofs.FirstEntries.{left_logs_are_read}
+use Rattle.reopened_log.proofs.FoundPlaces.{found_entries_are_one, found_places_lie_behind}
 use Rattle.reopened_log.proofs.StoppedCrashes.{settled_logs_keep_what_was_found}
+use Rattle.reopened_log.specs.AnyLogs.{HoldsSegments}
+use Rattle.reopened_log.proofs.AnyLogs.{found_logs_are_suited}
 use Rattle.reopened_log.proofs.SuitedDisks.{reopened_logs_are_suited}
 use Rattle.reopened_log.proofs.Surviving.{reopened_logs_survive_crashes}
 use Rattle.backend_lanes.specs.Backends.{lists_of}
 use Rattle.command_words.specs.declared.commands.RunOptions.{RunOptions}
 use Rattle.command_words.specs.declared.commands.ScriptRunOptions.{ScriptRunOptions}
-use Rattle.backend_cli.specs.Appending.{AppendHeadline, AppendHolds, FoundSinceHanded, HoldsAppended, WasLeftSo}
+use Rattle.backend_cli.specs.Appending.{AppendHeadline, AppendHolds, CrashSinceHanded, HoldsAppended, MayGoOn, WasLeftSo}
 use Rattle.backend_cli.specs.Concluding.{HasPlayedOut, IsConcluded}
 use Rattle.backend_cli.specs.Outside.{SourceView, Took, outside_of}
 use Rattle.backend_cli.specs.Printing.{found_line, printed_text}
 use Rattle.backend_cli.specs.Setups.{run_setup, system_id}
 use Rattle.backend_cli.specs.Reading.{ScriptMeans}
-use Rattle.backend_cli.specs.Texts.{append_text, found_text}
+use Rattle.backend_cli.specs.Texts.{append_text, found_text, position_behind_found, run_text}
 use Rattle.backend_cli.specs.declared.outcome.Outcome.{Outcome}
+use Rattle.backend_cli.proofs.FoundPlaces.{LiesBehindLeft}
 use Rattle.backend_cli.proofs.HeadlineLaws.{all_answered, all_own_places}
 use Rattle.backend_cli.proofs.RunBackends.{append_told_holds}
 use Rattle.backend_cli.proofs.RunEnds.{took}
-use Rattle.backend_cli.proofs.RunLaws.{assured, counted, goes_on_further, holds_behind}
+use Rattle.backend_cli.proofs.RunLaws.{assured, assured_behind, counted, goes_on_further, holds_behind, holds_since}
 use Rattle.backend_cli.proofs.RunTexts.{text_is}
 
 -- ---- tapes behind calls that were made
@@ -80,18 +88,18 @@ counted_behind (Some t) new m n calls made counted =
 
 -- ---- what was found is what the reader finds
 
-finds_all : (size sysid cap made : ℕ) (es : List Entry) → IsSegmentSize size → (o : Option Tape)
-    → IfSome o (IsFound size sysid cap es made)
-    → IfSome o (λ t. FindsRecords size (log_of t size) size (found_of size es))
-finds_all size sysid cap made es valid None is = is
-finds_all size sysid cap made es valid (Some t) is =
-    (finding_is_decoding size (image_as_read (state_now t)) size valid (found_of size es)).1
-    ((is.own).answer, (is.own).decodes)
+finds_all : (size cap made : ℕ) (records : List FoundRecord) (place : LogPlace)
+    → IsSegmentSize size → (o : Option Tape) → IfSome o (IsDiskLog size cap records place made)
+    → IfSome o (λ t. FindsRecords size (log_of t size) size records)
+finds_all size cap made records place valid None is = is
+finds_all size cap made records place valid (Some t) is =
+    (finding_is_decoding size (image_as_read (state_now t)) size valid records).1
+    ((is.ends).answer, (is.ends).decodes)
 
-found_text_is : (size : ℕ) (es : List Entry) (found : Found) → found.count ≡ length es
-    → found.end.0 ≡ end_address_of size (end_position size es)
-    → found_line found ≡ found_text size es
-found_text_is size es found count end =
+found_text_is : (size : ℕ) (records : List FoundRecord) (found : Found)
+    → found.count ≡ length records → found.end.0 ≡ end_behind size records
+    → found_line found ≡ found_text size records
+found_text_is size records found count end =
     ap₂ (λ (n at : ℕ). joined (codes "found " ∷ decimal n ∷ codes " end " ∷ lsn_text at ∷
     codes "\n" ∷ [])) count end
 
@@ -113,14 +121,11 @@ module _ {D : Type 0} (tape : D → Option Tape) (moment faults : D → ℕ) (di
   at = (opening_of_log wal).moment
 
   abbrev opening : Opening
-  opening = found_log_opening (run_setup options (length script)) opened.es opened.made at (faults disk)
-
-  -- what was found lies below its place
-  lies : LiesBehind opening opened.es
-  lies = subst (λ (o : Opening). LiesBehind o opened.es) opened.opening opened.lies
+  opening = found_log_opening (run_setup options (length script)) opened.place opened.made at
+      (faults disk)
 
   ends_there : found.end.0 ≡ found_end opening
-  ends_there = opened.end_is ∙ ap (end_address_of size) (sym lies.position_is)
+  ends_there = sym opened.goes_on_at
 
   -- where it ended, and how many calls the disk had counted when it was opened
   pub reopened_end : found.end.0 ≡ found_end (opening_of_log wal)
@@ -146,42 +151,54 @@ module _ {D : Type 0} (tape : D → Option Tape) (moment faults : D → ℕ) (di
   goes_on_from = tape_behind (tape disk) began (moment disk) at
       ((opened.settled).calls).calls ((opened.settled).calls).made
 
-  -- on a disk that this program left the log goes on behind what that left
-  module _ (t b : Tape) (told : tape disk ≡ Some t) (begun : began ≡ Some b)
-      (records : List FoundRecord) (left : WasLeft size system_id t records) where
-    abbrev on_disk : IsReopenedOn opening opened.es (moment disk) t b records
-    on_disk =
-        let read = subst (λ (o : Option Tape). IfSome o (IsFound options.geometry system_id
-        options.cap_segments opened.es opened.made)) told opened.read in
-        record {
-          left = left;
-          counted = subst (λ (o : Option Tape). IfSome o (λ u. moment disk ≡ length u.calls)) told
-              counts;
-          openable = openable;
-          lies = lies;
-          found_is = left_logs_are_read options.geometry system_id t records
-              (found_of options.geometry opened.es) (read.own).answer left (read.own).decodes;
-          settled = subst (λ (o : Option Tape). HasSettled options.geometry
-              (found_end (found_log_opening (run_setup options (length script)) opened.es opened.made
-              (opening_of_log wal).moment (faults disk))) opened.made (Some t) o (moment disk)
-              (opening_of_log wal).moment) begun
-              (subst (λ (o : Option Tape). HasSettled options.geometry
-              (found_end (found_log_opening (run_setup options (length script)) opened.es opened.made
-              (opening_of_log wal).moment (faults disk))) opened.made o
-              (began_of_table tape (table_of wal)) (moment disk) (opening_of_log wal).moment) told
-              settled);
-        }
+  -- ---- on a disk that this program left
+
+  module _ (t : Tape) (told : tape disk ≡ Some t) (records : List FoundRecord)
+      (left : WasLeft size system_id t records) where
+    -- the log goes on behind what that left
+    placed : LiesBehindLeft opening t records opened.records
+    placed = found_places_lie_behind opening options.cap_segments opened.made t records
+        opened.records left openable.placed (opened.goes_on_at ∙ opened.end_is) opened.prev_is
+        (subst (λ (o : Option Tape). IfSome o (IsDiskLog options.geometry options.cap_segments
+        opened.records opened.place opened.made)) told opened.read)
+
+    -- there is one list of its entries
+    same_front : (front : List Entry) → AreFoundEntries size t front → placed.0 ≡ front
+    same_front front below = found_entries_are_one options.geometry system_id t records placed.0
+        front left placed.1 below
+
+    abbrev on_disk : (b : Tape) → began ≡ Some b → (front : List Entry)
+        → LiesBehind opening front → found_of size front ≡ records
+        → IsReopenedOn opening front (moment disk) t b records
+    on_disk b begun front lies found_is = record {
+      left = left;
+      counted = subst (λ (o : Option Tape). IfSome o (λ u. moment disk ≡ length u.calls)) told
+          counts;
+      openable = openable;
+      lies = lies;
+      found_is = found_is;
+      settled = subst (λ (o : Option Tape). HasSettled options.geometry
+          (found_end (found_log_opening (run_setup options (length script)) opened.place
+          opened.made (opening_of_log wal).moment (faults disk))) opened.made (Some t) o
+          (moment disk) (opening_of_log wal).moment) begun
+          (subst (λ (o : Option Tape). HasSettled options.geometry
+          (found_end (found_log_opening (run_setup options (length script)) opened.place
+          opened.made (opening_of_log wal).moment (faults disk))) opened.made o
+          (began_of_table tape (table_of wal)) (moment disk) (opening_of_log wal).moment) told
+          settled);
+    }
 
   -- up to the opening the reader finds just what was found, from the end of the first syncs on
   keeps_all : IsSegmentSize size → (m : ℕ) (records : List FoundRecord)
-      → FoundSinceHanded size (moment disk) [] (tape disk) began m records
-      → moment disk + opened.made ≤ m → records ≡ found_of size opened.es
+      → CrashSinceHanded size (moment disk) [] (tape disk) began m records
+      → moment disk + opened.made ≤ m → records ≡ opened.records
   keeps_all valid m records c after =
       let decodes = (finding_is_decoding options.geometry c.image options.geometry valid
       records).0 c.finds in
-      let there = on_disk c.old c.tape c.told_before c.disk_tells c.found_before c.was_left in
-      settled_logs_keep_what_was_found opening opened.es (moment disk) c.old c.tape c.found_before there m
-      c.image after c.left c.no_torn_pass_before records decodes.0 decodes.1 ∙ sym there.found_is
+      let lies = placed c.old c.told_before c.found_before c.was_left in
+      settled_logs_keep_what_was_found opening lies.0 (moment disk) c.old c.tape c.found_before
+      (on_disk c.old c.told_before c.found_before c.was_left c.tape c.disk_tells lies.0 lies.2
+      lies.3) m c.image after c.left c.no_torn_pass_before records decodes.0 decodes.1 ∙ sym lies.4
 
   suited_from : (old now : Option Tape) → tape disk ≡ old → began ≡ now → TapeGoesOn old now
       → WasLeftSo size old → HoldsSuited opening now
@@ -189,15 +206,38 @@ module _ {D : Type 0} (tape : D → Option Tape) (moment faults : D → ℕ) (di
       subst (HoldsSuited opening) (sym goes_on) tt
   suited_from (Some t) None told begun goes_on left = tt
   suited_from (Some t) (Some b) told begun goes_on left =
-      reopened_logs_are_suited opening opened.es (moment disk) t b left.0
-      (on_disk t b told begun left.0 left.1)
+      let lies = placed t told left.0 left.1 in
+      reopened_logs_are_suited opening lies.0 (moment disk) t b left.0
+      (on_disk t told left.0 left.1 b begun lies.0 lies.2 lies.3)
 
-  suited : WasLeftSo size (tape disk) → HoldsSuited opening began
-  suited left = suited_from (tape disk) began refl refl goes_on_from left
+  -- .. and on one of pages of bytes, whoever wrote them
+  suited_any : (old now : Option Tape) → tape disk ≡ old → began ≡ now → TapeGoesOn old now
+      → IfSome old (HoldsSegments options.geometry opened.made) → HoldsSuited opening now
+  suited_any None now told begun goes_on holds = subst (HoldsSuited opening) (sym goes_on) tt
+  suited_any (Some t) None told begun goes_on holds = tt
+  suited_any (Some t) (Some b) told begun goes_on holds =
+      found_logs_are_suited opening options.cap_segments (moment disk) opened.records t b
+      (openable.setup_is).size
+      (subst (λ (o : Option Tape). IfSome o (IsDiskLog options.geometry options.cap_segments
+      opened.records opened.place opened.made)) told opened.read) holds
+      (subst (λ (o : Option Tape). HasSettled options.geometry
+      (found_end (found_log_opening (run_setup options (length script)) opened.place
+      opened.made (opening_of_log wal).moment (faults disk))) opened.made (Some t) o
+      (moment disk) (opening_of_log wal).moment) begun
+      (subst (λ (o : Option Tape). HasSettled options.geometry
+      (found_end (found_log_opening (run_setup options (length script)) opened.place
+      opened.made (opening_of_log wal).moment (faults disk))) opened.made o
+      (began_of_table tape (table_of wal)) (moment disk) (opening_of_log wal).moment) told
+      settled))
+
+  suited : MayGoOn size opened.made (tape disk) → HoldsSuited opening began
+  suited (inl left) = suited_from (tape disk) began refl refl goes_on_from left
+  suited (inr holds) = suited_any (tape disk) began refl refl goes_on_from holds
 
   -- ---- and what a run made of it
 
-  module _ (can_be : IsSetup (run_setup options (length script))) (some : 0 < length script) {O : Type 0} (sunk : O → Option (List ℕ))
+  module _ (can_be : IsSetup (run_setup options (length script))) (some : 0 < length script)
+      {O : Type 0} (sunk : O → Option (List ℕ))
       (sink_faults : O → ℕ) (out out_now : O) (before after : SourceView) (outcome : Outcome)
       (disk_now : D) (lists_now : List (List Told)) (begun : Result (Unit {0}) SinkFault)
       (taken_between : Option (List ℕ)) (sink_between : ℕ)
@@ -221,9 +261,14 @@ module _ {D : Type 0} (tape : D → Option Tape) (moment faults : D → ℕ) (di
         (sink_faults out) (sink_faults out_now) outcome) opened.opening
         (played_out.concluded (sunk out) (sink_faults out) (found_line found) puts)
 
-    all : RunAssures opening opened.es began (tape (played_out.closed).disk)
+    all : RunAssures opening began (tape (played_out.closed).disk)
         (moment (played_out.closed).disk) (faults (played_out.closed).disk) script lists
-    all = assured tape moment faults wal began opening opened.es lies opened.opening refl (omega arith)
+    all = assured tape moment faults wal began opening opened.opening refl (omega arith)
+        reopened_counted script played_out.backends played_out.closed played_out.played
+
+    behind : (front : List Entry) → LiesBehind opening front
+        → AssuresBehind opening front began (tape (played_out.closed).disk) script lists
+    behind = assured_behind tape moment faults wal began opening opened.opening refl (omega arith)
         reopened_counted script played_out.backends played_out.closed played_out.played
 
     goes_on : TapeGoesOn (tape disk) (tape (played_out.closed).disk)
@@ -233,67 +278,103 @@ module _ {D : Type 0} (tape : D → Option Tape) (moment faults : D → ℕ) (di
     valid : IsSegmentSize size
     valid = can_be.size
 
+    -- the place's position is the one behind what was found
+    position_is : found_position opening ≡ position_behind_found size opened.records
+    position_is =
+        sym (position_of-end_address_of options.geometry valid (found_position opening))
+        ∙ ap (position_of options.geometry) (opened.goes_on_at ∙ opened.end_is)
+
     text : found_line found ++ printed_text options.list played_out.backends concluded.summary
-        ≡ append_text size options.list opened.es script lists reserved
+        ≡ append_text size options.list opened.records script lists reserved
     text = ap₂ (λ (front rest : List ℕ). front ++ rest)
-        (found_text_is options.geometry opened.es found opened.count_is opened.end_is)
-        (text_is options.geometry options.list script played_out.backends opened.es
-        (order_from options.geometry 1 script (lists_of played_out.backends))
-        (found_position opening) lies.position_is concluded.summary
+        (found_text_is options.geometry opened.records found opened.count_is opened.end_is)
+        (text_is options.geometry options.list script played_out.backends (found_position opening)
+        (order_from options.geometry 1 script (lists_of played_out.backends)) concluded.summary
         (played_out.played).each concluded.summarizes
-        (counted tape moment faults wal began opening opened.es lies opened.opening refl (omega arith)
-        reopened_counted script played_out.backends played_out.closed played_out.played))
+        (counted tape moment faults wal began opening opened.opening refl (omega arith)
+        reopened_counted script played_out.backends played_out.closed played_out.played)
+        ∙ ap (λ (from : ℕ). run_text options.geometry options.list from script
+        (lists_of played_out.backends)
+        (order_from options.geometry 1 script (lists_of played_out.backends))) position_is)
 
     -- what crashes leave since the disk was handed in
-    survives : (m : ℕ) (records : List FoundRecord)
-        → FoundSinceHanded size (moment disk) (opened.es ++ reserved) (tape disk)
-        (tape (played_out.closed).disk) m records
-        → IsFrontWithTold size m (opened.es ++ reserved) lists records
+    survives : (front : List Entry) (m : ℕ) (records : List FoundRecord)
+        → (c : CrashSinceHanded size (moment disk) (front ++ reserved) (tape disk)
+        (tape (played_out.closed).disk) m records) → AreFoundEntries size c.old front
+        → IsFrontWithTold size m (front ++ reserved) lists records
         × (moment disk + opened.made ≤ m
-        → take (length opened.es) records ≡ found_of size opened.es)
-    survives m records c =
+        → take (length opened.records) records ≡ opened.records)
+    survives front m records c below =
         let goes = subst (λ (o : Option Tape). TapeGoesOn o
         (began_of_table tape (table_of wal))) c.told_before goes_on_from in
-        let told = subst (λ (o : Option Tape). RunAssures opening opened.es o
-        (tape (played_out.closed).disk) (moment (played_out.closed).disk) (faults (played_out.closed).disk) script
-        (lists_of played_out.backends)) goes.1 all in
-        let told_now = subst (λ (o : Option Tape). RunAssures opening opened.es
-        (Some (record c.old { calls = c.old.calls ++ goes.0 })) o
+        let b : Tape = record c.old { calls = c.old.calls ++ goes.0 } in
+        let lies = placed c.old c.told_before c.found_before c.was_left in
+        let same = same_front c.old c.told_before c.found_before c.was_left front below in
+        let lies_there = subst (LiesBehind opening) same lies.2 in
+        let found_is = subst (λ (es : List Entry). found_of options.geometry es ≡ c.found_before)
+        same lies.3 in
+        let there = on_disk c.old c.told_before c.found_before c.was_left b goes.1 front lies_there
+        found_is in
+        let told = subst (λ (o : Option Tape). RunAssures opening (Some b) o
         (moment (played_out.closed).disk) (faults (played_out.closed).disk) script
-        (lists_of played_out.backends)) c.disk_tells told in
+        (lists_of played_out.backends)) c.disk_tells
+        (subst (λ (o : Option Tape). RunAssures opening o (tape (played_out.closed).disk)
+        (moment (played_out.closed).disk) (faults (played_out.closed).disk) script
+        (lists_of played_out.backends)) goes.1 all) in
+        let told_behind = subst (λ (o : Option Tape). AssuresBehind opening front (Some b) o script
+        (lists_of played_out.backends)) c.disk_tells
+        (subst (λ (o : Option Tape). AssuresBehind opening front o
+        (tape (played_out.closed).disk) script (lists_of played_out.backends)) goes.1
+        (behind front lies_there)) in
         let decodes = (finding_is_decoding options.geometry c.image options.geometry valid
         records).0 c.finds in
-        reopened_logs_survive_crashes opening opened.es (moment disk) (moment (played_out.closed).disk)
-        (faults (played_out.closed).disk) c.old
-        (record c.old { calls = c.old.calls ++ goes.0 }) c.tape c.found_before script
-        (lists_of played_out.backends)
-        (on_disk c.old (record c.old { calls = c.old.calls ++ goes.0 }) c.told_before goes.1
-        c.found_before c.was_left) told_now m c.image c.since_handed c.left c.no_torn_pass_before
-        c.no_torn_pass records decodes.0 decodes.1
+        let survive = reopened_logs_survive_crashes opening front (moment disk)
+        (moment (played_out.closed).disk) (faults (played_out.closed).disk) c.old b c.tape
+        c.found_before script (lists_of played_out.backends) there told told_behind m c.image
+        c.since_handed c.left c.no_torn_pass_before c.no_torn_pass records decodes.0 decodes.1 in
+        let counted = length-found_from options.geometry 0 front in (
+          survive.0,
+          λ late.
+              subst (λ (l : List FoundRecord). take (length l) records ≡ l)
+              (found_is ∙ sym lies.4)
+              (ap (λ (n : ℕ). take n records) counted ∙ survive.1 late),
+        )
+
+    -- .. and what lies below, where this program left the disk
+    whole : (t : Tape) (records : List FoundRecord) → tape disk ≡ Some t
+        → WasLeft size system_id t records
+        → (front : List Entry) × AreFoundEntries size t front
+        × (found_of size front ≡ opened.records)
+        × FollowsFrom size (first_position size) (front ++ reserved)
+    whole t records told left =
+        let lies = placed t told records left in
+        (lies.0, lies.1, lies.3 ∙ sym lies.4, (behind lies.0 lies.2).gapless)
 
     abbrev headline : AppendHeadline size (moment disk) script lists (tape disk)
         (tape (played_out.closed).disk)
     headline =
-        let logged = logged_at_end opening opened.es
-        (order_told opened.es options.geometry script (lists_of played_out.backends))
+        let logged = logged_at_end opening
+        (order_from options.geometry 1 script (lists_of played_out.backends))
         (faults (played_out.closed).disk) in
         record {
           sized = valid;
           answered = all_answered logged 1 script (lists_of played_out.backends) all.told;
           receipts = all_own_places logged 1 script (lists_of played_out.backends) all.told;
-          found = opened.es;
-          nobodys = lies.nobodys;
-          read = finds_all options.geometry system_id options.cap_segments opened.made opened.es
-              valid (tape disk) opened.read;
+          found = opened.records;
+          read = finds_all options.geometry options.cap_segments opened.made opened.records
+              opened.place valid (tape disk) opened.read;
           order = order_from options.geometry 1 script (lists_of played_out.backends);
           reserved = sorted_permutes
               (entries_from options.geometry 1 script (lists_of played_out.backends));
-          gapless = all.gapless;
+          gapless = subst (λ (from : ℕ). FollowsFrom options.geometry from
+              (order_from options.geometry 1 script (lists_of played_out.backends))) position_is
+              all.gapless;
           in_line_order = all.in_line_order;
-          crash = λ m records c. (survives m records c).0;
+          whole = whole;
+          crash = λ front m records c below. (survives front m records c below).0;
           segments = opened.made;
           there = (opened.settled).there;
-          keeps_found = λ m records c. (survives m records c).1;
+          keeps_found = λ front m records c below. (survives front m records c below).1;
         }
 
     holds : HoldsAppended (outside_of before after tape moment faults disk
@@ -303,22 +384,29 @@ module _ {D : Type 0} (tape : D → Option Tape) (moment faults : D → ℕ) (di
         ++ printed_text options.list played_out.backends concluded.summary in
         record {
           headline = headline;
+          place = opened.place;
+          ends_there = opened.goes_on_at ∙ opened.end_is;
+          prev_is = opened.prev_is;
           judged = opened.read;
           within = openable.made_within;
           began = began;
           moment = at;
-          settled = settled_to (end_address_of options.geometry
-              (end_position options.geometry opened.es)) opened.end_is;
+          settled = settled_to (end_behind options.geometry opened.records) opened.end_is;
           openable = openable;
           goes_on = all.goes_on;
           keeps_all = keeps_all valid;
-          behind = holds_behind tape moment faults wal began opening opened.es lies opened.opening refl
+          since = holds_since tape moment faults wal began opening opened.opening refl
               (omega arith) reopened_counted script played_out.backends played_out.closed
-              played_out.played sunk sink_faults out out_now before after disk refl goes_on
-              (WasLeftSo options.geometry (tape disk)) suited outcome (found_position opening)
+              played_out.played sunk sink_faults out out_now before after disk refl
+              (MayGoOn options.geometry opened.made (tape disk)) suited goes_on outcome
+              (found_position opening)
               (rooms_of options.geometry
               (order_from options.geometry 1 script (lists_of played_out.backends))) options.list
               (found_line found) concluded;
+          behind = holds_behind tape moment faults wal began opening opened.opening refl
+              (omega arith) reopened_counted script played_out.backends played_out.closed
+              played_out.played sunk sink_faults out out_now before after disk refl
+              (MayGoOn options.geometry opened.made (tape disk)) suited;
           printed = subst
               (Took (sunk out) (sunk out_now) (sink_faults out) (sink_faults out_now)) text
               (took (sunk out) (sunk out_now) (sink_faults out) (sink_faults out_now) printed

@@ -21,7 +21,7 @@ use Rattle.wal_script.specs.Asked.{AskedLine}
 use Rattle.command_words.specs.declared.commands.ScriptRunOptions.{ScriptRunOptions}
 use Rattle.reopened_log.specs.WasLeft.{WasLeft}
 use Rattle.reopened_log.proofs.StoppedCrashes.{stopped_settlings_survive_crashes}
-use Rattle.backend_cli.specs.Appending.{AppendHolds, FoundSinceHanded, PrintsNothing, StopsSettling}
+use Rattle.backend_cli.specs.Appending.{AppendHolds, CrashSinceHanded, PrintsNothing, StopsSettling}
 use Rattle.backend_cli.specs.Outcome.{outcome_unopened}
 use Rattle.backend_cli.specs.Outside.{IsUntouched, Outside, SourceView, outside_of}
 use Rattle.backend_cli.specs.Prepared.{IsUnprepared}
@@ -31,11 +31,11 @@ use Rattle.backend_cli.specs.declared.outcome.Outcome.{Outcome}
 use Rattle.backend_cli.specs.declared.outcome.Outcome.TheVariants.{Diverged, TooManyFrames, Done, OutOfMemory, Usage, SourceFault, ScriptRefused, NotEmpty, BeyondCap, DiskFault, Stopped, LogFull, SinkFault}
 
 -- a segment behind the last one allowed is there
-beyond_there : (size sysid cap segment : ℕ) (tape : Option Tape)
-    → IfSome tape (RefusesLog size sysid cap (finding.Beyond segment))
+beyond_there : (size cap segment : ℕ) (tape : Option Tape)
+    → IfSome tape (RefusesLog size cap (finding.Beyond segment))
     → IfSome tape (λ t. IsSome (page_of_segment (state_now t (cap + 1)) 0))
-beyond_there size sysid cap segment None refuses = refuses
-beyond_there size sysid cap segment (Some t) refuses =
+beyond_there size cap segment None refuses = refuses
+beyond_there size cap segment (Some t) refuses =
     subst (λ (n : ℕ). IsSome (page_of_segment (state_now t n) 0)) refuses.0 refuses.1
 
 -- ---- a settling that the disk failed, on a disk that tells
@@ -50,7 +50,7 @@ module _ (size sysid cap handed last : ℕ) (t now : Tape) (found : List FoundRe
       → handed + segments ≤ moment → told ≡ found)
 
   abbrev SurviveAll : (before after : Option Tape) → Type 0
-  SurviveAll before after = (begun : HasBegunToSettle size sysid cap before after handed last)
+  SurviveAll before after = (begun : HasBegunToSettle size cap before after handed last)
       → Survives (length (begun.stopped.calls).front)
 
   survives_told : (before after : Option Tape) → before ≡ Some t → after ≡ Some now
@@ -89,7 +89,7 @@ module _ {D : Type 0} (tape : D → Option Tape) (moment faults : D → ℕ)
 
   -- what the reader finds behind a crash since the disk was handed in
   survives : (m : ℕ) (records : List FoundRecord)
-      → (c : FoundSinceHanded size (moment disk) [] (tape disk) (tape now) m records)
+      → (c : CrashSinceHanded size (moment disk) [] (tape disk) (tape now) m records)
       → SurviveAll size system_id options.run.cap_segments (moment disk) (moment now) c.old c.tape
       c.found_before c.was_left m c.image records (tape disk) (tape now)
   survives m records c =
@@ -100,7 +100,7 @@ module _ {D : Type 0} (tape : D → Option Tape) (moment faults : D → ℕ)
       (subst (λ (o : Option Tape). IfSome o (λ t. moment disk ≡ length t.calls)) c.told_before
       counts) c.since_handed c.left c.no_torn_pass_before decodes.0 decodes.1
 
-  stops_settling : HasBegunToSettle size system_id options.run.cap_segments (tape disk) (tape now)
+  stops_settling : HasBegunToSettle size options.run.cap_segments (tape disk) (tape now)
       (moment disk) (moment now) → StopsSettling size options.run.cap_segments unplayed
   stops_settling begun = record {
     begun = begun;
@@ -121,7 +121,7 @@ module _ {D : Type 0} (tape : D → Option Tape) (moment faults : D → ℕ)
   unappended_holds kinds.NotEmpty tells = absurd tells
   unappended_holds (kinds.Beyond segment) (is_setup, uncalled, same, refuses) = (
     (script, means),
-    beyond_there options.run.geometry 1 options.run.cap_segments segment (tape disk) refuses,
+    beyond_there options.run.geometry options.run.cap_segments segment (tape disk) refuses,
     same,
     untouched uncalled,
   )

@@ -3,26 +3,21 @@ use Rattle.std.proofs.Common.{◌≡◌, ℕ, ◌+◌, ◌-◌, ◌^◌, ◌<◌
 use Rattle.std.proofs.lemmas.List.{append_cancel_left}
 use Rattle.std.proofs.lemmas.List.Sums.{sum_by-cons}
 use Rattle.byte_position.specs.Geometry.{IsSegmentSize}
-use Rattle.byte_position.specs.Position.{address_of, position_of}
+use Rattle.byte_position.specs.Position.{address_of, first_position, position_of}
 use Rattle.byte_position.proofs.PositionLaws.{position_of-address_of}
 use Rattle.segment_disk.specs.Cause.{Rose, RoseByOne}
-use Rattle.segment_disk.specs.DiskImage.{image_as_read}
-use Rattle.segment_disk.specs.Tape.{Tape, state_now}
+use Rattle.segment_disk.specs.Tape.{Tape}
 use Rattle.flush_core.specs.Pages.{HoldsNothing}
 use Rattle.wal_page.specs.Order.{Entry, room_at, rooms_of}
 use Rattle.wal_page.proofs.OrderLaws.{rooms_of_cons}
-use Rattle.wal_core.specs.Words.{Opening}
-use Rattle.wal_rule.specs.Founded.{empty_log_opening, found_log_opening}
-use Rattle.wal_reader.specs.Cache.{log_of}
-use Rattle.wal_reader.specs.Finds.{FindsRecords}
+use Rattle.wal_core.specs.Words.{Opening, found_position, log_limit}
+use Rattle.wal_rule.specs.Founded.{empty_log_opening}
 use Rattle.wal_reader.specs.declared.found.FoundRecord.{FoundRecord}
-use Rattle.wal_reader.proofs.FindsLaws.{finding_is_decoding}
-use Rattle.written_log.specs.Written.{found_entry, found_from, found_of}
+use Rattle.written_log.specs.Written.{found_entry, found_from}
 use Rattle.found_log.specs.Found.{RefusesLog, first_page}
 use Rattle.found_log.specs.declared.fault.FindFault.TheVariants as finding
 use Rattle.reopened_log.specs.WasLeft.{WasLeft}
-use Rattle.reopened_log.proofs.FirstEntries.{left_logs_are_read}
-use Rattle.reopened_log.proofs.OwnSystem.{left_logs_are_not_foreign}
+use Rattle.reopened_log.proofs.OwnAnswers.{left_logs_are_not_foreign}
 use Rattle.wal_script.specs.Asked.{AskedLine}
 use Rattle.wal_script.specs.Run.{run_meaning}
 use Rattle.wal_script.specs.declared.line.Refusal.{Refusal}
@@ -31,14 +26,15 @@ use Rattle.told_lines.specs.Rooms.{all_rooms_asked, capacity_of}
 use Rattle.wal_script.specs.Generated.{generated_script}
 use Rattle.command_words.specs.declared.commands.RunOptions.{RunOptions}
 use Rattle.command_words.specs.declared.commands.ScriptRunOptions.{ScriptRunOptions}
-use Rattle.backend_cli.specs.Appending.{EndsUnappended, HoldsAppended, WasLeftSo}
+use Rattle.backend_cli.specs.Appending.{EndsUnappended, HoldsAppended, MayGoOn}
 use Rattle.backend_cli.specs.Complete.{AppendsAreComplete, LogHasRoom, IsComplete, MadeRunsAreComplete, MeansThese, NoFault, NothingFailed, RunsAreComplete, rooms_found}
 use Rattle.backend_cli.specs.Outside.{Outside, SourceView}
 use Rattle.backend_cli.specs.Reading.{ScriptMeans}
-use Rattle.backend_cli.specs.Run.{EndsUnopened, EndsUnplayed, HoldsBehind, HoldsOpened}
+use Rattle.backend_cli.specs.Run.{EndsUnopened, EndsUnplayed, HoldsOpened, HoldsSince}
 use Rattle.backend_cli.specs.Setups.{run_setup, system_id}
 use Rattle.backend_cli.specs.declared.outcome.Outcome.{Outcome}
 use Rattle.backend_cli.specs.declared.outcome.Outcome.TheVariants.{BeyondCap, DiskFault, Done, LogFull, NotEmpty, OutOfMemory, ScriptRefused, SinkFault, SourceFault, Stopped}
+use Rattle.backend_cli.proofs.FoundPlaces.{appended_opening, lies_behind_left}
 
 -- ---- what a source handed out has one meaning
 
@@ -78,9 +74,12 @@ never_rose_by_one last old new same below (inr full) = omega (arith, below, full
 not_risen_by_one : (old new : ℕ) → NoFault old new → RoseByOne old new → ⊥
 not_risen_by_one old new none rose = never_rose_by_one (2 ^ 64 - 1) old new none.0 none.1 rose
 
-fits_or_not : (capacity found other asked : ℕ) → found ≡ other → found + asked ≤ capacity
-    → capacity < other + asked → ⊥
-fits_or_not capacity found other asked same fits beyond = omega (arith, same, fits, beyond)
+-- records that were found and what is asked for take up no more than there is, from a position on
+-- to which they reach
+fits_or_not : (capacity first found position asked : ℕ) → position ≡ first + found
+    → found + asked ≤ capacity → first + capacity < position + asked → ⊥
+fits_or_not capacity first found position asked same fits beyond =
+    omega (arith, same, fits, beyond)
 
 some_lists : (told : List Told) (others : List (List Told)) → told ∷ others ≡ [] → ⊥
 some_lists told others same = cc
@@ -94,21 +93,20 @@ if_told P told t is holds = subst (λ (o : Option Tape). IfSome o P) is holds
 
 -- ---- a log that was opened
 
-module _ (opening : Opening) (front : List Entry) (held : Type 0) (outside : Outside) (script : List (List AskedLine))
+module _ (opening : Opening) (held : Type 0) (outside : Outside) (script : List (List AskedLine))
     (told : List Told) (others : List (List Told)) (fine : NothingFailed outside)
-    (room : capacity_of (opening.setup).segment_size (opening.setup).cap_segments
-    < rooms_of (opening.setup).segment_size front
-    + all_rooms_asked (opening.setup).segment_size script → ⊥) where
+    (room : log_limit opening.setup
+    < found_position opening + all_rooms_asked (opening.setup).segment_size script → ⊥) where
   opened_complete : (outcome : Outcome)
-      → HoldsBehind opening front held outside outcome script (told ∷ others)
+      → HoldsSince opening held outside outcome script (told ∷ others)
       → IsComplete (told ∷ others) outcome
-  opened_complete Done behind = (some_lists told others, behind.ends.1)
-  opened_complete DiskFault behind =
-      absurd (not_risen outside.disk_before outside.disk_after fine.disk behind.ends)
-  opened_complete LogFull behind = absurd (room (behind.full behind.ends.1))
-  opened_complete SinkFault behind =
-      absurd (not_risen outside.sink_before outside.sink_after fine.sink behind.ends.2)
-  opened_complete other behind = absurd behind.ends
+  opened_complete Done since = (some_lists told others, since.ends.1)
+  opened_complete DiskFault since =
+      absurd (not_risen outside.disk_before outside.disk_after fine.disk since.ends)
+  opened_complete LogFull since = absurd (room (since.full since.ends.1))
+  opened_complete SinkFault since =
+      absurd (not_risen outside.sink_before outside.sink_after fine.sink since.ends.2)
+  opened_complete other since = absurd since.ends
 
 -- ---- a log that is begun
 
@@ -147,9 +145,10 @@ module _ (outside : Outside) (fine : NothingFailed outside) (t : Tape)
       opened_complete
       (empty_log_opening (run_setup options (length script)) outside.moment_before
       outside.disk_before)
-      [] (HoldsNothing outside.tape_before) outside script lists others fine
-      (fits_or_not (capacity_of options.geometry options.cap_segments) 0 0
-      (all_rooms_asked options.geometry script) refl room) outcome holds.behind
+      (HoldsNothing outside.tape_before) outside script lists others fine
+      (fits_or_not (capacity_of options.geometry options.cap_segments)
+      (first_position options.geometry) 0 (first_position options.geometry)
+      (all_rooms_asked options.geometry script) (omega arith) room) outcome holds.since
 
 pub runs_are_complete : RunsAreComplete
 runs_are_complete outside options outcome [] holds fine script means room t told empty =
@@ -193,20 +192,6 @@ module _ (outside : Outside) (options : ScriptRunOptions) (fine : NothingFailed 
   valid : IsSegmentSize size
   valid = left.has_found.may.valid
 
-  -- the records that a run finds on the disk are those that the disk was left with
-  same_rooms : (es : List Entry)
-      → IfSome outside.tape_before (λ u. FindsRecords size (log_of u size) size (found_of size es))
-      → rooms_found size found ≡ rooms_of size es
-  same_rooms es reads =
-      let finds = if_told (λ (u : Tape). FindsRecords size (log_of u size) size (found_of size es))
-      outside.tape_before t told reads in
-      let decodes = (finding_is_decoding size (image_as_read (state_now t)) size valid
-      (found_of size es)).0 finds in
-      let same = left_logs_are_read size system_id t found (found_of size es) decodes.0 left
-      decodes.1 in
-      ap (λ (fs : List FoundRecord). rooms_found size fs) (sym same)
-      ∙ rooms_found_of size valid 0 es
-
   -- the segment behind the last one allowed is there
   abbrev IsBeyond : List (List Told) → Outcome → Type 0
   IsBeyond lists outcome = (outcome ≡ BeyondCap) × (lists ≡ [])
@@ -229,11 +214,21 @@ module _ (outside : Outside) (options : ScriptRunOptions) (fine : NothingFailed 
       )
   unappended_complete (Stopped stop) ends =
       absurd (left_logs_are_not_foreign size system_id options.run.cap_segments t found stop left
-      (if_told (RefusesLog size system_id options.run.cap_segments (finding.Foreign stop))
+      (if_told (RefusesLog size options.run.cap_segments (finding.Foreign stop))
       outside.tape_before t told ends.1))
   unappended_complete DiskFault ends =
       absurd (not_risen outside.disk_before outside.disk_after fine.disk ends.1)
   unappended_complete other ends = absurd ends
+
+  -- the records that the disk was left with reach up to the place at which a run goes on
+  place_found : (outcome : Outcome) (asked : List (List AskedLine)) (lists : List (List Told))
+      → (holds : HoldsAppended outside options.run outcome asked lists)
+      → holds.place.position ≡ first_position size + rooms_found size found
+  place_found outcome asked lists holds =
+      let lies = lies_behind_left options.run outside outcome asked lists holds t told found left in
+      lies.2.position_is
+      ∙ ap (λ (n : ℕ). first_position size + n) (sym (rooms_found_of size valid 0 lies.0)
+      ∙ ap (λ (fs : List FoundRecord). rooms_found size fs) lies.3)
 
   appended_complete : (asked : List (List AskedLine)) → asked ≡ script
       → LogHasRoom options.run found script → (outcome : Outcome) (lists : List Told)
@@ -241,14 +236,12 @@ module _ (outside : Outside) (options : ScriptRunOptions) (fine : NothingFailed 
       → HoldsAppended outside options.run outcome asked (lists ∷ others)
       → IsComplete (lists ∷ others) outcome
   appended_complete asked same room outcome lists others holds =
-      opened_complete
-      (found_log_opening (run_setup options.run (length asked)) holds.headline.found
-      holds.headline.segments holds.moment outside.disk_before)
-      holds.headline.found (WasLeftSo size outside.tape_before) outside asked lists others fine
-      (fits_or_not (capacity_of size options.run.cap_segments) (rooms_found size found)
-      (rooms_of size holds.headline.found) (all_rooms_asked size asked)
-      (same_rooms holds.headline.found holds.headline.read)
-      (subst (LogHasRoom options.run found) (sym same) room)) outcome holds.behind
+      let opening = appended_opening options.run outside outcome asked (lists ∷ others) holds in
+      opened_complete opening (MayGoOn size holds.headline.segments outside.tape_before) outside asked lists others fine
+      (fits_or_not (capacity_of size options.run.cap_segments) (first_position size)
+      (rooms_found size found) (found_position opening) (all_rooms_asked size asked)
+      (place_found outcome asked (lists ∷ others) holds)
+      (subst (LogHasRoom options.run found) (sym same) room)) outcome holds.since
 
 pub appends_are_complete : AppendsAreComplete
 appends_are_complete outside options outcome [] holds fine script means found room t told left =

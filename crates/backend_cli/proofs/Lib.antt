@@ -15,6 +15,7 @@ pub mod HeadlineLaws
 pub mod CallLaws
 pub mod RunLaws
 pub mod RunOpened
+pub mod FoundPlaces
 pub mod AppendOpened
 pub mod AppendUnopened
 pub mod RunUnopened

@@ -2,6 +2,7 @@
 use Rattle.std.proofs.Common.{◌≡◌, ℕ, ◌<◌, List, [], length, Ok, Option, refl, sym, ◌∙◌, ap, subst, arith}
 use Rattle.std.specs.Prelude.{IfSome}
 use Rattle.byte_position.specs.Geometry.{IsSegmentSize}
+use Rattle.byte_position.specs.Position.{first_position}
 use Rattle.segment_disk.specs.Tape.{Tape}
 use Rattle.flush_core.specs.Pages.{HoldsNothing}
 use Rattle.wal_page.specs.Order.{rooms_of}
@@ -22,7 +23,7 @@ use Rattle.waldump_text.proofs.SinkLaws.{with_behind-nil}
 use Rattle.told_lines.specs.Told.{order_from}
 use Rattle.told_lines.specs.declared.told.Told.{Told}
 use Rattle.run_laws.specs.Ended.{logged_at_end}
-use Rattle.run_laws.specs.Assured.{HoldsSuited, order_told}
+use Rattle.run_laws.specs.Assured.{HoldsSuited}
 use Rattle.run_laws.proofs.ClosedRuns.{empty_suited}
 use Rattle.backend_lanes.specs.Backends.{lists_of}
 use Rattle.command_words.specs.declared.commands.RunOptions.{RunOptions}
@@ -36,7 +37,7 @@ use Rattle.backend_cli.specs.declared.outcome.Outcome.{Outcome}
 use Rattle.backend_cli.proofs.HeadlineLaws.{all_answered, all_own_places, headline_of_run}
 use Rattle.backend_cli.proofs.RunBackends.{told_holds}
 use Rattle.backend_cli.proofs.RunEnds.{took}
-use Rattle.backend_cli.proofs.RunLaws.{assured, counted, holds_behind}
+use Rattle.backend_cli.proofs.RunLaws.{assured, assured_behind, counted, holds_behind, holds_since}
 use Rattle.backend_cli.proofs.RunTexts.{text_is}
 
 module _ {D : Type 0} (tape : D → Option Tape) (moment faults : D → ℕ) (setup : Setup) (disk : D)
@@ -48,11 +49,6 @@ module _ {D : Type 0} (tape : D → Option Tape) (moment faults : D → ℕ) (se
       is ∙ sym size_is
       ∙ sym (nothing_ends (empty_log_opening setup (moment disk) (faults disk)) can_be.size refl)
       ∙ sym (ap (λ (o : Opening). found_end o) opened.opening)
-
-  -- nothing lies below it
-  pub begun_behind : IsSetup setup → LiesBehind (opening_of_log wal) []
-  begun_behind can_be = subst (λ (o : Opening). LiesBehind o []) (sym opened.opening)
-      (LiesBehind-new (empty_log_opening setup (moment disk) (faults disk)) can_be.size refl)
 
   module _ (counts : IfSome (tape disk) (λ t. moment disk ≡ length t.calls)) where
     -- the opening's moment is the number of the calls that were counted then
@@ -77,6 +73,7 @@ module _ {D : Type 0} (tape : D → Option Tape) (moment faults : D → ℕ) (se
       valid : IsSegmentSize options.geometry
       valid = subst (λ (s : Setup). IsSegmentSize s.segment_size) setup_is can_be.size
 
+      -- nothing lies below its place
       lies : LiesBehind opening []
       lies = LiesBehind-new opening valid refl
 
@@ -104,22 +101,25 @@ module _ {D : Type 0} (tape : D → Option Tape) (moment faults : D → ℕ) (se
             (out_of.concluded (sunk out) (sink_faults out) [] (sym (with_behind-nil (sunk out)), refl))
 
         text : printed_text options.list out_of.backends concluded.summary
-            ≡ run_text options.geometry options.list [] script lists
+            ≡ run_text options.geometry options.list (first_position options.geometry) script lists
             (order_from options.geometry 1 script lists)
-        text = text_is options.geometry options.list script out_of.backends []
-            (order_from options.geometry 1 script (lists_of out_of.backends))
-            (found_position opening) lies.position_is concluded.summary (out_of.played).each concluded.summarizes
-            (counted tape moment faults wal (tape disk) opening [] lies opening_is opened.began
+        text = text_is options.geometry options.list script out_of.backends
+            (found_position opening)
+            (order_from options.geometry 1 script (lists_of out_of.backends)) concluded.summary
+            (out_of.played).each concluded.summarizes
+            (counted tape moment faults wal (tape disk) opening opening_is opened.began
             (omega arith) counts script out_of.backends out_of.closed out_of.played)
 
         holds : HoldsOpened (outside_of before after tape moment faults disk (out_of.closed).disk
             sunk sink_faults out out_now) options outcome script lists
         holds =
-            let all = assured tape moment faults wal (tape disk) opening [] lies opening_is
-            opened.began
+            let all = assured tape moment faults wal (tape disk) opening opening_is opened.began
             (omega arith) counts script out_of.backends out_of.closed out_of.played in
-            let logged = logged_at_end opening []
-            (order_told [] options.geometry script (lists_of out_of.backends))
+            let behind = assured_behind tape moment faults wal (tape disk) opening opening_is
+            opened.began (omega arith) counts script out_of.backends out_of.closed out_of.played []
+            lies in
+            let logged = logged_at_end opening
+            (order_from options.geometry 1 script (lists_of out_of.backends))
             (faults (out_of.closed).disk) in
             let printed = printed_text options.list out_of.backends concluded.summary in
             record {
@@ -127,16 +127,20 @@ module _ {D : Type 0} (tape : D → Option Tape) (moment faults : D → ℕ) (se
               headline = headline_of_run options.geometry (moment disk) valid script
                   (lists_of out_of.backends) (tape disk) (tape (out_of.closed).disk)
                   (all_answered logged 1 script (lists_of out_of.backends) all.told)
-                  (all_own_places logged 1 script (lists_of out_of.backends) all.told) all.gapless
-                  all.in_line_order (λ (nothing : HoldsNothing (tape disk)).
-                  all.crash (suited nothing));
-              behind = holds_behind tape moment faults wal (tape disk) opening [] lies opening_is
+                  (all_own_places logged 1 script (lists_of out_of.backends) all.told)
+                  behind.gapless all.in_line_order (λ (nothing : HoldsNothing (tape disk)).
+                  behind.crash (suited nothing));
+              since = holds_since tape moment faults wal (tape disk) opening opening_is
                   opened.began (omega arith) counts script out_of.backends out_of.closed
-                  out_of.played sunk sink_faults out out_now before after disk refl all.goes_on
-                  (HoldsNothing (tape disk)) suited outcome (found_position opening)
+                  out_of.played sunk sink_faults out out_now before after disk refl
+                  (HoldsNothing (tape disk)) suited all.goes_on outcome (found_position opening)
                   (rooms_of options.geometry
                   (order_from options.geometry 1 script (lists_of out_of.backends))) options.list []
                   concluded;
+              behind = holds_behind tape moment faults wal (tape disk) opening opening_is
+                  opened.began (omega arith) counts script out_of.backends out_of.closed
+                  out_of.played sunk sink_faults out out_now before after disk refl
+                  (HoldsNothing (tape disk)) suited [] lies;
               printed = subst
                   (Took (sunk out) (sunk out_now) (sink_faults out) (sink_faults out_now)) text
                   (took (sunk out) (sunk out_now) (sink_faults out) (sink_faults out_now) printed

@@ -4,11 +4,10 @@ use Rattle.std.specs.Prelude.{codes, if◌then◌else◌}
 use Rattle.std.specs.Fmt.{decimal}
 use Rattle.wal_types.specs.LsnText.{lsn_text}
 use Rattle.byte_position.specs.Geometry.{IsSegmentSize}
-use Rattle.byte_position.specs.Position.{end_address_of, first_position}
+use Rattle.byte_position.specs.Position.{first_position}
 use Rattle.byte_position.proofs.Division.{usable_bytes_bounds}
 use Rattle.byte_position.proofs.Segments.{first_position-usable}
-use Rattle.wal_page.specs.Order.{Entry, end_position, rooms_of}
-use Rattle.wal_page.proofs.OrderLaws.{rooms_of-append}
+use Rattle.wal_page.specs.Order.{Entry, rooms_of}
 use Rattle.wal_script.specs.Asked.{AskedLine}
 use Rattle.wal_script.specs.Bodies.{AreLinesOf}
 use Rattle.wal_script.specs.declared.line.Line.{Line}
@@ -42,20 +41,25 @@ pub starts_behind_zero : (size : ℕ) → IsSegmentSize size → 0 < first_posit
 starts_behind_zero size valid =
     omega (arith, first_position-usable size valid, (usable_bytes_bounds size valid).0)
 
--- a summary's line is that of the order, behind what was found
-summary_is : (size : ℕ) (found es : List Entry) (from : ℕ) → from ≡ end_position size found → (lists : List (List Told)) (s : Summary) → Summarizes size from (rooms_of size es) lists s → length es ≡ all_reserved_count lists → summary_line s ≡ summary_text size found es (all_commits_of lists)
-summary_is size found es from from_is lists s is count =
+-- a summary's line is that of an order that goes on from a position
+summary_is : (size from : ℕ) (es : List Entry) (lists : List (List Told)) (s : Summary)
+    → Summarizes size from (rooms_of size es) lists s → length es ≡ all_reserved_count lists
+    → summary_line s ≡ summary_text size from es (all_commits_of lists)
+summary_is size from es lists s is count =
     let line = λ (records commits bytes at segments : ℕ). joined (codes "records " ∷ decimal records ∷ codes " commits " ∷ decimal commits ∷ codes " bytes " ∷ decimal bytes ∷ codes " end " ∷ lsn_text at ∷ codes " segments " ∷ decimal segments ∷ codes "\n" ∷ []) in
-    let end : from + rooms_of size es ≡ end_position size (found ++ es) = omega (arith, from_is, rooms_of-append size found es) in
     ap (λ (n : ℕ). line n s.commits s.bytes s.end.0 s.segments) (is.records ∙ sym count)
     ∙ ap (λ (n : ℕ). line (length es) n s.bytes s.end.0 s.segments) is.commits
     ∙ ap (λ (n : ℕ). line (length es) (all_commits_of lists) n s.end.0 s.segments) is.bytes
     ∙ ap (λ (n : ℕ). line (length es) (all_commits_of lists) (rooms_of size es) s.end.0 n) is.segments
-    ∙ ap (λ (n : ℕ). line (length es) (all_commits_of lists) (rooms_of size es) n (segments_upto size n)) (is.end ∙ ap (end_address_of size) end)
+    ∙ ap (λ (n : ℕ). line (length es) (all_commits_of lists) (rooms_of size es) n (segments_upto size n)) is.end
 
 -- what is printed is the run's text
-pub text_is : (size : ℕ) (list : Bool) (script : List (List AskedLine)) (backends : List AnsweredLines) (found es : List Entry) (from : ℕ) → from ≡ end_position size found → (s : Summary) → HaveToldEach script backends
-    → Summarizes size from (rooms_of size es) (lists_of backends) s → length es ≡ all_reserved_count (lists_of backends)
-    → printed_text list backends s ≡ run_text size list found script (lists_of backends) es
-text_is size list script backends found es from from_is s have is count =
-    ap₂ (λ (told line : List ℕ). (if list then told else []) ++ line) (lists_are 0 script backends have) (summary_is size found es from from_is (lists_of backends) s is count)
+pub text_is : (size : ℕ) (list : Bool) (script : List (List AskedLine))
+    (backends : List AnsweredLines) (from : ℕ) (es : List Entry) (s : Summary)
+    → HaveToldEach script backends → Summarizes size from (rooms_of size es) (lists_of backends) s
+    → length es ≡ all_reserved_count (lists_of backends)
+    → printed_text list backends s ≡ run_text size list from script (lists_of backends) es
+text_is size list script backends from es s have is count =
+    ap₂ (λ (told line : List ℕ). (if list then told else []) ++ line)
+    (lists_are 0 script backends have)
+    (summary_is size from es (lists_of backends) s is count)

@@ -1,5 +1,5 @@
 -- What a run promises that goes on with a log that is there.
-use Rattle.std.specs.Prelude.{◌≡◌, ◌⊎◌, ℕ, ◌+◌, ◌≤◌, All, IfSome, IsSome, IsTrue, List, [], ◌∷◌, ◌++◌, length, map, take, Err, None, Ok, Option, Some}
+use Rattle.std.specs.Prelude.{◌≡◌, ◌⊎◌, ℕ, ◌+◌, ◌≤◌, All, IfSome, IsSome, IsTrue, List, [], ◌∷◌, ◌++◌, length, map, take, Err, Ok, Option, Some}
 use Rattle.std.specs.List.{zip}
 use Rattle.std.specs.List.Sorted.{IsPermutation}
 use Rattle.byte_position.specs.Geometry.{is_segment_size}
@@ -8,22 +8,27 @@ use Rattle.segment_disk.specs.Cause.{Rose, RoseByOne}
 use Rattle.segment_disk.specs.DiskImage.{DiskImage, LeftAt}
 use Rattle.segment_disk.specs.Tape.{Tape, page_of_segment, state_now}
 use Rattle.flush_core.specs.Settled.{AreAllThere, HasSettled}
-use Rattle.wal_page.specs.Order.{Entry, FollowsFrom, end_position}
+use Rattle.wal_page.specs.LogPlace.{LogPlace}
+use Rattle.wal_page.specs.Order.{Entry, FollowsFrom}
 use Rattle.wal_reader.specs.declared.found.FoundRecord.{FoundRecord}
 use Rattle.wal_reader.specs.Cache.{log_of}
 use Rattle.wal_reader.specs.Finds.{FindsRecords}
 use Rattle.wal_reader.specs.Pages.{pages_in}
+use Rattle.written_log.specs.FoundLog.{end_behind, last_start_behind}
 use Rattle.written_log.specs.Torn.{NoTornPass}
 use Rattle.written_log.specs.Written.{found_of}
-use Rattle.found_log.specs.Found.{HasBegunToSettle, IsFound, RefusesLog}
+use Rattle.found_log.specs.Found.{HasBegunToSettle, IsDiskLog, RefusesLog}
 use Rattle.found_log.specs.declared.fault.FindFault.TheVariants as finding
 use Rattle.wal_core.specs.Opened.{IsOpenable}
+use Rattle.machine_laws.specs.WholeOrders.{LiesBehind}
 use Rattle.wal_rule.specs.Founded.{found_log_opening}
 use Rattle.wal_script.specs.Asked.{AskedLine}
 use Rattle.told_lines.specs.declared.told.Told.{Told}
 use Rattle.told_lines.specs.Crash.{IsFrontWithTold}
 use Rattle.told_lines.specs.Told.{RiseInLineOrder, entries_from, order_from}
 use Rattle.run_laws.specs.Assured.{TapeGoesOn}
+use Rattle.reopened_log.specs.AnyLogs.{HoldsSegments}
+use Rattle.reopened_log.specs.FoundFirst.{AreFoundEntries}
 use Rattle.reopened_log.specs.WasLeft.{WasLeft}
 use Rattle.command_words.specs.declared.commands.RunOptions.{RunOptions}
 use Rattle.command_words.specs.declared.commands.ScriptRunOptions.{ScriptRunOptions}
@@ -32,16 +37,16 @@ use Rattle.backend_cli.specs.declared.outcome.Outcome.TheVariants.{OutOfMemory, 
 use Rattle.backend_cli.specs.Headline.{NamesOwnPlace}
 use Rattle.backend_cli.specs.Outside.{IsUntouched, Outside, Took}
 use Rattle.backend_cli.specs.Reading.{ScriptMeans}
-use Rattle.backend_cli.specs.Run.{HoldsBehind, MeansSome}
+use Rattle.backend_cli.specs.Run.{HoldsBehind, HoldsSince, MeansSome}
 use Rattle.backend_cli.specs.Setups.{run_setup, system_id}
-use Rattle.backend_cli.specs.Texts.{append_text}
+use Rattle.backend_cli.specs.Texts.{append_text, position_behind_found}
 
 -- ---- the headline, of the whole log
 --
 -- Names are those of the headline. `handed` is the disk's moment at the call.
 
 -- a crash at a moment since the disk was handed in, and the records that the reader finds behind it
-pub record FoundSinceHanded (size handed : ℕ) (order : List Entry) (before after : Option Tape)
+pub record CrashSinceHanded (size handed : ℕ) (order : List Entry) (before after : Option Tape)
     (moment : ℕ) (found : List FoundRecord) : Type 0 where
   -- the disk told before the call what it held, and this program had left it so, crashed or not
   pub old : Tape
@@ -68,30 +73,36 @@ pub record AppendHeadline (size handed : ℕ) (script : List (List AskedLine))
   pub receipts :
       All (λ backend. All (λ line. NamesOwnPlace size line.0.asked line.1)
       (zip backend.0 backend.1)) (zip script told)
-  -- the records that were found, which are no backend's: just those that the reader finds on the
-  -- disk before the call
-  pub found : List Entry
-  pub nobodys : All (λ e. e.pass ≡ None) found
-  pub read : IfSome before (λ t. FindsRecords size (log_of t size) size (found_of size found))
+  -- the records that were found: just those that the reader finds on the disk before the call
+  pub found : List FoundRecord
+  pub read : IfSome before (λ t. FindsRecords size (log_of t size) size found)
   -- the records that the run reserved, all of them and no other, in an order in which they
   pub order : List Entry
   pub reserved : IsPermutation (entries_from size 1 script told) order
-  -- follow those found, and each other, without a gap, from the log's first position on;
-  pub gapless : FollowsFrom size (first_position size) (found ++ order)
+  -- follow those found, and each other, without a gap;
+  pub gapless : FollowsFrom size (position_behind_found size found) order
   -- each backend's stand in script order;
   pub in_line_order : RiseInLineOrder size 1 script told
+  -- if this program left the disk, those found are nobody's entries, and with what was reserved
+  -- they follow each other without a gap from the log's first position on;
+  pub whole : (t : Tape) (records : List FoundRecord) → before ≡ Some t
+      → WasLeft size system_id t records
+      → (front : List Entry) × AreFoundEntries size t front × (found_of size front ≡ found)
+      × FollowsFrom size (first_position size) (front ++ order)
   -- and a crash at any moment since the disk was handed in leaves segments that the reader decodes
   -- to a prefix of all of them, each record whole, holding every commit whose receipt names that
   -- moment or an earlier one,
-  pub crash : (moment : ℕ) (records : List FoundRecord)
-      → FoundSinceHanded size handed (found ++ order) before after moment records
-      → IsFrontWithTold size moment (found ++ order) told records
+  pub crash : (front : List Entry) (moment : ℕ) (records : List FoundRecord)
+      → (c : CrashSinceHanded size handed (front ++ order) before after moment records)
+      → AreFoundEntries size c.old front
+      → IsFrontWithTold size moment (front ++ order) told records
   -- and, once each of the segments that were there has been synced, all that was found
   pub segments : ℕ
   pub there : IfSome before (λ t. AreAllThere size (state_now t) segments)
-  pub keeps_found : (moment : ℕ) (records : List FoundRecord)
-      → FoundSinceHanded size handed (found ++ order) before after moment records
-      → handed + segments ≤ moment → take (length found) records ≡ found_of size found
+  pub keeps_found : (front : List Entry) (moment : ℕ) (records : List FoundRecord)
+      → (c : CrashSinceHanded size handed (front ++ order) before after moment records)
+      → AreFoundEntries size c.old front → handed + segments ≤ moment
+      → take (length found) records ≡ found
 
 -- ---- how it ends
 
@@ -104,14 +115,14 @@ pub record PrintsNothing (outside : Outside) : Type 0 where
 -- Whatever a crash leaves since the disk was handed in, the reader finds a front of what was found,
 -- and all of it from the end of the first syncs on, if each segment that was there was synced
 pub record StopsSettling (size cap : ℕ) (outside : Outside) : Type 0 where
-  pub begun : HasBegunToSettle size system_id cap outside.tape_before outside.tape_after
+  pub begun : HasBegunToSettle size cap outside.tape_before outside.tape_after
       outside.moment_before outside.moment_after
   pub crash : (moment : ℕ) (records : List FoundRecord)
-      → (c : FoundSinceHanded size outside.moment_before [] outside.tape_before
+      → (c : CrashSinceHanded size outside.moment_before [] outside.tape_before
       outside.tape_after moment records)
       → (behind : List FoundRecord) × (c.found_before ≡ records ++ behind)
   pub keeps_found : (moment : ℕ) (records : List FoundRecord)
-      → (c : FoundSinceHanded size outside.moment_before [] outside.tape_before
+      → (c : CrashSinceHanded size outside.moment_before [] outside.tape_before
       outside.tape_after moment records)
       → (segments : ℕ) → AreAllThere size (state_now c.old) segments
       → segments ≤ length (begun.stopped.calls).front → outside.moment_before + segments ≤ moment
@@ -136,7 +147,7 @@ EndsUnappended options outside BeyondCap =
     × (outside.disk_after ≡ outside.disk_before) × IsUntouched outside
 EndsUnappended options outside (Stopped stop) =
     MeansSome options.writer outside
-    × IfSome outside.tape_before (RefusesLog options.run.geometry system_id
+    × IfSome outside.tape_before (RefusesLog options.run.geometry
     options.run.cap_segments (finding.Foreign stop))
     × (outside.disk_after ≡ outside.disk_before) × IsUntouched outside
 EndsUnappended options outside DiskFault =
@@ -151,37 +162,50 @@ abbrev pub WasLeftSo : ℕ → Option Tape → Type 0
 WasLeftSo size tape =
     IfSome tape (λ t. (found : List FoundRecord) × WasLeft size system_id t found)
 
+-- .. or it held there pages of bytes, in the segments from 1 to `made` and in no other: then what
+-- lay below the log's end is known word by word, whoever wrote it
+abbrev pub MayGoOn : (size made : ℕ) → Option Tape → Type 0
+MayGoOn size made tape = WasLeftSo size tape ⊎ IfSome tape (HoldsSegments size made)
+
 -- a run that went on with the log, of the script with these lines
 pub record HoldsAppended (outside : Outside) (options : RunOptions) (outcome : Outcome)
     (script : List (List AskedLine)) (lists : List (List Told)) : Type 0 where
   pub headline : AppendHeadline options.geometry outside.moment_before script lists
       outside.tape_before outside.tape_after
-  -- the log was opened, so there was no reason to refuse it: the segment behind the last one
-  -- allowed was not there, what stands behind the records that were found this program may have
-  -- left, and the first page has its system id, where there is a record
-  pub judged : IfSome outside.tape_before (IsFound options.geometry system_id options.cap_segments
-      headline.found headline.segments)
+  -- the log goes on at this place, behind the records that were found; the words below it are those
+  -- that were read. It was opened, so there was no reason to refuse it: the segment behind the last
+  -- one allowed was not there, and what stands behind the records this program may have left
+  pub place : LogPlace
+  pub ends_there : end_address_of options.geometry place.position
+      ≡ end_behind options.geometry headline.found
+  pub prev_is : place.prev ≡ last_start_behind 0 headline.found
+  pub judged : IfSome outside.tape_before (IsDiskLog options.geometry options.cap_segments
+      headline.found place headline.segments)
   -- and no more segments were there than are allowed
   pub within : headline.segments ≤ options.cap_segments
   -- the log was settled: then the disk told this, and had this moment, and the log was opened
   pub began : Option Tape
   pub moment : ℕ
-  pub settled : HasSettled options.geometry
-      (end_address_of options.geometry (end_position options.geometry headline.found))
+  pub settled : HasSettled options.geometry (end_behind options.geometry headline.found)
       headline.segments outside.tape_before began outside.moment_before moment
-  pub openable : IsOpenable (found_log_opening (run_setup options (length script)) headline.found
+  pub openable : IsOpenable (found_log_opening (run_setup options (length script)) place
       headline.segments moment outside.disk_before)
   pub goes_on : TapeGoesOn began outside.tape_after
   -- up to then, from the end of the first syncs on, the reader finds just what was found, whatever
   -- a crash leaves
   pub keeps_all : (at : ℕ) (records : List FoundRecord)
-      → FoundSinceHanded options.geometry outside.moment_before [] outside.tape_before began at
+      → CrashSinceHanded options.geometry outside.moment_before [] outside.tape_before began at
       records
-      → outside.moment_before + headline.segments ≤ at
-      → records ≡ found_of options.geometry headline.found
-  pub behind : HoldsBehind (found_log_opening (run_setup options (length script)) headline.found
-      headline.segments moment outside.disk_before) headline.found
-      (WasLeftSo options.geometry outside.tape_before) outside outcome script lists
+      → outside.moment_before + headline.segments ≤ at → records ≡ headline.found
+  pub since : HoldsSince (found_log_opening (run_setup options (length script)) place
+      headline.segments moment outside.disk_before)
+      (MayGoOn options.geometry headline.segments outside.tape_before) outside outcome script lists
+  pub behind : (front : List Entry)
+      → LiesBehind (found_log_opening (run_setup options (length script)) place headline.segments
+      moment outside.disk_before) front
+      → HoldsBehind (found_log_opening (run_setup options (length script)) place headline.segments
+      moment outside.disk_before) front
+      (MayGoOn options.geometry headline.segments outside.tape_before) outside script lists
   pub printed : Took outside.taken_before outside.taken_after outside.sink_before outside.sink_after
       (append_text options.geometry options.list headline.found script lists
       (order_from options.geometry 1 script lists))

@@ -13,14 +13,13 @@ use Rattle.wal_stream.specs.Opened.{HasOpenCause, StandsAtFound}
 use Rattle.wal_stream.specs.Standby.{standby_disk}
 use Rattle.wal_stream.specs.declared.standby.Standby.{Standby}
 use Rattle.command_words.specs.declared.commands.ReceiveOptions.{ReceiveOptions}
-use Rattle.received_log.specs.Fetched.{SourceState}
-use Rattle.received_log.specs.Receiving.{Receives}
-use Rattle.received_log.specs.declared.outcome.ReceivingEnd.{ReceivingEnd}
-use Rattle.received_log.specs.declared.outcome.ReceivingEnd.TheVariants as ends
-use Rattle.received_log.specs.declared.outcome.Received.{Received}
+use Rattle.wal_stream.specs.Fetched.{SourceState}
+use Rattle.wal_stream.specs.Receiving.{Receives}
+use Rattle.wal_stream.specs.declared.outcome.ReceivingEnd.{ReceivingEnd}
+use Rattle.wal_stream.specs.declared.outcome.ReceivingEnd.TheVariants as ends
+use Rattle.wal_stream.specs.declared.outcome.Received.{Received}
 use Rattle.backend_cli.specs.Appending.{PrintsNothing}
 use Rattle.backend_cli.specs.Outside.{DiskSeen, Outside, SourceView}
-use Rattle.backend_cli.specs.Setups.{system_id}
 use Rattle.backend_cli.specs.declared.outcome.Outcome.{Outcome}
 use Rattle.backend_cli.specs.declared.outcome.Outcome.TheVariants.{Done, OutOfMemory, BeyondCap, DiskFault, Stopped, Diverged, TooManyFrames, SourceFault, SinkFault}
 
@@ -39,8 +38,8 @@ pub record IsNotReceived (outside : Outside) (asked : ReceiveOptions) (outcome :
   pub fault : FindFault
   pub outcome_is : outcome ≡ outcome_unfound fault
   pub refused : IfSome outside.tape_before
-      (RefusesLog asked.geometry system_id asked.cap_segments fault)
-  pub unsettled : LeavesUnsettled asked.geometry system_id asked.cap_segments
+      (RefusesLog asked.geometry asked.cap_segments fault)
+  pub unsettled : LeavesUnsettled asked.geometry asked.cap_segments
       outside.tape_before outside.tape_after outside.moment_before outside.moment_after fault
   pub cause : HasOpenCause outside.disk_before outside.disk_after fault
   pub unread : outside.source_after ≡ outside.source_before
@@ -101,8 +100,8 @@ pub record FeedsStandby {D : Type 0} (tape : D → Option Tape) (moment faults :
 pub record IsReceived {D : Type 0} (seen : DiskSeen D) (outside : Outside)
     (asked : ReceiveOptions) (outcome : Outcome) : Type 0 where
   pub first : Standby D
-  pub opened : StandsAtFound seen.tape seen.moment seen.faults asked.geometry system_id
-      asked.cap_segments seen.before first
+  pub opened : StandsAtFound seen.tape seen.moment seen.faults asked.geometry asked.cap_segments
+      seen.before first
   pub feeds : FeedsStandby seen.tape seen.moment seen.faults
       (standby_source outside.source_before) (standby_source outside.source_after) first seen.after
       outside.taken_before outside.taken_after outside.sink_before outside.sink_after outcome

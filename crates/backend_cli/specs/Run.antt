@@ -11,14 +11,16 @@ use Rattle.told_lines.specs.CatchingUp.{EachCatchesUp}
 use Rattle.told_lines.specs.Counts.{TellsOneFault}
 use Rattle.told_lines.specs.Moments.{EachRises}
 use Rattle.told_lines.specs.Crash.{EachIsTimely}
-use Rattle.told_lines.specs.Rooms.{all_rooms_asked, capacity_of}
+use Rattle.told_lines.specs.Rooms.{all_rooms_asked}
 use Rattle.command_words.specs.declared.commands.GenOptions.{GenOptions}
 use Rattle.command_words.specs.declared.commands.RunOptions.{RunOptions}
 use Rattle.command_words.specs.declared.commands.ScriptRunOptions.{ScriptRunOptions}
 use Rattle.wal_script.specs.Generated.{generated_script}
 use Rattle.told_lines.specs.Whole.{IsWhole}
-use Rattle.wal_page.specs.Order.{Entry, rooms_of}
-use Rattle.wal_core.specs.Words.{Opening}
+use Rattle.byte_position.specs.Position.{first_position}
+use Rattle.wal_page.specs.Order.{Entry}
+use Rattle.wal_core.specs.Words.{Opening, found_position, log_limit}
+use Rattle.machine_laws.specs.Crashes.{LeavesLawful}
 use Rattle.wal_rule.specs.Founded.{empty_log_opening}
 use Rattle.run_laws.specs.Assured.{IsMachineRun, KeepsToldWords, LeavesLogWords, TapeGoesOn, order_told}
 use Rattle.run_laws.specs.Ended.{logged_at_end}
@@ -77,35 +79,38 @@ EndsOpened outside told SinkFault =
     × Rose outside.sink_before outside.sink_after
 EndsOpened outside told others = ⊥
 
--- what a run told and made of its script's lines behind the opening of its log, below whose place
--- the entries of `front` lie; `held` says what the disk held before the call
-pub record HoldsBehind (opening : Opening) (front : List Entry) (held : Type 0) (outside : Outside)
-    (outcome : Outcome) (script : List (List AskedLine)) (lists : List (List Told)) : Type 0 where
-  pub machine : IsMachineRun opening front outside.tape_after outside.moment_after script lists
-  pub told : TellsAll (logged_at_end opening front
-      (order_told front (opening.setup).segment_size script lists) outside.disk_after) 1 script
-      lists
+-- what a run told and made of its script's lines since the opening of its log, whatever lies below
+-- its place; `held` says what the disk held before the call
+pub record HoldsSince (opening : Opening) (held : Type 0) (outside : Outside) (outcome : Outcome)
+    (script : List (List AskedLine)) (lists : List (List Told)) : Type 0 where
+  pub machine : IsMachineRun opening outside.tape_after outside.moment_after script lists
+  pub told : TellsAll (logged_at_end opening
+      (order_from (opening.setup).segment_size 1 script lists) outside.disk_after) 1 script lists
   pub stays_down : EachStaysDown lists
   pub one_fault : TellsOneFault lists
   pub goes_on : TapeGoesOn outside.tape_before outside.tape_after
-  pub words : held → IfSome outside.tape_after (LeavesLogWords (opening.setup).segment_size
-      (opening.setup).sysid (order_told front (opening.setup).segment_size script lists)
-      opening.moment)
   pub firm : held → IfSome outside.tape_after
       (KeepsToldWords opening (order_from (opening.setup).segment_size 1 script lists) lists)
+  pub only_log : held → IfSome outside.tape_after (LeavesLawful opening
+      (order_from (opening.setup).segment_size 1 script lists) 0 opening.moment)
   pub caught_up : EachCatchesUp script lists
   pub moments : EachRises opening.moment script lists outside.moment_after
   pub no_late_receipt : held → IfSome outside.tape_after
       (λ t. EachIsTimely (opening.setup).segment_size opening.moment
-      (order_told front (opening.setup).segment_size script lists) t 1 script lists)
+      (order_from (opening.setup).segment_size 1 script lists) t 1 script lists)
+  pub ends : EndsOpened outside lists outcome
+  pub full : SomeTold IsFullAnswer lists → log_limit opening.setup
+      < found_position opening + all_rooms_asked (opening.setup).segment_size script
+
+-- .. and of the whole order, where the entries of `front` lie below the place
+pub record HoldsBehind (opening : Opening) (front : List Entry) (held : Type 0) (outside : Outside)
+    (script : List (List AskedLine)) (lists : List (List Told)) : Type 0 where
+  pub words : held → IfSome outside.tape_after (LeavesLogWords (opening.setup).segment_size
+      (opening.setup).sysid (order_told front (opening.setup).segment_size script lists)
+      opening.moment)
   pub whole : outside.disk_after ≡ outside.disk_before → outside.disk_before < 2 ^ 64 - 1 → held
       → IsWhole (opening.setup).segment_size outside.tape_after
       (order_told front (opening.setup).segment_size script lists)
-  pub ends : EndsOpened outside lists outcome
-  pub full : SomeTold IsFullAnswer lists
-      → capacity_of (opening.setup).segment_size (opening.setup).cap_segments
-      < rooms_of (opening.setup).segment_size front
-      + all_rooms_asked (opening.setup).segment_size script
 
 -- a run that began the log, of the script with these lines, on a disk that held nothing where that
 -- is told
@@ -114,11 +119,14 @@ pub record HoldsOpened (outside : Outside) (options : RunOptions) (outcome : Out
   pub empty : IfSome outside.tape_before (λ t. page_of_segment (state_now t 1) 0 ≡ None)
   pub headline : Headline options.geometry outside.moment_before script lists outside.tape_before
       outside.tape_after
+  pub since : HoldsSince (empty_log_opening (run_setup options (length script))
+      outside.moment_before outside.disk_before) (HoldsNothing outside.tape_before) outside outcome
+      script lists
   pub behind : HoldsBehind (empty_log_opening (run_setup options (length script))
       outside.moment_before outside.disk_before) [] (HoldsNothing outside.tape_before) outside
-      outcome script lists
+      script lists
   pub printed : Took outside.taken_before outside.taken_after outside.sink_before outside.sink_after
-      (run_text options.geometry options.list [] script lists
+      (run_text options.geometry options.list (first_position options.geometry) script lists
       (order_from options.geometry 1 script lists))
 
 -- the run of a script that is known: without told lists the log was not opened, and nothing was

@@ -3,9 +3,9 @@ use Rattle.std.specs.Prelude.{◌≡◌, ℕ, List, [], Result, Ok, Err}
 use Rattle.wal_reader.specs.declared.standing.ReadErr.TheVariants as reading
 use Rattle.told_lines.specs.declared.told.Told.{Told}
 use Rattle.command_words.specs.declared.commands.SendOptions.{SendOptions}
-use Rattle.sent_log.specs.Sending.{HasSendCause, IsSending}
-use Rattle.sent_log.specs.declared.fault.SendErr.{SendErr}
-use Rattle.sent_log.specs.declared.fault.SendErr.TheVariants.{Read, Sink}
+use Rattle.wal_stream.specs.Sending.{HasSendCause, IsSending}
+use Rattle.wal_stream.specs.declared.fault.SendErr.{SendErr}
+use Rattle.wal_stream.specs.declared.fault.SendErr.TheVariants.{Read, Sink}
 use Rattle.backend_cli.specs.Outside.{Outside}
 use Rattle.backend_cli.specs.declared.outcome.Outcome.{Outcome}
 use Rattle.backend_cli.specs.declared.outcome.Outcome.TheVariants.{Done, OutOfMemory, DiskFault, Stopped, SinkFault}

@@ -1,10 +1,12 @@
 -- What a run prints.
 use Rattle.std.specs.Prelude.{ℕ, ◌+◌, ◌-◌, ◌/◌, List, [], ◌∷◌, ◌++◌, length, Option, Some, None, codes, Bool, if◌then◌else◌}
 use Rattle.std.specs.Fmt.{decimal}
-use Rattle.byte_position.specs.Position.{end_address_of}
+use Rattle.byte_position.specs.Position.{end_address_of, position_of}
 use Rattle.wal_types.specs.LsnText.{lsn_text}
 use Rattle.wal_types.specs.declared.lsn.Lsn.{Lsn}
-use Rattle.wal_page.specs.Order.{Entry, rooms_of, end_position}
+use Rattle.wal_page.specs.Order.{Entry, rooms_of}
+use Rattle.wal_reader.specs.declared.found.FoundRecord.{FoundRecord}
+use Rattle.written_log.specs.FoundLog.{end_behind}
 use Rattle.wal_script.specs.Asked.{AskedLine}
 use Rattle.waldump_text.specs.Put.{joined}
 use Rattle.told_lines.specs.Counts.{all_commits_of}
@@ -62,30 +64,35 @@ told_lines_from backend (lines ∷ script) (told ∷ others) =
 abbrev pub segments_upto : ℕ → ℕ → ℕ
 segments_upto size end = (end - 1) / size
 
--- the summary of an order that was reserved behind what was found: its records, durable commits,
+-- the summary of an order that was reserved from a byte position on: its records, durable commits,
 -- bytes that its records take up; and of the whole log its end, and segments
-abbrev pub summary_text : ℕ → List Entry → List Entry → ℕ → List ℕ
-summary_text size found order commits =
-    let end = end_address_of size (end_position size (found ++ order)) in
+abbrev pub summary_text : (size from : ℕ) → List Entry → ℕ → List ℕ
+summary_text size from order commits =
+    let end = end_address_of size (from + rooms_of size order) in
     joined (codes "records " ∷ decimal (length order) ∷ codes " commits " ∷ decimal commits ∷
     codes " bytes " ∷ decimal (rooms_of size order) ∷ codes " end " ∷ lsn_text end ∷
     codes " segments " ∷ decimal (segments_upto size end) ∷ codes "\n" ∷ [])
 
--- all that a run prints: the told lines where they are asked for, then the summary
-abbrev pub run_text : ℕ → Bool → List Entry → List (List AskedLine) → List (List Told) → List Entry
-    → List ℕ
-run_text size list found script told order =
+-- all that a run prints whose order goes on from a byte position: the told lines where they are
+-- asked for, then the summary
+abbrev pub run_text : ℕ → Bool → (from : ℕ) → List (List AskedLine) → List (List Told)
+    → List Entry → List ℕ
+run_text size list from script told order =
     (if list then told_lines_from 0 script told else [])
-    ++ summary_text size found order (all_commits_of told)
+    ++ summary_text size from order (all_commits_of told)
+
+-- the byte position at which a log goes on behind records that were found
+abbrev pub position_behind_found : ℕ → List FoundRecord → ℕ
+position_behind_found size found = position_of size (end_behind size found)
 
 -- what was found of a log that is gone on with: how many records, and where they end
-abbrev pub found_text : ℕ → List Entry → List ℕ
+abbrev pub found_text : ℕ → List FoundRecord → List ℕ
 found_text size found =
     joined (codes "found " ∷ decimal (length found) ∷ codes " end " ∷
-    lsn_text (end_address_of size (end_position size found)) ∷ codes "\n" ∷ [])
+    lsn_text (end_behind size found) ∷ codes "\n" ∷ [])
 
 -- all that a run prints that goes on with a log: first what was found
-abbrev pub append_text : ℕ → Bool → List Entry → List (List AskedLine) → List (List Told)
+abbrev pub append_text : ℕ → Bool → List FoundRecord → List (List AskedLine) → List (List Told)
     → List Entry → List ℕ
 append_text size list found script told order =
-    found_text size found ++ run_text size list found script told order
+    found_text size found ++ run_text size list (position_behind_found size found) script told order

@@ -27,7 +27,7 @@ pub enum Outcome {
     BeyondCap,
     DiskFault,
     /// The log that is listed or redone does not come to a clean end; the one that is to be gone on
-    /// with stops where this program cannot have left it so.
+    /// with stops as no crash of this program lets one stop.
     Stopped(Stopped),
     /// A frame came of another log than that of the copy, which has another word here.
     Diverged { at: Lsn },

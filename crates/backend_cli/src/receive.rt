@@ -6,14 +6,12 @@ ghost use Rattle.backend_cli.specs.Receiving.{EndsReceived, FeedsStandby, Receiv
 
 use crate::outcome::Outcome;
 use crate::run::Finished;
-use crate::setup::SYSTEM_ID;
 use crate::told::ToldLists;
 use command_words::ReceiveOptions;
 use found_log::FindFault;
-use received_log::{Received, ReceivingEnd, receive};
 use segment_disk::{Disk, Sink, Source};
 use std::alloc::Global;
-use wal_stream::{FRAME_SIZE, Standby};
+use wal_stream::{FRAME_SIZE, Received, ReceivingEnd, Standby, receive};
 use waldump_text::{SinkFault, put_all};
 
 /// Keeps a copy of a log whose frames come from a source: a standby is opened on what the disk has,
@@ -33,13 +31,7 @@ pub(crate) fn receive_log<S: Source, O: Sink, D: Disk>(
         D.tape D.moment D.faults disk result.disk O.taken O.faults out.old out.new)
         options.now result.outcome result.told }
 {
-    match Standby::open(
-        alloc,
-        disk,
-        options.geometry,
-        SYSTEM_ID,
-        options.cap_segments,
-    ) {
+    match Standby::open(alloc, disk, options.geometry, options.cap_segments) {
         Ok(standby) => {
             let (outcome, disk) = feed(standby, source, out);
             Finished {

@@ -3,10 +3,8 @@ ghost use Rattle.command_words.specs.Given.{IsShapeInRange};
 ghost use Rattle.wal_script.specs.Asked.{AskedLine};
 ghost use Rattle.wal_script.specs.Replay.{most_backends};
 ghost use Rattle.waldump_text.specs.Put.{Puts};
-ghost use Rattle.wal_page.specs.Order.{Entry};
 ghost use Rattle.wal_core.specs.Opened.{first_view};
 ghost use Rattle.wal_core.specs.Words.{found_end};
-ghost use Rattle.machine_laws.specs.WholeOrders.{LiesBehind};
 ghost use Rattle.wal_rule.specs.Passes.{view_of_pass};
 ghost use Rattle.wal_rule.specs.Tables.{began_of_table};
 ghost use Rattle.wal_log.specs.Logs.{IsPassOfLog, opening_of_log, setup_of_log, table_of};
@@ -313,7 +311,6 @@ pub(crate) fn play_opened<R: Threads + Wait + Sync, O: Sink, D: Disk + Send, G: 
     requires setup { setup_of_log opened.log
         ≡ run_setup options.now (vec_len room.backends) }
     requires end { opened.end.0 ≡ found_end (opening_of_log opened.log) }
-    requires behind { (front : List Entry) × LiesBehind (opening_of_log opened.log) front }
     requires counted { IfSome (began_of_table D.tape (table_of opened.log))
         (λ t. (opening_of_log opened.log).moment ≡ length t.calls) }
     requires prepared { (script : List (List AskedLine)) × IsPreparedFor script room }

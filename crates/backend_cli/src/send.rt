@@ -7,9 +7,9 @@ use crate::run::Finished;
 use crate::told::ToldLists;
 use command_words::SendOptions;
 use segment_disk::{Disk, Sink};
-use sent_log::{SendErr, send};
 use std::alloc::Global;
 use wal_reader::ReadErr;
+use wal_stream::{SendErr, send};
 
 /// Sends the log's pages as frames.
 pub(crate) fn send_log<O: Sink, D: Disk>(

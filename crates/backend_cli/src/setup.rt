@@ -12,7 +12,7 @@ use command_words::RunOptions;
 use wal_core::Setup;
 
 // The system id of each log that this program writes.
-pub(crate) const SYSTEM_ID: u64 = 1;
+const SYSTEM_ID: u64 = 1;
 
 /// The setup of the log of so many backends: a pass for each, and one more, which opens it.
 pub(crate) fn setup_asked(

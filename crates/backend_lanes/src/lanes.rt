@@ -115,12 +115,13 @@ pub(crate) fn join_lanes<'a, D: Disk>(
     requires start { start.0 ≡ (setup_of_log log.now).segment_size }
     // What the lines were told is what stands in the logs that the first pass took in, which set no
     // fault itself.
-    ensures taken { (script : List (List AskedLine)) → PlayedLanes log.now 1 script lanes.entry.items
-        → IsIdle (view_of_pass first.old)
+    ensures taken { (script : List (List AskedLine))
+        → PlayedLanes log.now 1 script lanes.entry.items → IsIdle (view_of_pass first.old)
         → HasTakenIn (opening_of_log log.now) (view_of_pass first.new) script
         (lists_of result.backends.items)
         × (((view_of_pass first.new).writing).down_set ≡ 0) }
-    ensures lines { (script : List (List AskedLine)) → PlayedLanes log.now 1 script lanes.entry.items
+    ensures lines { (script : List (List AskedLine))
+        → PlayedLanes log.now 1 script lanes.entry.items
         → HaveToldEach script result.backends.items }
     // The end told is at or above each that a line was told, and the first pass has seen it
     // reserved or it is the log's start; so a flush may go up to it.

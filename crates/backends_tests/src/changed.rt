@@ -36,8 +36,8 @@ fn offset_of(at: u64) -> usize
     (at % PAGE_SIZE) as usize
 }
 
-// The page that has an address, if it is there.
-fn page_at(disk: &mut MemDisk, at: u64) -> Result<[u8; 8192], Fail> {
+/// The page that has an address, if it is there.
+pub fn page_at(disk: &mut MemDisk, at: u64) -> Result<[u8; 8192], Fail> {
     let mut page = [0; PAGE_BYTES];
     match disk.read_page(geometry(), segment_of(at), page_of(at), &mut page) {
         Ok(true) => Ok(page),

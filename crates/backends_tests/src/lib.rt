@@ -15,6 +15,8 @@ mod listed;
 #[cfg(test)]
 mod meeting;
 #[cfg(test)]
+mod others;
+#[cfg(test)]
 mod picks;
 #[cfg(test)]
 mod played;

@@ -142,6 +142,8 @@ pub struct MeetingDisk<'a> {
     pub meeting: &'a Meeting,
     /// Which line passed last before each of the last counted calls, the last call lowest.
     pub lines: u64,
+    /// Of which kind each of these was: C, W or S for a create, a write or a sync.
+    pub kinds: u64,
 }
 
 impl<'a> MeetingDisk<'a> {
@@ -165,6 +167,7 @@ impl<'a> Disk for MeetingDisk<'a> {
 
     fn create(&mut self, geometry: Geometry, segment: u64) -> Result<(), Failed> {
         self.lines = self.noted();
+        self.kinds = with_behind(self.kinds, u64::from(b'C'));
         self.disk.create(geometry, segment)
     }
 
@@ -176,11 +179,13 @@ impl<'a> Disk for MeetingDisk<'a> {
         bytes: &[u8; 8192],
     ) -> Result<(), Failed> {
         self.lines = self.noted();
+        self.kinds = with_behind(self.kinds, u64::from(b'W'));
         self.disk.write_page(geometry, segment, page, bytes)
     }
 
     fn sync(&mut self, geometry: Geometry, segment: u64) -> Result<(), Failed> {
         self.lines = self.noted();
+        self.kinds = with_behind(self.kinds, u64::from(b'S'));
         self.meeting.come.fetch_or(SYNC, Ordering::SeqCst);
         self.meeting.wait_for(self.meeting.awaited.sync);
         self.disk.sync(geometry, segment)

@@ -18,9 +18,10 @@ pub struct Run {
     /// Whether somebody went on without those that it waited for.
     pub was_missed: bool,
     /// The last lines that passed the gate, and which one passed last before each of the disk's
-    /// last calls: a byte for each, the last one lowest.
+    /// last calls, and of which kind that was: a byte for each, the last one lowest.
     pub passed: u64,
     pub lines: u64,
+    pub kinds: u64,
 }
 
 /// A disk that holds nothing, with room for so many segments and 500 counted calls, which fails at
@@ -61,6 +62,7 @@ pub fn play<R: Threads + Wait + Sync>(
         disk,
         meeting: &meeting,
         lines: 0,
+        kinds: 0,
     };
     let ended = pgwal(
         rt,
@@ -77,6 +79,7 @@ pub fn play<R: Threads + Wait + Sync>(
         status,
         told,
         lines: disk.lines,
+        kinds: disk.kinds,
         disk: disk.disk,
         out,
         was_missed: meeting.was_missed(),

@@ -9,7 +9,7 @@ use crate::played::{disk_of, play};
 use crate::rows::NO_CALL;
 use rand_xoshiro::SplitMix64;
 use rand_xoshiro::rand_core::SeedableRng;
-use segment_disk::{Disk, MemDisk};
+use segment_disk::{Disk, MemDisk, Pick};
 use std::alloc::Global;
 use std::process::Abort;
 use std::sync::Wait;
@@ -20,6 +20,10 @@ use wal_types::Lsn;
 const RUN: [&str; 7] = ["run", "--seg", "1048576", "--cap", "2", "--ring", "4"];
 
 const APPEND: [&str; 6] = ["run", "--append", "--seg", "1048576", "--cap", "2"];
+
+const LISTED: [&str; 7] = [
+    "run", "--append", "--list", "--seg", "1048576", "--cap", "2",
+];
 
 const SEGMENT_SIZE: u64 = 1 << 20;
 
@@ -341,6 +345,31 @@ fn opens_again<R: Abort + Threads + Wait + Sync>(
     let is_same = behind.status == 0 && behind.out.taken() == listing.taken();
     assert!(rt; is_same, "{}", row.what);
     Ok(count)
+}
+
+// Behind a crash that kept the odd words of the third commit two are found. The segment is synced,
+// and what is left of the third one cleared and synced; then the new commit is written and synced.
+#[test]
+fn a_reopening_makes_its_calls_in_order(rt: HostRuntime) -> Result<(), Fail> {
+    let alloc = rt.alloc();
+    let script = Vec::from_slice(alloc, b"C 1 0\nC 2 0\nC 3 0\n")?;
+    let run = play(
+        &rt,
+        alloc,
+        &RUN,
+        script,
+        disk_of(alloc, 2, &[NO_CALL])?,
+        NOBODY,
+    )?;
+    let left = run.disk.crash(alloc, 6, Pick::Odd)?;
+    let script = Vec::from_slice(alloc, b"C 9 0\n")?;
+    let run = play(&rt, alloc, &LISTED, script, left, NOBODY)?;
+    let told = "found 2 end 0/00100078\n\
+        0 1 hard 0/00100078 0/001000A0 5\n\
+        records 1 commits 1 bytes 40 end 0/001000A0 segments 1\n";
+    assert!(rt; run.out.taken() == told.as_bytes());
+    assert_eq!(rt; run.kinds, u64::from_be_bytes(*b"\0\0\0SWSWS"));
+    Ok(())
 }
 
 // What a run of nothing prints that finds so many records.

@@ -111,7 +111,8 @@ impl SettlePlan {
         ensures stopped { (size end count : ℕ) → IsPlanOf size end count (D.tape disk.old) self.now
             → OnErr result (HasNotSettled size end (D.tape disk.old) (D.tape disk.new)
             (D.moment disk.old) (D.moment disk.new)) }
-        ensures counted { OnOk result (D.moment disk.new ≡ D.moment disk.old + call_count self.now) }
+        ensures counted { OnOk result
+            (D.moment disk.new ≡ D.moment disk.old + call_count self.now) }
         ensures cause { HasCause (D.faults disk.old) (D.faults disk.new) result }
     {
         settle_planned(

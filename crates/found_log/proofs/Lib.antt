@@ -1,9 +1,7 @@
-mod FollowLaws
-mod ForeignLaws
+mod FindLaws
 mod ReadLaws
-mod Refused
+mod ReadSoFar
 pub mod SettleLaws
-mod SpelledLaws
-mod SpelledSoFar
 mod ThereLaws
 mod WithinLaws
+mod WordLaws

@@ -195,7 +195,7 @@ module _ (size : ℕ) (P : List FoundRecord → Type 0) where
     foreign_by made t faults.Memory before stops = tt
     foreign_by made t (faults.Disk count) before stops = tt
     foreign_by made t (faults.Beyond segment) before stops = stops
-    foreign_by made t (faults.Foreign stop) before stops = inl (record { found = before.given; decodes = given_all (log_of t size) (answers.Stopped stop) before stops.0; foreign = stops.1 })
+    foreign_by made t (faults.Foreign stop) before stops = inl (record { records = before.given; decodes = given_all (log_of t size) (answers.Stopped stop) before stops.0; foreign = stops.1 })
 
     pub gave_refused : (made : ℕ) (tape : Option Tape) (step : Result Step ReadErr) (fault : FindFault) → GaveSo tape size reader P → Steps tape reader next step → judged step ≡ refused_as fault → IfSome tape (IsUnread size made fault)
     gave_refused made None step fault gave steps said = tt

@@ -5,8 +5,7 @@ use Rattle.segment_disk.specs.Tape.{Tape, IsNotMade, state_now}
 use Rattle.flush_core.specs.Settled.{AreAllThere, HasNotSettled, HasSettled}
 use Rattle.flush_core.proofs.SettleCalls.{lifted}
 use Rattle.found_log.specs.declared.finding.FoundLog.{FoundLog}
-use Rattle.found_log.specs.Found.{FindsLog, IsFound}
-use Rattle.found_log.specs.Spelled.{spelled_entries}
+use Rattle.found_log.specs.Found.{FindsLog, IsDiskLog, place_of_log}
 
 module _ (size end : ℕ) (new : Option Tape) (m0 m1 : ℕ) where
   -- no call was made before
@@ -24,9 +23,9 @@ module _ (size end : ℕ) (new : Option Tape) (m0 m1 : ℕ) where
       stopped in
       subst (λ (n : ℕ). HasNotSettled size end old new n m1) same.same_moment on_tape
 
-pub there_of : (size sysid cap : ℕ) (log : FoundLog) (tape : Option Tape)
-    → FindsLog size sysid cap tape log → IfSome tape (λ t. AreAllThere size (state_now t) log.made)
-there_of size sysid cap log tape finds =
-    lifted tape (IsFound size sysid cap (spelled_entries log.spelled) log.made)
+pub there_of : (size cap : ℕ) (log : FoundLog) (tape : Option Tape) → FindsLog size cap tape log
+    → IfSome tape (λ t. AreAllThere size (state_now t) log.made)
+there_of size cap log tape finds =
+    lifted tape (IsDiskLog size cap finds.records (place_of_log log) log.made)
     (λ (t : Tape). AreAllThere size (state_now t) log.made) (λ t found. found.counted.there)
     finds.tells

@@ -1,4 +1,4 @@
--- No record of a disk's log ends behind the segments that are there.
+-- No record of a disk's log ends before segment 1, or behind the segments that are there.
 use Rattle.std.proofs.Common.{◌≡◌, ℕ, ◌+◌, ◌*◌, ◌/◌, ◌%◌, ◌^◌, ◌<◌, ◌≤◌, true, false, Bool, List, Option, Some, None, inl, inr, refl, sym, ap, subst, ◌∙◌, arith}
 use Rattle.std.specs.Prelude.{if◌then◌else◌, nat_le, IfSome}
 use Rattle.std.proofs.lemmas.Bool.{cases_lt, cond-false, cond-true, le-ltb, lt-ltb}
@@ -12,7 +12,7 @@ use Rattle.wal_reader.specs.Pages.{page_of_image, pages_in}
 use Rattle.found_log.specs.declared.fault.FindFault.{FindFault}
 use Rattle.found_log.specs.declared.fault.FindFault.TheVariants.{Memory, Disk, Beyond, Foreign}
 use Rattle.found_log.specs.Found.{CountsSegments, RefusesLog}
-use Rattle.found_log.specs.Reading.{HasRecordBehind, IsUnread}
+use Rattle.found_log.specs.Reading.{HasRecordOutside, IsUnread}
 use Rattle.found_log.proofs.WithinLaws.{EndsWithin, decoded_within, each_at}
 
 -- a segment of which page 0 is not there has no page
@@ -63,36 +63,38 @@ module _ (size : ℕ) (valid : IsSegmentSize size) (t : Tape) (made : ℕ) (few 
       either true is = is
       either false is = refl
 
-  pub none_behind : HasRecordBehind size made t → ⊥
-  none_behind has =
+  pub none_outside : HasRecordOutside size made t → ⊥
+  none_outside has =
       let pages = pages_in size (image_as_read (state_now t)) in
       let all = decoded_within size valid pages made none _ has.answer has.decodes in
       let within = each_at (EndsWithin size valid pages made none) has.before has.last has.others
       all in
       let times : size * (made + 1) ≡ made * size + size = omega arith in
-      absurd (omega (arith, within, has.behind, times))
+      elim has.outside [
+        | inl before ↦ absurd (omega (arith, within.0, before))
+        | inr behind ↦ absurd (omega (arith, within.1, behind, times))
+      ]
 
 -- ---- a log that was not found
 
-module _ (size sysid cap made : ℕ) (valid : IsSegmentSize size) (few : made ≤ 4096) where
+module _ (size cap made : ℕ) (valid : IsSegmentSize size) (few : made ≤ 4096) where
   unread_on : (t : Tape) (fault : FindFault) → CountsSegments size cap made t
-      → IsUnread size made fault t → RefusesLog size sysid cap fault t
+      → IsUnread size made fault t → RefusesLog size cap fault t
   unread_on t Memory counts unread = tt
   unread_on t (Disk faults) counts unread = tt
   unread_on t (Beyond segment) counts unread = absurd unread
-  unread_on t (Foreign stop) counts (inl stopped) = (counts.capped, inl stopped)
-  unread_on t (Foreign stop) counts (inr (inl strange)) = (counts.capped, inr (inl strange))
-  unread_on t (Foreign stop) counts (inr (inr behind)) =
-      absurd (none_behind size valid t made few counts.there behind)
+  unread_on t (Foreign stop) counts (inl stopped) = (counts.capped, stopped)
+  unread_on t (Foreign stop) counts (inr outside) =
+      absurd (none_outside size valid t made few counts.there outside)
 
   pub refuses_unread : (tape one : Option Tape) (fault : FindFault) → one ≡ tape
       → IfSome tape (CountsSegments size cap made) → IfSome one (IsUnread size made fault)
-      → IfSome tape (RefusesLog size sysid cap fault)
+      → IfSome tape (RefusesLog size cap fault)
   refuses_unread tape one fault same counts unread =
       both_on tape counts (subst (λ (t : Option Tape). IfSome t (IsUnread size made fault)) same
       unread)
     where
       both_on : (tape : Option Tape) → IfSome tape (CountsSegments size cap made)
-          → IfSome tape (IsUnread size made fault) → IfSome tape (RefusesLog size sysid cap fault)
+          → IfSome tape (IsUnread size made fault) → IfSome tape (RefusesLog size cap fault)
       both_on None counts unread = tt
       both_on (Some t) counts unread = unread_on t fault counts unread

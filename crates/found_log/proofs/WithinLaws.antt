@@ -1,14 +1,14 @@
--- The records that are read of a disk's log lie in pages that are there: so none ends behind the
--- segments that are there, one behind another.
+-- The records that are read of a disk's log lie in pages that are there: so each ends in segment 1
+-- or behind it, and none behind the segments that are there, one behind another.
 use Rattle.std.proofs.Common.{◌≡◌, ℕ, zero, suc, ◌+◌, ◌-◌, ◌*◌, ◌/◌, ◌%◌, ◌^◌, ◌<◌, ◌≤◌, true, false, Bool, List, [], ◌∷◌, ◌++◌, Option, Some, None, Result, Ok, Err, inl, inr, refl, sym, ap, subst, ◌∙◌, arith}
 use Rattle.std.specs.Prelude.{filter, nat_le, if◌then◌else◌}
 use Rattle.std.specs.List.{flat_map, range_with_len}
-use Rattle.std.proofs.lemmas.Bool.{cases_Bool, cases_lt}
+use Rattle.std.proofs.lemmas.Bool.{cases_Bool, cases_lt, leb-true}
 use Rattle.std.proofs.lemmas.Nat.{div_below}
 use Rattle.std.proofs.Math.Nat.{mul-le-mul_left}
 use Rattle.byte_position.specs.Geometry.{IsSegmentSize, pages_of}
 use Rattle.byte_position.specs.Position.{address_of, end_address_of, position_of, usable_bytes_in_segment}
-use Rattle.byte_position.proofs.EndAddresses.{end_address_of-le, end_address_of-page, end_address_of-page_start, le-position_of}
+use Rattle.byte_position.proofs.EndAddresses.{end_address_of-before, end_address_of-le, end_address_of-page, end_address_of-page_start, le-position_of}
 use Rattle.byte_position.proofs.HeaderSizes.{header_size_bounds}
 use Rattle.byte_position.proofs.Rising.{address_of-mono, lt-position_of}
 use Rattle.byte_position.proofs.SegmentSizes.{segment_size_in_pages}
@@ -25,7 +25,7 @@ use Rattle.wal_reader.specs.Finds.{IsRecordAt}
 use Rattle.wal_reader.specs.Pages.{Pages}
 use Rattle.wal_reader.proofs.BeginningLaws.{begin_at-none, begin_at-some, begin_in-damaged, begin_in-empty, begin_in-filled, begin_in-here, page_position-aligned, skipped_in-aligned}
 use Rattle.wal_reader.proofs.FindsLaws.{read_stands}
-use Rattle.wal_reader.proofs.NextPositionLaws.{next_position-end, next_position-rounded, next_position-whole}
+use Rattle.wal_reader.proofs.NextPositionLaws.{next_position-end, next_position-further, next_position-rounded, next_position-whole}
 use Rattle.wal_reader.proofs.ReadAtLaws.{read_at_of}
 use Rattle.wal_reader.proofs.SettledLaws.{passes_both, size-passed, size_in_header}
 use Rattle.written_log.proofs.AgreeingLaws.{cases_Option}
@@ -63,15 +63,15 @@ abbrev pub Each : (FoundRecord → Type 0) → List FoundRecord → Type 0
 Each P [] = Unit {0}
 Each P (f ∷ fs) = P f × Each P fs
 
-each_kept : (P : FoundRecord → Type 0) (kept : FoundRecord → Bool) (fs : List FoundRecord)
-    → Each P fs → Each P (filter kept fs)
-each_kept P kept [] all = tt
-each_kept P kept (f ∷ fs) all = kept_or (kept f) (each_kept P kept fs all.1)
+each_kept : (P Q : FoundRecord → Type 0) (kept : FoundRecord → Bool) → ((f : FoundRecord)
+    → kept f ≡ true → P f → Q f) → (fs : List FoundRecord) → Each P fs → Each Q (filter kept fs)
+each_kept P Q kept so [] all = tt
+each_kept P Q kept so (f ∷ fs) all = kept_or (kept f) refl (each_kept P Q kept so fs all.1)
   where
-    kept_or : (b : Bool) → Each P (filter kept fs) → Each P (if b then f ∷ filter kept fs
-        else filter kept fs)
-    kept_or true rest = (all.0, rest)
-    kept_or false rest = rest
+    kept_or : (b : Bool) → kept f ≡ b → Each Q (filter kept fs)
+        → Each Q (if b then f ∷ filter kept fs else filter kept fs)
+    kept_or true is rest = (so f is all.0, rest)
+    kept_or false is rest = rest
 
 pub each_at : (P : FoundRecord → Type 0) (before : List FoundRecord) (f : FoundRecord)
     (others : List FoundRecord) → Each P (before ++ f ∷ others) → P f
@@ -209,25 +209,46 @@ module _ (size : ℕ) (valid : IsSegmentSize size) (pages : Pages) (made : ℕ) 
     next_is : next_position size place.position found.total found.value ≡ next
     next_is = ap (λ (n : ℕ). next_position size place.position n found.value) total_is
 
-    pub record_within : found.end.0 ≤ limit
-    record_within =
+    start_is : found.start.0 ≡ start
+    start_is = ap (λ (f : FoundRecord). f.start.0) stands.is_found
+
+    end_is : found.end.0 ≡ end_address_of size next
+    end_is =
         let in_header = size_in_header size pages None place in
-        let end : found.end.0 ≡ end_address_of size next = ap (λ (f : FoundRecord). f.end.0)
-        stands.is_found ∙ ap (λ (n : ℕ). end_address_of size (next_position size place.position n
-        found.value)) in_header in
-        omega (arith, end, end_address_of-le size valid next limit next_low)
+        ap (λ (f : FoundRecord). f.end.0) stands.is_found ∙ ap (λ (n : ℕ). end_address_of size
+        (next_position size place.position n found.value)) in_header
+
+    -- it ends behind its start
+    record_rises : start < end_address_of size next
+    record_rises =
+        let further = next_position-further size valid place.position total found.value
+        (omega (arith, some_bytes)) in
+        omega (
+          arith,
+          end_address_of-before size next (omega (arith, further)),
+          address_of-mono size valid place.position (next - 1) (omega (arith, further)),
+        )
+
+    pub record_within : (found.start.0 < found.end.0) × (found.end.0 ≤ limit)
+    record_within = (
+      omega (arith, start_is, end_is, record_rises),
+      omega (arith, end_is, end_address_of-le size valid next limit next_low),
+    )
 
     pub place_below : IsBelow (place_behind size pages place found).position
     place_below = subst IsBelow (sym next_is) next_below
 
   -- ---- all records
 
+  abbrev ReadsWithin : FoundRecord → Type 0
+  ReadsWithin f = (f.start.0 < f.end.0) × (f.end.0 ≤ limit)
+
   abbrev pub EndsWithin : FoundRecord → Type 0
-  EndsWithin f = f.end.0 ≤ limit
+  EndsWithin f = (size ≤ f.end.0) × (f.end.0 ≤ limit)
 
   records_within : (read : List FoundRecord) (answer : Answer) (place : RecordPlace)
       → IsBelow place.position → ReadsRecords size pages None place read answer
-      → Each EndsWithin read
+      → Each ReadsWithin read
   records_within [] answer place below reads = tt
   records_within (f ∷ fs) answer place below reads = (
     record_within place below f reads.0,
@@ -308,8 +329,8 @@ module _ (size : ℕ) (valid : IsSegmentSize size) (pages : Pages) (made : ℕ) 
 
   read_within : (begun : Result RecordPlace Answer) (read : List FoundRecord) (answer : Answer)
       → beginning size pages size ≡ begun → ReadsFrom size pages None begun read answer
-      → Each EndsWithin read
-  read_within (Err told) read answer is reads = subst (Each EndsWithin) (sym reads.0) tt
+      → Each ReadsWithin read
+  read_within (Err told) read answer is reads = subst (Each ReadsWithin) (sym reads.0) tt
   read_within (Ok place) read answer is reads =
       let wide = segment_size_in_pages size valid in
       let at : size / 8192 ≡ pages_of size = omega (arith, wide) in
@@ -321,5 +342,7 @@ module _ (size : ℕ) (valid : IsSegmentSize size) (pages : Pages) (made : ℕ) 
       found answer → Each EndsWithin found
   decoded_within found answer decodes =
       let all = read_within (beginning size pages size) decodes.read answer refl decodes.reads in
-      subst (Each EndsWithin) (sym decodes.given) (each_kept EndsWithin (λ f. nat_le size f.start.0)
+      subst (Each EndsWithin) (sym decodes.given) (each_kept ReadsWithin EndsWithin
+      (λ f. nat_le size f.start.0) (λ f given within.
+      (let from = leb-true size f.start.0 given in (omega (arith, from, within.0), within.1)))
       decodes.read all)

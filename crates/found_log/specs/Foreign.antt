@@ -1,6 +1,6 @@
--- Which logs this program cannot have left, whatever a crash did to them. Of a log that it wrote a
--- crash leaves each word as it was written or as zeros. So what stands where no record does may
--- fail a check by words that are zeros, and by a record's CRC; no other check fails there.
+-- Where a log stops as no crash of this program lets one stop. Of a log that it wrote a crash
+-- leaves each word as it was written or as zeros. So what stands where no record does may fail a
+-- check by words that are zeros, and by a record's CRC; no other check fails there.
 use Rattle.std.specs.Prelude.{Bool, true, false, not, ◌==◌}
 use Rattle.wal_page.specs.declared.checks.PageErr.{PageErr}
 use Rattle.wal_page.specs.declared.checks.PageErr.TheVariants.{Magic, Flags, NoLong, LongInside, SegSize, PageSize, SysId, Address, Timeline}

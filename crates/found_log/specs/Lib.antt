@@ -1,5 +1,4 @@
 pub mod Foreign
 pub mod Found
-pub mod NobodysEntries
 pub mod Reading
-pub mod Spelled
+pub mod Words

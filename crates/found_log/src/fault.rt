@@ -13,7 +13,7 @@ pub enum FindFault {
     /// A segment is there behind the last one that the log may have.
     #[error("the log is beyond its last segment")]
     Beyond { segment: u64 },
-    /// The log stops where this program cannot have left it so, whatever a crash did.
+    /// The log stops as no crash of this program lets one stop.
     #[error("{0}")]
     Foreign(Stopped),
 }

@@ -1,31 +1,41 @@
-//! A log that a crash left, found and settled.
+//! A log that is on a disk, found and settled.
 
-ghost use Rattle.std.specs.Prelude.{◌≡◌, ℕ, ◌≤◌, IfErr, IfOk, IfSome, OnErr, OnOk, length};
+ghost use Rattle.std.specs.Prelude.{◌≡◌, ℕ, ◌+◌, ◌*◌, ◌^◌, ◌<◌, ◌≤◌, IfErr, IfOk, IfSome, OnErr, OnOk};
 ghost use Rattle.record_spelling.specs.Spelling.{word_at};
 ghost use Rattle.segment_disk.specs.Tape.{IsUncalled};
 ghost use Rattle.flush_core.specs.Settled.{HasSettled};
-ghost use Rattle.found_log.specs.Found.{CountsSegments, FindsLog, HasFindCause, IsOfSystem, LeavesUnsettled, RefusesLog};
-ghost use Rattle.found_log.specs.Reading.{IsOtherFirst};
-ghost use Rattle.found_log.specs.Spelled.{spelled_entries};
+ghost use Rattle.wal_reader.specs.Cache.{log_of};
+ghost use Rattle.found_log.specs.Found.{CountsSegments, FindsLog, HasFindCause, LeavesUnsettled, RefusesLog};
+ghost use Rattle.found_log.specs.Words.{start_of_page, word_in};
+ghost use Rattle.found_log.specs.declared.fault.FindFault.TheVariants as faults;
 
 use crate::fault::FindFault;
-use crate::reading::spell_records;
-use crate::spelling::SpelledEnd;
-use byte_position::Geometry;
+use crate::reading::read_records;
+use crate::words_below::WordsBelow;
+use byte_position::{Geometry, PAGE_SIZE};
 use flush_core::{SettleFault, SettlePlan, count_segments};
 use segment_disk::Disk;
 use std::alloc::Global;
-use wal_page::PageErr;
-use wal_reader::{DamageKind, Stopped};
 use wal_types::Lsn;
 
 /// A log that was found on a disk, and may be gone on with.
 #[derive(Drop)]
 pub struct FoundLog {
-    /// Its records, spelled anew: where they end.
-    pub spelled: SpelledEnd,
+    /// How many records it has.
+    pub count: u64,
+    /// The address behind the last one, or where the log starts.
+    pub end: Lsn,
+    /// The byte position behind the last one.
+    pub position: u64,
+    /// Where the last one starts; 0 where there is none.
+    pub last_start: Lsn,
+    /// The page that holds the end, as it was read: what lies in it below the end is the log's.
+    /// Where the end is a page's start nothing does, and it is zeros.
+    pub page: Box<[u8; 8192]>,
     /// The last segment that is there, 0 where none is.
     pub made: u64,
+    /// The words below the end, for clauses alone.
+    pub below: WordsBelow,
 }
 
 impl FoundLog {
@@ -47,7 +57,7 @@ impl FoundLog {
             (λ t. AreAllThere geometry (state_now t) self.now.made) }
         requires few { self.now.made ≤ 4096 }
         ensures planned { IfOk result
-            (IsPlanOf geometry self.now.spelled.end.0 self.now.made (D.tape disk.old)) }
+            (IsPlanOf geometry self.now.end.0 self.now.made (D.tape disk.old)) }
         ensures uncalled { IsUncalled D.tape D.moment disk.old disk.new }
         ensures fault { IfErr result (λ fault. TellsSettleFault (D.tape disk.old)
             (D.tape disk.new) (D.moment disk.old) (D.moment disk.new) (D.faults disk.old)
@@ -55,48 +65,48 @@ impl FoundLog {
         ensures no_fault { OnOk result (D.faults disk.new ≡ D.faults disk.old) }
     {
         let mut page = [0; 8192];
-        SettlePlan::of(
-            alloc,
-            disk,
-            geometry,
-            self.spelled.end,
-            self.made,
-            &mut page,
-        )
+        SettlePlan::of(alloc, disk, geometry, self.end, self.made, &mut page)
     }
 }
 
 /// Reads and judges a disk's log, from the start of segment 1 to its end. `cap` is how many
 /// segments it may have. The disk is only read.
 ///
-/// Each record that is read is spelled again, so that what is told of the log is proved on a disk
-/// that tells nothing too.
-///
-/// The log is refused if the segment behind the last one allowed is there, if it stops where this
-/// program cannot have left it so, if a record is not what this program writes at its place, and if
-/// there is a record and page 0 of segment 1 has another system id. Words that are zeros and a
-/// wrong CRC are no reason: a crash leaves them, so the log ends there.
+/// The log is refused if the segment behind the last one allowed is there, and if it stops as no
+/// crash of this program lets one stop. Words that are zeros and a wrong CRC are no reason: a crash
+/// leaves them, so the log ends there. Who wrote it is no matter, and how its records are spelled:
+/// it goes on behind them, and what lies below its end is left as it is.
 ///
 /// What is read may come from the system's memory, and not be on the disk yet.
 pub fn find<D: Disk>(
     alloc: Global,
     disk: &mut D,
     geometry: Geometry,
-    sysid: u64,
     cap: u32,
 ) -> Result<FoundLog, FindFault>
     requires few { cap ≤ 4096 }
-    ensures found { IfOk result (FindsLog geometry sysid cap (D.tape disk.old)) }
+    ensures found { IfOk result (FindsLog geometry cap (D.tape disk.old)) }
     ensures refused { IfErr result (λ fault. IfSome (D.tape disk.old)
-        (RefusesLog geometry sysid cap fault)) }
+        (RefusesLog geometry cap fault)) }
     ensures uncalled { IsUncalled D.tape D.moment disk.old disk.new }
     ensures cause { HasFindCause (D.faults disk.old) (D.faults disk.new) result }
 {
-    let mut page = [0; 8192];
+    let Ok(mut page) = Box::new(alloc, [0; 8192]) else {
+        return Err(FindFault::Memory);
+    };
     let made = count_allowed(disk, geometry, cap, &mut page)?;
-    let spelled = spell_records(alloc, disk, geometry, sysid, made)?;
-    check_system(disk, geometry, sysid, &spelled, &mut page)?;
-    Ok(FoundLog { spelled, made })
+    let read = read_records(alloc, disk, geometry, made)?;
+    read_end_page(disk, geometry, read.end, &mut page)?;
+    let below = WordsBelow::upto(disk, geometry, read.end, &page);
+    Ok(FoundLog {
+        count: read.count,
+        end: read.end,
+        position: geometry.position_of(read.end),
+        last_start: read.last_start,
+        page,
+        made,
+        below,
+    })
 }
 
 /// Finds a log, and settles it up to its end: makes durable what was read, and zeroes what a crash
@@ -108,20 +118,19 @@ pub fn find_and_settle<D: Disk>(
     alloc: Global,
     disk: &mut D,
     geometry: Geometry,
-    sysid: u64,
     cap: u32,
 ) -> Result<FoundLog, FindFault>
     requires few { cap ≤ 4096 }
-    ensures found { IfOk result (FindsLog geometry sysid cap (D.tape disk.old)) }
+    ensures found { IfOk result (FindsLog geometry cap (D.tape disk.old)) }
     ensures refused { IfErr result (λ fault. IfSome (D.tape disk.old)
-        (RefusesLog geometry sysid cap fault)) }
-    ensures settled { IfOk result (λ log. HasSettled geometry log.spelled.end.0 log.made
+        (RefusesLog geometry cap fault)) }
+    ensures settled { IfOk result (λ log. HasSettled geometry log.end.0 log.made
         (D.tape disk.old) (D.tape disk.new) (D.moment disk.old) (D.moment disk.new)) }
-    ensures unsettled { IfErr result (LeavesUnsettled geometry sysid cap
+    ensures unsettled { IfErr result (LeavesUnsettled geometry cap
         (D.tape disk.old) (D.tape disk.new) (D.moment disk.old) (D.moment disk.new)) }
     ensures cause { HasFindCause (D.faults disk.old) (D.faults disk.new) result }
 {
-    let log = find(alloc, disk, geometry, sysid, cap)?;
+    let log = find(alloc, disk, geometry, cap)?;
     let plan = match log.plan(alloc, disk, geometry) {
         Ok(plan) => plan,
         Err(SettleFault::Memory) => return Err(FindFault::Memory),
@@ -145,8 +154,8 @@ fn count_allowed<D: Disk>(
 ) -> Result<u64, FindFault>
     ensures counted { IfOk result (λ made. IfSome (D.tape disk.old)
         (CountsSegments geometry cap made)) }
-    ensures refused { (sysid : ℕ) → IfErr result (λ fault. IfSome (D.tape disk.old)
-        (RefusesLog geometry sysid cap fault)) }
+    ensures refused { IfErr result (λ fault. IfSome (D.tape disk.old)
+        (RefusesLog geometry cap fault)) }
     ensures within { IfOk result (λ made. made ≤ cap) }
     ensures uncalled { IsUncalled D.tape D.moment disk.old disk.new }
     ensures cause { HasFindCause (D.faults disk.old) (D.faults disk.new) result }
@@ -170,46 +179,35 @@ fn count_allowed<D: Disk>(
     }
 }
 
-// Checks that a log is this system's, where it has a record.
-fn check_system<D: Disk>(
+// Reads the page that holds an end, below which the log lies. Where the end is a page's start, or
+// its page is not there, it is zeros.
+fn read_end_page<D: Disk>(
     disk: &mut D,
     geometry: Geometry,
-    sysid: u64,
-    spelled: &SpelledEnd,
+    end: Lsn,
     page: &mut [u8; 8192],
 ) -> Result<(), FindFault>
-    requires counted { spelled.now.count ≡ length (spelled_entries spelled.now) }
-    ensures own { OnOk result (IfSome (D.tape disk.old)
-        (IsOfSystem sysid (spelled_entries spelled.now))) }
-    ensures refused { IfErr result (λ fault. IfSome (D.tape disk.old)
-        (IsOtherFirst geometry sysid (spelled_entries spelled.now) fault)) }
+    requires low { end.0 ≤ 2 ^ 44 }
+    ensures read { OnOk result (IfSome (D.tape disk.old) (λ t. (j : ℕ)
+        → start_of_page end.0 + 8 * j < end.0
+        → word_at page.new j ≡ word_in (log_of t geometry) (start_of_page end.0 + 8 * j))) }
+    ensures failed { IfErr result (λ fault. fault ≡ faults.Disk (D.faults disk.new)) }
     ensures uncalled { IsUncalled D.tape D.moment disk.old disk.new }
     ensures cause { HasFindCause (D.faults disk.old) (D.faults disk.new) result }
 {
-    if spelled.count == 0 {
-        return Ok(());
-    }
-    match disk.read_page(geometry, 1, 0, page) {
-        Ok(there) => {
-            if there && system_id_of(page) != sysid {
-                return Err(FindFault::Foreign(Stopped::Damaged {
-                    at: Lsn(geometry.segment_size()),
-                    kind: DamageKind::Page(PageErr::SysId),
-                }));
+    let size = geometry.segment_size();
+    let within = end.0 % size;
+    if within % PAGE_SIZE != 0 {
+        match disk.read_page(geometry, end.0 / size, (within / PAGE_SIZE) as u32, page) {
+            Ok(true) => return Ok(()),
+            Ok(false) => {}
+            Err(_) => {
+                return Err(FindFault::Disk {
+                    faults: disk.faults(),
+                });
             }
-            Ok(())
         }
-        Err(_) => Err(FindFault::Disk {
-            faults: disk.faults(),
-        }),
     }
-}
-
-// The system id in a long header.
-fn system_id_of(page: &[u8; 8192]) -> u64
-    ensures { result ≡ word_at page.now 3 }
-{
-    u64::from_le_bytes([
-        page[24], page[25], page[26], page[27], page[28], page[29], page[30], page[31],
-    ])
+    page.fill(0);
+    Ok(())
 }

@@ -1,5 +1,5 @@
-//! What this program cannot have left where its log ends. A crash leaves of each word what was
-//! written or zeros, so zeros and a wrong CRC are no sign of another program.
+//! Where a log stops as no crash of this program lets one stop. A crash leaves of each word what
+//! was written or zeros, so zeros and a wrong CRC are no such sign.
 
 ghost use Rattle.std.specs.Prelude.{◌≡◌};
 ghost use Rattle.found_log.specs.Foreign.{is_foreign_kind, is_foreign_page, is_foreign_stop};

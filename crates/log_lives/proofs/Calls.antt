@@ -1,9 +1,7 @@
 -- What is kept of a log over a life, by what `pgwal` promises of its call.
-use Rattle.std.proofs.Common.{◌≡◌, ◌⊎◌, ℕ, ◌^◌, ◌<◌, ◌≤◌, All, Contains, List, [], ◌∷◌, ◌++◌, length, Option, Some, IfSome, inl, inr, refl, sym, ap, subst, ◌∙◌, arith}
+use Rattle.std.proofs.Common.{◌≡◌, ◌⊎◌, ℕ, ◌^◌, ◌<◌, ◌≤◌, All, Contains, List, [], ◌∷◌, ◌++◌, length, Option, Some, inl, inr, refl, sym, ap, subst, ◌∙◌, arith}
 use Rattle.std.proofs.lemmas.List.Elements.{All-weaker}
-use Rattle.byte_position.specs.Position.{end_address_of}
 use Rattle.segment_disk.specs.declared.disk.Call.{Call}
-use Rattle.segment_disk.specs.DiskImage.{image_as_read}
 use Rattle.segment_disk.specs.Tape.{Tape, state_now}
 use Rattle.flush_core.specs.Calls.{with_calls}
 use Rattle.flush_core.specs.Pages.{HoldsNothing}
@@ -11,23 +9,23 @@ use Rattle.flush_core.specs.Settled.{HasSettled}
 use Rattle.flush_core.proofs.GrowingTapes.{with_calls-some}
 use Rattle.wal_page.specs.Order.{Entry}
 use Rattle.wal_reader.specs.declared.found.FoundRecord.{FoundRecord}
-use Rattle.wal_reader.specs.Cache.{log_of}
-use Rattle.wal_reader.specs.Finds.{FindsRecords}
-use Rattle.wal_reader.proofs.FindsLaws.{finding_is_decoding}
 use Rattle.written_log.specs.Written.{found_of}
 use Rattle.found_log.specs.Found.{HasBegunToSettle}
 use Rattle.wal_core.specs.Words.{Opening, found_end}
-use Rattle.wal_rule.specs.Founded.{empty_log_opening, found_log_opening}
+use Rattle.machine_laws.specs.WholeOrders.{LiesBehind}
+use Rattle.machine_laws.proofs.WholeOrders.{LiesBehind-new}
+use Rattle.wal_rule.specs.Founded.{empty_log_opening}
 use Rattle.wal_script.specs.Asked.{AskedLine}
 use Rattle.told_lines.specs.declared.told.Told.{Told}
 use Rattle.told_lines.specs.Crash.{SaysDurable}
 use Rattle.told_lines.specs.Told.{SomeTold, order_from}
 use Rattle.told_lines.proofs.AnswerLoops.{some_told}
 use Rattle.run_laws.specs.Assured.{IsMachineRun, IsRunOn, TapeGoesOn}
+use Rattle.reopened_log.specs.FoundFirst.{AreFoundEntries}
 use Rattle.reopened_log.specs.Reopened.{IsReopenedOn}
 use Rattle.reopened_log.specs.WasLeft.{WasLeft}
 use Rattle.reopened_log.specs.Lives.{LifeEndsAt}
-use Rattle.reopened_log.proofs.FirstEntries.{left_logs_are_read}
+use Rattle.reopened_log.proofs.FoundPlaces.{found_entries_are_one}
 use Rattle.reopened_log.proofs.KeptLives.{KeepsSure, failed_keeps, none_kept, settled_keeps, uncalled_keeps, with_left}
 use Rattle.reopened_log.proofs.KeptRecords.{IsSureRecord}
 use Rattle.reopened_log.proofs.Surviving.{some_tape}
@@ -40,6 +38,7 @@ use Rattle.backend_cli.specs.Appending.{EndsUnappended, HoldsAppended, StopsSett
 use Rattle.backend_cli.specs.Outside.{IsUntouched, Outside}
 use Rattle.backend_cli.specs.Run.{HoldsOpened}
 use Rattle.backend_cli.specs.Setups.{run_setup, system_id}
+use Rattle.backend_cli.proofs.FoundPlaces.{LiesBehindLeft, appended_opening, lies_behind_left}
 use Rattle.log_lives.specs.History.{BeginsLog, EndsSettling, FailsToOpen, GeneratesLog, ContinuesLog, IsCalledOn, IsToldDurable}
 use Rattle.log_lives.proofs.Lives.{begun_keeps, run_keeps}
 
@@ -69,15 +68,15 @@ module _ (size : ℕ) (options : RunOptions) (outside : Outside) (outcome : Outc
   opening = empty_log_opening (run_setup options (length script)) outside.moment_before
       outside.disk_before
 
-  run : IsRunOn opening [] (Some t) (Some now) outside.moment_after script lists
+  run : IsRunOn opening (Some t) (Some now) outside.moment_after script lists
   run = record {
     machine = subst (λ (o : Option Tape).
-        IsMachineRun opening [] o outside.moment_after script lists) called.after
-        (opened.behind).machine;
+        IsMachineRun opening o outside.moment_after script lists) called.after
+        (opened.since).machine;
     goes_on = subst (TapeGoesOn (Some t)) called.after
         (subst (λ (o : Option Tape). TapeGoesOn o outside.tape_after) called.before
-        (opened.behind).goes_on);
-    moments = (opened.behind).moments;
+        (opened.since).goes_on);
+    moments = (opened.since).moments;
   }
 
   module _ (hard : List FoundRecord) (none : All (λ (f : FoundRecord). ⊥) hard) where
@@ -85,8 +84,9 @@ module _ (size : ℕ) (options : RunOptions) (outside : Outside) (outcome : Outc
         → All (IsToldDurable geometry moment (order_from geometry 1 script lists) lists) more
         → KeepsSure geometry system_id next (order_from geometry 1 script lists) (hard ++ more)
     at_geometry ends told =
-        begun_keeps opening outside.moment_after moment t now next script lists run empty refl
-        called.counted narrow since ends.left ends.no_torn_pass more
+        begun_keeps opening outside.moment_after moment t now next script lists
+        (LiesBehind-new opening opened.headline.sized refl) run empty refl called.counted narrow
+        since ends.left ends.no_torn_pass more
         (told_as geometry moment (order_from geometry 1 script lists) lists more told) hard none
 
     of_order : (order : List Entry) (n : ℕ) → geometry ≡ n → order ≡ order_from n 1 script lists
@@ -140,8 +140,7 @@ module _ (options : RunOptions) (outside : Outside) (outcome : Outcome) (t now :
   its_size = options.geometry
 
   abbrev its_opening : Opening
-  its_opening = found_log_opening (run_setup options (length script)) appended.headline.found
-      appended.headline.segments appended.moment outside.disk_before
+  its_opening = appended_opening options outside outcome script lists appended
 
   abbrev calls : List Call
   calls = appended.settled.calls.calls
@@ -154,31 +153,26 @@ module _ (options : RunOptions) (outside : Outside) (outcome : Outcome) (t now :
   began_is = appended.settled.calls.made.tape
       ∙ ap (λ (o : Option Tape). with_calls o calls) called.before ∙ with_calls-some t calls
 
-  pub read_is : found_of options.geometry appended.headline.found ≡ found
-  read_is =
-      let finds = subst (λ (o : Option Tape). IfSome o (λ t. FindsRecords its_size
-      (log_of t its_size) its_size (found_of its_size appended.headline.found))) called.before
-      appended.headline.read in
-      let decodes = (finding_is_decoding its_size (image_as_read (state_now t)) its_size
-      left.has_found.may.valid (found_of its_size appended.headline.found)).0 finds in
-      left_logs_are_read its_size system_id t found
-      (found_of its_size appended.headline.found) decodes.0 left decodes.1
-
   -- it was settled up to the place behind which it goes on
   settled_there : HasSettled its_size (found_end its_opening) appended.headline.segments
       outside.tape_before appended.began outside.moment_before appended.moment
   settled_there = subst (λ (n : ℕ). HasSettled its_size n appended.headline.segments
       outside.tape_before appended.began outside.moment_before appended.moment)
-      (ap (end_address_of its_size) (sym appended.behind.machine.lies.position_is)) appended.settled
+      (sym appended.ends_there) appended.settled
 
-  abbrev reopened : IsReopenedOn its_opening appended.headline.found outside.moment_before t began
-      found
-  reopened = record {
+  -- that place lies behind the entries of what was left
+  lies : LiesBehindLeft its_opening t found appended.headline.found
+  lies = lies_behind_left options outside outcome script lists appended t called.before found left
+
+  abbrev reopened : (front : List Entry) → LiesBehind its_opening front
+      → found_of its_size front ≡ found
+      → IsReopenedOn its_opening front outside.moment_before t began found
+  reopened front lies_there found_is = record {
     left = left;
     counted = called.counted;
     openable = appended.openable;
-    lies = appended.behind.machine.lies;
-    found_is = read_is;
+    lies = lies_there;
+    found_is = found_is;
     settled = subst (λ (o : Option Tape). HasSettled its_size (found_end its_opening)
         appended.headline.segments (Some t) o outside.moment_before appended.moment) began_is
         (subst (λ (o : Option Tape). HasSettled its_size (found_end its_opening)
@@ -186,16 +180,14 @@ module _ (options : RunOptions) (outside : Outside) (outcome : Outcome) (t now :
         called.before settled_there);
   }
 
-  its_run : IsRunOn its_opening appended.headline.found (Some began) (Some now)
-      outside.moment_after script lists
+  its_run : IsRunOn its_opening (Some began) (Some now) outside.moment_after script lists
   its_run = record {
     machine = subst (λ (o : Option Tape).
-        IsMachineRun its_opening appended.headline.found o outside.moment_after script lists)
-        called.after
-        (appended.behind).machine;
+        IsMachineRun its_opening o outside.moment_after script lists) called.after
+        (appended.since).machine;
     goes_on = subst (TapeGoesOn (Some began)) called.after
         (subst (λ (o : Option Tape). TapeGoesOn o outside.tape_after) began_is appended.goes_on);
-    moments = (appended.behind).moments;
+    moments = (appended.since).moments;
   }
 
   module _ (hard : List FoundRecord)
@@ -205,22 +197,25 @@ module _ (options : RunOptions) (outside : Outside) (outcome : Outcome) (t now :
         → LifeEndsAt options.geometry left.order now moment next
         → KeepsSure options.geometry system_id next left.order hard
     early_keeps since early ends =
-        settled_keeps its_opening appended.headline.found outside.moment_before moment t began now
-        next found reopened its_run.goes_on hard kept since early ends.left ends.no_torn_pass
+        settled_keeps its_opening lies.0 outside.moment_before moment t began now
+        next found (reopened lies.0 lies.2 lies.3) its_run.goes_on hard kept since early ends.left
+        ends.no_torn_pass
 
-    pub late_keeps : (more : List FoundRecord) → appended.moment ≤ moment
-        → LifeEndsAt options.geometry (appended.headline.found
-        ++ order_from options.geometry 1 script lists) now moment next
-        → All (IsToldDurable options.geometry moment (appended.headline.found
-        ++ order_from options.geometry 1 script lists) lists) more
-        → KeepsSure options.geometry system_id next (appended.headline.found
-        ++ order_from options.geometry 1 script lists) (hard ++ more)
-    late_keeps more since ends told =
-        run_keeps its_opening appended.headline.found outside.moment_before outside.moment_after
-        moment t began now next found reopened script lists its_run hard kept since ends.left
-        ends.no_torn_pass more
-        (told_as its_size moment (appended.headline.found ++ order_from its_size 1 script lists)
-        lists more told)
+    pub late_keeps : (front : List Entry) → AreFoundEntries options.geometry t front
+        → (more : List FoundRecord) → appended.moment ≤ moment
+        → LifeEndsAt options.geometry (front ++ order_from options.geometry 1 script lists) now
+        moment next
+        → All (IsToldDurable options.geometry moment
+        (front ++ order_from options.geometry 1 script lists) lists) more
+        → KeepsSure options.geometry system_id next
+        (front ++ order_from options.geometry 1 script lists) (hard ++ more)
+    late_keeps front below more since ends told =
+        let same = found_entries_are_one its_size system_id t found lies.0 front left lies.1 below in
+        let there = reopened front (subst (LiesBehind its_opening) same lies.2)
+        (subst (λ (es : List Entry). found_of its_size es ≡ found) same lies.3) in
+        run_keeps its_opening front outside.moment_before outside.moment_after moment t began now
+        next found there script lists its_run hard kept since ends.left ends.no_torn_pass more
+        (told_as its_size moment (front ++ order_from its_size 1 script lists) lists more told)
 
 -- what is called so is called with its own size
 own_size : (size : ℕ) (options : RunOptions) (outside : Outside) (t now : Tape)
@@ -241,44 +236,43 @@ module _ (size : ℕ) (t next : Tape) (before order : List Entry) (hard more : L
   abbrev all_lists : List (List Told)
   all_lists = life.told ∷ life.others
 
-  abbrev its_found : List Entry
-  its_found = ((life.holds).2).headline.found
-
   abbrev its_script : List (List AskedLine)
   its_script = (life.holds).0
 
-  continues_at : KeepsSure asked_size system_id t before hard
-      → LifeEndsAt asked_size (its_found ++ order_from asked_size 1 its_script all_lists) life.now
-      life.moment next
-      → All (IsToldDurable asked_size life.moment
-      (its_found ++ order_from asked_size 1 its_script all_lists) all_lists) more
-      → KeepsSure asked_size system_id next
-      (its_found ++ order_from asked_size 1 its_script all_lists) (hard ++ more)
-  continues_at k ends told = with_left asked_size system_id t before hard
-      (λ (o : List Entry). KeepsSure asked_size system_id next
-      (its_found ++ order_from asked_size 1 its_script all_lists) (hard ++ more)) k
-      (λ found left kept. late_keeps (life.options).run life.outside life.outcome t life.now
-      its_script all_lists (own_size size (life.options).run life.outside t life.now life.called) (life.holds).2
-      found left hard kept life.moment next more life.since ends told)
+  abbrev its_order : ℕ → List Entry
+  its_order n = life.front ++ order_from n 1 its_script all_lists
 
-  continues_of : (n : ℕ) → asked_size ≡ n → KeepsSure n system_id t before hard
-      → order ≡ its_found ++ order_from n 1 its_script all_lists
+  continues_at : AreFoundEntries asked_size t life.front
+      → KeepsSure asked_size system_id t before hard
+      → LifeEndsAt asked_size (its_order asked_size) life.now life.moment next
+      → All (IsToldDurable asked_size life.moment (its_order asked_size) all_lists) more
+      → KeepsSure asked_size system_id next (its_order asked_size) (hard ++ more)
+  continues_at below k ends told = with_left asked_size system_id t before hard
+      (λ (o : List Entry). KeepsSure asked_size system_id next (its_order asked_size)
+      (hard ++ more)) k
+      (λ found left kept. late_keeps (life.options).run life.outside life.outcome t life.now
+      its_script all_lists (own_size size (life.options).run life.outside t life.now life.called)
+      (life.holds).2 found left hard kept life.moment next life.front below more life.since ends
+      told)
+
+  continues_of : (n : ℕ) → asked_size ≡ n → AreFoundEntries n t life.front
+      → KeepsSure n system_id t before hard → order ≡ its_order n
       → LifeEndsAt n order life.now life.moment next
       → All (IsToldDurable n life.moment order all_lists) more
       → KeepsSure n system_id next order (hard ++ more)
   continues_of n same =
-      subst (λ (m : ℕ). KeepsSure m system_id t before hard
-      → order ≡ its_found ++ order_from m 1 its_script all_lists
-      → LifeEndsAt m order life.now life.moment next
+      subst (λ (m : ℕ). AreFoundEntries m t life.front → KeepsSure m system_id t before hard
+      → order ≡ its_order m → LifeEndsAt m order life.now life.moment next
       → All (IsToldDurable m life.moment order all_lists) more
       → KeepsSure m system_id next order (hard ++ more)) same
-      (λ k is. subst (λ (o : List Entry). LifeEndsAt asked_size o life.now life.moment next
+      (λ below k is. subst (λ (o : List Entry). LifeEndsAt asked_size o life.now life.moment next
       → All (IsToldDurable asked_size life.moment o all_lists) more
-      → KeepsSure asked_size system_id next o (hard ++ more)) (sym is) (continues_at k))
+      → KeepsSure asked_size system_id next o (hard ++ more)) (sym is) (continues_at below k))
 
   pub continues_keeps : KeepsSure size system_id t before hard
       → KeepsSure size system_id next order (hard ++ more)
-  continues_keeps k = continues_of size (life.called).sized k life.order_is life.ends life.told_hard
+  continues_keeps k = continues_of size (life.called).sized life.below k life.order_is life.ends
+      life.told_hard
 
 -- ---- one that was cut short, or did not open the log
 
@@ -339,13 +333,13 @@ module _ (size : ℕ) (t next : Tape) (order : List Entry) (hard : List FoundRec
           rests_keeps (subst (λ (m : ℕ). LifeEndsAt size order t m next) last
           (subst (λ (d : Tape). LifeEndsAt size order d moment next) same ends)) k
 
-      begun_at : (cap : ℕ) → HasBegunToSettle size system_id cap outside.tape_before
+      begun_at : (cap : ℕ) → HasBegunToSettle size cap outside.tape_before
           outside.tape_after outside.moment_before outside.moment_after
           → LifeEndsAt size order now moment next → KeepsSure size system_id next order hard
       begun_at cap begun ends =
-          let on_t = subst (λ (o : Option Tape). HasBegunToSettle size system_id cap o
+          let on_t = subst (λ (o : Option Tape). HasBegunToSettle size cap o
           outside.tape_after outside.moment_before outside.moment_after) called.before begun in
-          let to_now = subst (λ (o : Option Tape). HasBegunToSettle size system_id cap (Some t) o
+          let to_now = subst (λ (o : Option Tape). HasBegunToSettle size cap (Some t) o
           outside.moment_before outside.moment_after) called.after on_t in
           with_left size system_id t order hard
           (λ (o : List Entry). LifeEndsAt size o now moment next
@@ -359,7 +353,7 @@ module _ (size : ℕ) (t next : Tape) (order : List Entry) (hard : List FoundRec
       unopened_at outcome holds ends = elim (untouched_or outcome holds) [
         | inl untouched ↦ untouched_keeps untouched ends
         | inr stops ↦ begun_at (options.run).cap_segments
-            (subst (λ (n : ℕ). HasBegunToSettle n system_id (options.run).cap_segments
+            (subst (λ (n : ℕ). HasBegunToSettle n (options.run).cap_segments
             outside.tape_before outside.tape_after outside.moment_before outside.moment_after)
             called.sized stops.begun) ends
       ]

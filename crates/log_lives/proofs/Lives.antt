@@ -8,6 +8,7 @@ use Rattle.wal_reader.specs.declared.found.FoundRecord.{FoundRecord}
 use Rattle.written_log.specs.Written.{found_of}
 use Rattle.wal_core.specs.Suited.{IsSuited}
 use Rattle.wal_core.specs.Words.{Opening}
+use Rattle.machine_laws.specs.WholeOrders.{LiesBehind}
 use Rattle.wal_script.specs.Asked.{AskedLine}
 use Rattle.told_lines.specs.declared.told.Told.{Told}
 use Rattle.told_lines.specs.Crash.{SaysDurable}
@@ -32,17 +33,18 @@ AreTold opening front moment script lists more =
     × SomeTold (SaysDurable moment f.end.0) lists) more
 
 -- they are firm
-module _ (opening : Opening) (front : List Entry) (last moment : ℕ) (began now : Tape)
+module _ (opening : Opening) (front : List Entry) (lies : LiesBehind opening front)
+    (last moment : ℕ) (began now : Tape)
     (script : List (List AskedLine)) (lists : List (List Told))
-    (run : IsRunOn opening front (Some began) (Some now) last script lists)
+    (run : IsRunOn opening (Some began) (Some now) last script lists)
     (suited : IsSuited opening (state_now began)) (counted : opening.moment ≡ length began.calls)
   where
     told_firm : (more : List FoundRecord) → AreTold opening front moment script lists more
         → All (IsFirmRecord opening front
         (order_from (opening.setup).segment_size 1 script lists) now moment) more
     told_firm more told =
-        let w = run_written opening front last began now script lists run suited counted in
-        let words = keeps_words opening front now last script lists run.machine w.suited in
+        let w = run_written opening front last began now script lists lies run suited counted in
+        let words = keeps_words opening now last script lists run.machine w.suited in
         All-weaker (λ (f : FoundRecord).
         Contains (found_of (opening.setup).segment_size
         (order_told front (opening.setup).segment_size script lists)) f
@@ -56,7 +58,7 @@ pub run_keeps : (opening : Opening) (front : List Entry) (handed last moment : �
     (t began now next : Tape) (found : List FoundRecord)
     (r : IsReopenedOn opening front handed t began found)
     (script : List (List AskedLine)) (lists : List (List Told))
-    → IsRunOn opening front (Some began) (Some now) last script lists → (hard : List FoundRecord)
+    → IsRunOn opening (Some began) (Some now) last script lists → (hard : List FoundRecord)
     → All (IsSureRecord (opening.setup).segment_size (opening.setup).sysid (r.left).order
     (state_now t)) hard
     → opening.moment ≤ moment → IsLeftAt now moment next
@@ -71,14 +73,14 @@ run_keeps opening front handed last moment t began now next found r script lists
     let counted = calls_counted opening front handed t began found r in
     reopened_keeps opening front handed moment t began now next found r
     (order_from (opening.setup).segment_size 1 script lists)
-    (run_written opening front last began now script lists run suited counted) run.goes_on hard kept
-    since is none_torn more
-    (told_firm opening front last moment began now script lists run suited counted more told)
+    (run_written opening front last began now script lists r.lies run suited counted) run.goes_on
+    hard kept since is none_torn more
+    (told_firm opening front r.lies last moment began now script lists run suited counted more told)
 
 -- one that begins it
 pub begun_keeps : (opening : Opening) (last moment : ℕ) (t now next : Tape)
-    (script : List (List AskedLine)) (lists : List (List Told))
-    → IsRunOn opening [] (Some t) (Some now) last script lists → HoldsNothing (Some t)
+    (script : List (List AskedLine)) (lists : List (List Told)) → LiesBehind opening []
+    → IsRunOn opening (Some t) (Some now) last script lists → HoldsNothing (Some t)
     → opening.made ≡ 0 → opening.moment ≡ length t.calls → (opening.setup).sysid < 2 ^ 64
     → opening.moment ≤ moment → IsLeftAt now moment next
     → NoneTorn (opening.setup).segment_size
@@ -87,11 +89,11 @@ pub begun_keeps : (opening : Opening) (last moment : ℕ) (t now next : Tape)
     → (hard : List FoundRecord) → All (λ (f : FoundRecord). ⊥) hard
     → KeepsSure (opening.setup).segment_size (opening.setup).sysid next
     (order_from (opening.setup).segment_size 1 script lists) (hard ++ more)
-begun_keeps opening last moment t now next script lists run nothing none_made counted narrow since
-    is none_torn more told =
+begun_keeps opening last moment t now next script lists lies run nothing none_made counted narrow
+    since is none_torn more told =
     let suited = empty_suited opening (Some t) none_made nothing in
     written_keeps opening moment t now next
     (order_from (opening.setup).segment_size 1 script lists)
-    (run_written opening [] last t now script lists run suited counted) run.goes_on nothing
+    (run_written opening [] last t now script lists lies run suited counted) run.goes_on nothing
     none_made counted narrow since is none_torn more
-    (told_firm opening [] last moment t now script lists run suited counted more told)
+    (told_firm opening [] lies last moment t now script lists run suited counted more told)

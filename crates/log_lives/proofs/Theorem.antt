@@ -7,17 +7,17 @@ use Rattle.wal_reader.specs.declared.found.FoundRecord.{FoundRecord}
 use Rattle.wal_reader.specs.declared.found.Stopped.{Stopped as LogStop}
 use Rattle.wal_reader.specs.Cache.{log_of}
 use Rattle.wal_reader.specs.Finds.{FindsRecords}
-use Rattle.written_log.specs.Written.{found_of}
 use Rattle.found_log.specs.Found.{RefusesLog}
 use Rattle.found_log.specs.declared.fault.FindFault.TheVariants.{Foreign}
 use Rattle.told_lines.specs.declared.told.Told.{Told}
 use Rattle.reopened_log.specs.Lives.{IsFrontWith}
 use Rattle.reopened_log.specs.WasLeft.{WasLeft}
 use Rattle.reopened_log.proofs.EmptyDisks.{empty_disks_were_left}
+use Rattle.reopened_log.proofs.FoundPlaces.{found_entries_are_there}
 use Rattle.reopened_log.proofs.KeptFronts.{sure_crash, sure_reads}
 use Rattle.reopened_log.proofs.KeptLives.{KeepsSure, with_left}
 use Rattle.reopened_log.proofs.KeptRecords.{IsSureRecord}
-use Rattle.reopened_log.proofs.OwnSystem.{left_logs_are_not_foreign}
+use Rattle.reopened_log.proofs.OwnAnswers.{left_logs_are_not_foreign}
 use Rattle.command_words.specs.declared.commands.ScriptRunOptions.{ScriptRunOptions}
 use Rattle.backend_cli.specs.declared.outcome.Outcome.{Outcome}
 use Rattle.backend_cli.specs.declared.outcome.Outcome.TheVariants.{Stopped}
@@ -62,27 +62,27 @@ module _ (size : ℕ) (t : Tape) (found : List FoundRecord)
       → AppendHolds outside options (Stopped stop) [] → ⊥
   refused_at options outside stop sized before holds =
       left_logs_are_not_foreign size system_id (options.run).cap_segments t found stop left
-      (subst (λ (n : ℕ). RefusesLog n system_id (options.run).cap_segments (Foreign stop) t) sized
-      (subst (λ (o : Option Tape). IfSome o (RefusesLog (options.run).geometry system_id
+      (subst (λ (n : ℕ). RefusesLog n (options.run).cap_segments (Foreign stop) t) sized
+      (subst (λ (o : Option Tape). IfSome o (RefusesLog (options.run).geometry
       (options.run).cap_segments (Foreign stop))) before holds.1))
 
   finds_at : (options : ScriptRunOptions) (outside : Outside) (outcome : Outcome) (told : List Told)
       (others : List (List Told)) → (options.run).geometry ≡ size
       → outside.tape_before ≡ Some t
       → (holds : AppendHolds outside options outcome (told ∷ others))
-      → IsFrontWith size left.order hard (found_of size (holds.2).headline.found)
+      → IsFrontWith size left.order hard (holds.2).headline.found
   finds_at options outside outcome told others sized before holds =
-      sure_reads size system_id t found left hard kept (found_of size (holds.2).headline.found)
-      (subst (λ (n : ℕ). FindsRecords n (log_of t n) n (found_of n (holds.2).headline.found)) sized
+      sure_reads size system_id t found left hard kept (holds.2).headline.found
+      (subst (λ (n : ℕ). FindsRecords n (log_of t n) n (holds.2).headline.found) sized
       (subst (λ (o : Option Tape). IfSome o (λ t. FindsRecords (options.run).geometry
-      (log_of t (options.run).geometry) (options.run).geometry
-      (found_of (options.run).geometry (holds.2).headline.found))) before
+      (log_of t (options.run).geometry) (options.run).geometry (holds.2).headline.found)) before
       (holds.2).headline.read))
 
   keeps_hard : KeepsAllHard size t left.order hard
   keeps_hard = record {
     reads = sure_reads size system_id t found left hard kept;
     crash = sure_crash size system_id t found left hard kept;
+    entries = found_entries_are_there size system_id t found left;
     not_refused = λ options outside now stop called holds.
         refused_at options outside stop called.sized called.before holds;
     finds = λ options outside outcome now told others called holds.

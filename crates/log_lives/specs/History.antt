@@ -6,7 +6,8 @@
 -- `size` is the size of a segment in bytes. `t` is the disk's tape when a life begins, `now` the
 -- one that its call leaves, `next` what is left for the next life. `order` is the log so far, and
 -- `hard` are records of it that were told durable in some life. (A call that is cut short at a
--- moment is one whose later calls of the disk and answers nobody saw.)
+-- moment is one whose later calls of the disk and answers nobody saw. That the records on a disk
+-- are those of entries, `entries` of `KeepsAllHard` says, and `whole` of the call's headline.)
 use Rattle.std.specs.Prelude.{◌≡◌, ℕ, ◌<◌, ◌≤◌, All, Any, Contains, IsTrue, List, [], ◌∷◌, ◌++◌, length, Some}
 use Rattle.byte_position.specs.Geometry.{is_segment_size}
 use Rattle.segment_disk.specs.Tape.{Tape}
@@ -17,6 +18,7 @@ use Rattle.written_log.specs.Written.{found_of}
 use Rattle.told_lines.specs.declared.told.Told.{Told}
 use Rattle.told_lines.specs.Crash.{SaysDurable}
 use Rattle.told_lines.specs.Told.{order_from}
+use Rattle.reopened_log.specs.FoundFirst.{AreFoundEntries}
 use Rattle.reopened_log.specs.Lives.{LifeEndsAt}
 use Rattle.wal_script.specs.Generated.{generated_script}
 use Rattle.command_words.specs.declared.commands.GenOptions.{GenOptions}
@@ -78,7 +80,8 @@ pub record GeneratesLog (size : ℕ) (t next : Tape) (order : List Entry) (hard 
   pub ends : LifeEndsAt size order now moment next
   pub told_hard : All (IsToldDurable size moment order (told ∷ others)) hard
 
--- a run that goes on with it: what was found comes first, and what was reserved behind it
+-- a run that goes on with it: the entries come first whose records the reader finds on the disk,
+-- and behind them what was reserved
 pub record ContinuesLog (size : ℕ) (t next : Tape) (order : List Entry) (hard : List FoundRecord)
     : Type 0 where
   pub options : ScriptRunOptions
@@ -89,7 +92,9 @@ pub record ContinuesLog (size : ℕ) (t next : Tape) (order : List Entry) (hard 
   pub now : Tape
   pub called : IsCalledOn size options.run outside t now
   pub holds : AppendHolds outside options outcome (told ∷ others)
-  pub order_is : order ≡ (holds.2).headline.found ++ order_from size 1 holds.0 (told ∷ others)
+  pub front : List Entry
+  pub below : AreFoundEntries size t front
+  pub order_is : order ≡ front ++ order_from size 1 holds.0 (told ∷ others)
   pub moment : ℕ
   pub since : (holds.2).moment ≤ moment
   pub ends : LifeEndsAt size order now moment next

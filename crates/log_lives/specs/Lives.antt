@@ -12,8 +12,8 @@ use Rattle.wal_reader.specs.Cache.{log_of}
 use Rattle.wal_reader.specs.Finds.{FindsRecords}
 use Rattle.wal_reader.specs.Pages.{pages_in}
 use Rattle.written_log.specs.Torn.{NoTornPass}
-use Rattle.written_log.specs.Written.{found_of}
 use Rattle.told_lines.specs.declared.told.Told.{Told}
+use Rattle.reopened_log.specs.FoundFirst.{AreFoundEntries}
 use Rattle.reopened_log.specs.Lives.{IsFrontWith}
 use Rattle.command_words.specs.declared.commands.ScriptRunOptions.{ScriptRunOptions}
 use Rattle.backend_cli.specs.declared.outcome.Outcome.{Outcome}
@@ -32,6 +32,8 @@ pub record KeepsAllHard (size : ℕ) (t : Tape) (order : List Entry) (hard : Lis
       → NoTornPass size (pages_in size image) order
       → FindsRecords size (pages_in size image) size records
       → IsFrontWith size order hard records
+  -- The records that it finds on the disk are those of entries, one behind another.
+  pub entries : (front : List Entry) × AreFoundEntries size t front
   -- A run that goes on with the log is not refused, whatever stands on the disk;
   pub not_refused : (options : ScriptRunOptions) (outside : Outside) (now : Tape) (stop : LogStop)
       → IsCalledOn size options.run outside t now
@@ -40,7 +42,7 @@ pub record KeepsAllHard (size : ℕ) (t : Tape) (order : List Entry) (hard : Lis
   pub finds : (options : ScriptRunOptions) (outside : Outside) (outcome : Outcome) (now : Tape)
       (told : List Told) (others : List (List Told)) → IsCalledOn size options.run outside t now
       → (holds : AppendHolds outside options outcome (told ∷ others))
-      → IsFrontWith size order hard (found_of size (holds.2).headline.found)
+      → IsFrontWith size order hard (holds.2).headline.found
   -- and all that such a run promises of a disk that this program left it promises of this one
   pub was_left : WasLeftSo size (Some t)
 

@@ -29,7 +29,7 @@ fn one_commit(alloc: Global) -> Result<Vec<Vec<Job>>, Fail> {
 }
 
 // Each run finds the records of those before it, and its own stand behind them; the first one
-// finds none, on a disk without segment 1.
+// finds none, on a disk without segment 1. With segments of another size the log is refused.
 #[test]
 fn a_log_is_gone_on_with(rt: HostRuntime) -> Result<(), Fail> {
     let alloc = rt.alloc();
@@ -47,15 +47,18 @@ fn a_log_is_gone_on_with(rt: HostRuntime) -> Result<(), Fail> {
         end: Lsn(0x10_0050),
     };
     assert_eq!(rt; (found, ended.closed.end), (wanted, Lsn(0x10_0078)));
-    let other = Setup { sysid: 2, ..SETUP };
+    let wider = Setup {
+        segment_size: 2_097_152,
+        ..SETUP
+    };
     let Ended { work: _, closed } = ended;
-    let Err(fault) = Wal::reopen(alloc, closed.disk, other) else {
-        panic!(rt; "another system's log");
+    let Err(fault) = Wal::reopen(alloc, closed.disk, wider) else {
+        panic!(rt; "a log of other segments");
     };
     let OpenFault { disk, kind } = fault;
     let foreign = OpenFaultKind::Foreign(Stopped::Damaged {
-        at: Lsn(0x10_0000),
-        kind: DamageKind::Page(PageErr::SysId),
+        at: Lsn(0x20_0000),
+        kind: DamageKind::Page(PageErr::SegSize { found: 0x10_0000 }),
     });
     assert_eq!(rt; (kind, disk.faults()), (foreign, 0));
     Ok(())

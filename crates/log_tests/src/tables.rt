@@ -2,6 +2,7 @@
 
 ghost use Rattle.std.specs.Prelude.{◌≡◌, ℕ, ◌≤◌, IfOk};
 ghost use Rattle.flush_core.specs.Planned.{IsPlanOf};
+ghost use Rattle.wal_page.specs.LogPlace.{new_place};
 ghost use Rattle.wal_core.specs.Opened.{first_view};
 ghost use Rattle.wal_rule.specs.Founded.{empty_log_opening};
 ghost use Rattle.wal_rule.specs.Passes.{view_of_pass};
@@ -12,9 +13,10 @@ use flush_core::{SettlePlan, count_segments};
 use machine_words::{LogShape, MachineWords};
 use segment_disk::{Disk, MemDisk};
 use std::alloc::Global;
+use std::marker::Brand;
 use std::test::Fail;
 use wal_core::Setup;
-use wal_rule::{FoundEntries, Founding, LogTable, LogWriter, Pass};
+use wal_rule::{Founding, LogTable, LogWriter, OrderPlace, Pass};
 use wal_types::Lsn;
 
 pub type Table = LogTable<MemDisk>;
@@ -60,13 +62,20 @@ pub fn resume(alloc: Global) -> Result<(Table, Pass), Fail>
     let mut disk = MemDisk::new(alloc, 4, 100, Vec::new(alloc), Vec::new(alloc))?;
     let plan = planned(alloc, &mut disk, shape.geometry(), Lsn(SETUP.segment_size))?;
     let made = plan.count();
-    let founding = Founding::of_found(SETUP, &disk, FoundEntries::none(), made, &plan);
+    let founding = Founding::of_found(SETUP, &disk, first_place(), made, &plan);
     let words = MachineWords::first(alloc, SETUP, founding.moment)?;
     let writer = LogWriter::resume(disk, shape.geometry(), SETUP.segment_size, made);
     match LogTable::resume(alloc, words.as_slice(), writer, shape, &founding, &plan) {
         Ok((table, seat)) => Ok((table, Pass::of_seat(seat, 0, 1, SETUP.passes))),
         Err(_) => Err(Fail::from("memory for a table")),
     }
+}
+
+// The place at which a log begins that holds nothing.
+fn first_place() -> OrderPlace
+    ensures { result.place ≡ new_place SETUP.segment_size }
+{
+    OrderPlace::of::<Brand>()
 }
 
 // What settles a log that ends at an address, on a disk with two segments at most.

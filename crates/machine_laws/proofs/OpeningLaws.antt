@@ -1,12 +1,12 @@
 -- A log begins, or goes on behind what was none, in a state that keeps the invariant: each part by
 -- itself.
-use Rattle.std.proofs.Common.{◌≡◌, ◌≢◌, ℕ, zero, suc, ◌+◌, ◌-◌, ◌*◌, ◌/◌, ◌%◌, ◌<◌, ◌≤◌, All, Bool, true, false, List, [], ◌∷◌, length, take, Option, Some, None, IfSome, nat_lt, if◌then◌else◌, append-nil, refl, sym, ap, ◌∙◌, subst, inl, inr, arith}
+use Rattle.std.proofs.Common.{◌≡◌, ◌≢◌, ℕ, zero, suc, ◌+◌, ◌-◌, ◌*◌, ◌/◌, ◌%◌, ◌<◌, ◌≤◌, Bool, true, false, List, [], ◌∷◌, length, take, Option, Some, None, IfSome, nat_lt, if◌then◌else◌, refl, sym, ap, ◌∙◌, subst, inl, inr, arith}
 use Rattle.std.specs.Int.{w64, to_le_bytes}
 use Rattle.std.proofs.lemmas.Bool.{cases_eq, le-ltb, lt-ltb}
 use Rattle.std.specs.List.{Contains}
 use Rattle.std.specs.Option.{IsSomeAnd}
 use Rattle.std.proofs.lemmas.List.{drop_all}
-use Rattle.std.proofs.lemmas.List.Elements.{All-head, All-nil, All-tail}
+use Rattle.std.proofs.lemmas.List.Elements.{All-nil}
 use Rattle.std.proofs.Math.Nat.{mod-lt}
 use mathlib.Core.Option.{some, some-injective, some-ne-none}
 use Rattle.byte_position.specs.Position.{first_position}
@@ -15,14 +15,14 @@ use Rattle.byte_position.proofs.SegmentSizes.{segment_size_in_pages}
 use Rattle.wal_page.specs.EntryWords.{address_of_word}
 use Rattle.wal_page.specs.Order.{Entry}
 use Rattle.wal_page.proofs.WordPositions.{end_address_of-first_position}
-use Rattle.wal_page.proofs.PlaceLaws.{end-whole_from, word_from-before, word_from-behind}
+use Rattle.wal_page.proofs.PlaceLaws.{word_from-before, word_from-behind}
 use Rattle.byte_position.proofs.EndAddresses.{end_address_of-mono}
 use Rattle.byte_position.proofs.Words.{end_address_of-mod_word}
 use Rattle.wal_core.specs.declared.setup.Setup.{Setup}
 use Rattle.wal_core.specs.Words.{end_form, order_end, Opening, position_word, prev_word, lock_word, mapping_turn, write_turn, initialised_word, written_word, flushed_word, moment_word, down_word, end_word, word_of_ring, async_word, found_end, found_position, mapping_turn_number, write_turn_number, lock_number}
 use Rattle.wal_core.specs.Views.{HasAt, Plain, Away, Landed, Copying, IsLoadedLast, Out, AreSomeOf, View, mapper_of, receipts_of, writer_of}
 use Rattle.wal_core.specs.Opened.{AreFirstWords, IsFirstWriter, IsOpenable, first_view}
-use Rattle.wal_core.specs.Ordered.{HasLive, IsUnused, entries_under, is_pass, OrderHolds, Role, active, spare, ended, unborn}
+use Rattle.wal_core.specs.Ordered.{HasLive, IsUnused, OrderHolds, Role, active, spare, ended, unborn}
 use Rattle.wal_core.specs.Locked.{LocksHold, ProgressHolds, StandsAlone, SwitchesStandAlone, most_told}
 use Rattle.wal_core.specs.Ringed.{RingHolds, IsOfOrder, log_word_of, log_bytes_of}
 use Rattle.wal_core.specs.Paged.{PagesHold}

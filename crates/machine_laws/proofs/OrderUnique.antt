@@ -1,9 +1,9 @@
 -- What the passes reserved fixes the order: there is one order at most whose entries, pass by pass,
 -- are theirs.
-use Rattle.std.proofs.Common.{◌≡◌, ℕ, ◌≤◌, cond, Bool, true, false, All, List, [], ◌∷◌, Option, Some, None, IsSome, true≢false, ◌++◌, refl, sym, ap, ◌∙◌, subst, arith}
+use Rattle.std.proofs.Common.{◌≡◌, ℕ, ◌≤◌, cond, Bool, true, false, All, List, [], ◌∷◌, Option, Some, None, IsSome, true≢false, refl, sym, ap, ◌∙◌, subst, arith}
 use Rattle.std.proofs.lemmas.List.Elements.{All-head, All-tail}
 use Rattle.wal_page.specs.Order.{Entry, FollowsFrom, position_behind}
-use Rattle.wal_page.proofs.OrderLaws.{room_at-pos, FollowsFrom-parts}
+use Rattle.wal_page.proofs.OrderLaws.{room_at-pos}
 use Rattle.wal_core.specs.Words.{Opening, GoesOnAtPlace}
 use Rattle.wal_core.specs.Ordered.{is_pass, entries_under}
 use Rattle.machine_laws.proofs.OrderedEntries.{is_pass_own}

@@ -1,27 +1,22 @@
 -- Images of a log behind a place are images of the whole log, where that is known entry by entry.
-use Rattle.std.proofs.Common.{◌≡◌, ℕ, ◌+◌, ◌-◌, ◌*◌, ◌/◌, ◌%◌, ◌<◌, ltb, inl, inr, List, [], ◌∷◌, ◌++◌, IsSome, None, All, get_or, refl, sym, ap, subst, ◌∙◌, arith}
+use Rattle.std.proofs.Common.{◌≡◌, ℕ, ◌+◌, ◌*◌, ◌<◌, ltb, inl, inr, List, [], ◌++◌, IsSome, refl, sym, ap, subst, ◌∙◌, arith}
 use Rattle.std.specs.Int.{w64, to_le_bytes}
-use Rattle.std.proofs.lemmas.Bool.{cases_lt, cond-false, cond-true, le-ltb, lt-ltb}
-use Rattle.std.proofs.lemmas.List.FromFn.{get_or-map-range_with_len}
-use Rattle.byte_position.proofs.SegmentSizes.{segment_size_in_pages}
-use Rattle.byte_position.proofs.Words.{end_address_of-mod_word}
+use Rattle.std.proofs.lemmas.Bool.{cases_lt, cond-true, lt-ltb}
 use Rattle.std.proofs.lemmas.List.Elements.{All-nil}
 use Rattle.byte_position.specs.Position.{end_address_of, first_position}
 use Rattle.byte_position.specs.Geometry.{IsSegmentSize}
 use Rattle.segment_disk.specs.DiskImage.{DiskImage}
 use Rattle.segment_disk.specs.ImageWords.{HasPageAt, image_word}
 use Rattle.wal_page.specs.Order.{Entry, FollowsFrom, IsChained, end_position, rooms_of}
-use Rattle.wal_page.specs.Log.{IsLawfulWord, log_word, log_word_bytes, owner_at}
-use Rattle.wal_page.specs.LogPlace.{IsPlace, LogPlace, new_place, word_below}
+use Rattle.wal_page.specs.Log.{IsLawfulWord, log_word_bytes, owner_at}
+use Rattle.wal_page.specs.LogPlace.{LogPlace, new_place}
 use Rattle.wal_page.proofs.LogWordLaws.{log_word-unowned}
 use Rattle.wal_page.proofs.OrderLaws.{FollowsFrom-append, rooms_of-append}
-use Rattle.wal_page.proofs.OwnerLaws.{end_position-whole, owner_at-none_before}
-use Rattle.wal_page.proofs.PlaceLaws.{new_place-stands, word_from-all}
+use Rattle.wal_page.proofs.PlaceLaws.{word_from-all}
 use Rattle.wal_page.proofs.WordPositions.{end_address_of-first_position}
 use Rattle.flush_core.specs.Lawful.{IsLawful}
 use Rattle.flush_core.proofs.LawfulLaws.{no_owner_before}
 use Rattle.wal_core.specs.Words.{GoesOnAtPlace, Opening}
-use Rattle.wal_core.specs.Behind.{place_of_found, words_of}
 use Rattle.wal_core.specs.Ringed.{log_bytes_of}
 use Rattle.machine_laws.specs.Crashes.{IsLawfulBehind}
 use Rattle.machine_laws.specs.WholeOrders.{IsWholeOrder, LiesBehind}
@@ -96,56 +91,3 @@ LiesBehind-new opening valid fresh =
           ∙ sym (log_word-unowned size sysid valid [] tt address whole refl);
       nobodys = All-nil _;
     }
-
--- behind entries that were found, each known, just these lie below
-module _ (opening : Opening) (sized : IsSegmentSize opening.setup.segment_size) where
-  abbrev segment : ℕ
-  segment = opening.setup.segment_size
-
-  abbrev id : ℕ
-  id = opening.setup.sysid
-
-  words_of-reads : (es : List Entry) → IsChained segment es → (address : ℕ) → address % 8 ≡ 0
-      → address < end_address_of segment (end_position segment es)
-      → (place : LogPlace) → place.below ≡ words_of segment id es
-      → word_below segment place address ≡ log_word segment id es address
-  words_of-reads es chain address whole below place is =
-      let bounds = segment_size_in_pages segment sized in
-      let many = (end_address_of segment (end_position segment es) - segment) / 8 in
-      let k = (address - segment) / 8 in
-      let end_whole = end_address_of-mod_word segment sized (end_position segment es)
-      (end_position-whole segment sized es chain) in
-      elim (cases_lt address segment) [
-        | inl before ↦ cond-true (ltb address segment) 0 (get_or place.below k 0)
-            (lt-ltb address segment before)
-            ∙ sym (log_word-unowned segment id sized es chain address whole
-            (owner_at-none_before segment sized es chain address before))
-        | inr from ↦ cond-false (ltb address segment) 0 (get_or place.below k 0)
-            (le-ltb address segment from)
-            ∙ ap (λ (l : List ℕ). get_or l k 0) is
-            ∙ get_or-map-range_with_len (λ n. log_word segment id es (segment + 8 * n)) 0 many k k 0
-            (omega (arith, whole, below, from, end_whole, bounds.0)) (omega arith)
-            ∙ ap (log_word segment id es) (omega (arith, whole, from, bounds.0))
-      ]
-
-  pub LiesBehind-found : (es : List Entry) → opening.place ≡ place_of_found segment id es
-      → IsChained segment es → All (λ (e : Entry). e.pass ≡ None) es → LiesBehind opening es
-  LiesBehind-found [] is chain nobodys = LiesBehind-new opening sized is
-  LiesBehind-found (e ∷ es) is chain nobodys =
-      let position = ap (λ (p : LogPlace). p.position) is in
-      record {
-        chained = chain;
-        position_is = position;
-        prev_is = ap (λ (p : LogPlace). p.prev) is;
-        words_are = λ address whole below. words_of-reads (e ∷ es) chain address whole
-            (subst (λ (n : ℕ). address < end_address_of segment n) position below) opening.place
-            (ap (λ (p : LogPlace). p.below) is);
-        nobodys = nobodys;
-      }
-
--- such a place is one at which a log may go on
-pub place_of_found-stands : (size sysid : ℕ) → IsSegmentSize size → (es : List Entry)
-    → IsChained size es → IsPlace size (place_of_found size sysid es)
-place_of_found-stands size sysid valid [] chain = new_place-stands size sysid valid
-place_of_found-stands size sysid valid (e ∷ es) chain =
-    record { whole = end_position-whole size valid (e ∷ es) chain; from = omega arith }

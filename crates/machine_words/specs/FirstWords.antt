@@ -31,7 +31,8 @@ pub record GoOnBehind (pages moment : ℕ) (end : LogEnd) (page words : List ℕ
   pub ends : (b : ℕ) → b < pages → HoldsPage pages (end.address / 8192)
       (end.address / 8192 + pages) b (end_word words b)
   pub kept : (j : ℕ) → j < words_below end.address
-      → slice_index words (ends_number + pages + (page_place pages end.address + j)) ≡ word_at page j
+      → slice_index words (ends_number + pages + (page_place pages end.address + j))
+      ≡ word_at page j
   pub before : (k : ℕ) → k < page_place pages end.address
       → slice_index words (ends_number + pages + k) ≡ 0
   pub behind : (k : ℕ) → page_place pages end.address + words_below end.address ≤ k

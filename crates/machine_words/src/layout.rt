@@ -1,9 +1,9 @@
 //! Where the words that all backends share stand: their numbers, in a machine's list as in the
 //! table of the log that threads share. Behind the buffers' ends stand the words of the ring, 1,024
 //! for each buffer, and behind these the last word. Before them each word that backends store into
-//! on their own begins a pair of lines of memory, sixteen words: a processor that stores into a line
-//! takes it from all others, and may fetch the line beside it too. The words between are 0, and
-//! nobody touches them.
+//! on their own begins a pair of lines of memory, sixteen words: a processor that stores into a
+//! line takes it from all others, and may fetch the line beside it too. The words between are 0,
+//! and nobody touches them.
 
 ghost use Rattle.std.specs.Prelude.{◌≡◌, ◌+◌, ◌*◌, ◌≤◌};
 ghost use Rattle.wal_core.specs.Words.{ends_number, lock_number};

@@ -52,8 +52,8 @@ impl<'a> KeptBody<'a> {
         }
     }
 
-    /// `Body::assemble`, with the body and its bytes in an arena. They are spelled in the room, which
-    /// holds none that matter, and is there for the next record.
+    /// `Body::assemble`, with the body and its bytes in an arena. They are spelled in the room,
+    /// which holds none that matter, and is there for the next record.
     pub fn assemble_in(
         bump: &'a Bump,
         room: &mut Vec<u8>,

@@ -16,8 +16,8 @@ use std::marker::Model;
 use wal_crc32c::Crc;
 use wal_types::{Record, Xid};
 
-// A third less than a `Body`, which may have bytes of its own. This owns nothing, so nothing is lost
-// where an arena drops nothing.
+// A third less than a `Body`, which may have bytes of its own. This owns nothing, so nothing is
+// lost where an arena drops nothing.
 #[derive(Debug, Drop)]
 pub(crate) struct LentBody<'a> {
     xid: Xid,

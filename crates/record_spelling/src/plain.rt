@@ -35,7 +35,8 @@ impl<'a> Body<'a> {
         ensures ok { IfOk result (λ body. (body ≡ assembled (plain_record xid rmid info main.now))
             × IsWritable (plain_record xid rmid info main.now)) }
         ensures inserted { IfOk result (λ body. is_assembled_switch body ≡ false) }
-        ensures not_refused { OnOk result (refusal_of (plain_record xid rmid info main.now) ≡ None) }
+        ensures not_refused { OnOk result
+            (refusal_of (plain_record xid rmid info main.now) ≡ None) }
         ensures which { IfErr result (λ e.
             RefusesToAssemble e (plain_record xid rmid info main.now)) }
     {

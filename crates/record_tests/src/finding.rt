@@ -1,6 +1,6 @@
 //! Logs that are found and judged, and settled.
 use crate::pages::FIRST_HEADER;
-use crate::placing::{SYSTEM_ID, smallest};
+use crate::placing::smallest;
 use crate::reading::{Scene, TORN, TWO_COMMITS, disk_of};
 use byte_position::Geometry;
 use found_log::{FindFault, FoundLog, find, find_and_settle};
@@ -12,15 +12,13 @@ use wal_page::PageErr;
 use wal_reader::{DamageKind, Stopped};
 use wal_types::Lsn;
 
-/// A log, whether it is read as one of segments of 2 MiB, of which system, and how many segments it
-/// may have; what is found:
-/// how many records, where the last one ends and starts, and the last segment; and the disk's
-/// moment behind the settling, three calls after those that made it.
+/// A log, whether it is read as one of segments of 2 MiB, and how many segments it may have; what
+/// is found: how many records, where the last one ends and starts, and the last segment; and the
+/// disk's moment behind the settling, three calls after those that made it.
 #[derive(Drop)]
 struct Finding {
     scene: Scene,
     wide: bool,
-    sysid: u64,
     cap: u32,
     found: Result<[u64; 4], FindFault>,
     moment: u64,
@@ -29,7 +27,6 @@ struct Finding {
 const COMMITS: Finding = Finding {
     scene: TWO_COMMITS,
     wide: false,
-    sysid: SYSTEM_ID,
     cap: 1,
     found: Ok([2, 0x10_0078, 0x10_0050, 1]),
     moment: 4,
@@ -68,16 +65,6 @@ static FINDINGS: &[Finding] = &[
         moment: 3,
         ..COMMITS
     },
-    // It is another system's.
-    Finding {
-        sysid: SYSTEM_ID + 1,
-        found: Err(FindFault::Foreign(Stopped::Damaged {
-            at: Lsn(0x10_0000),
-            kind: DamageKind::Page(PageErr::SysId),
-        })),
-        moment: 3,
-        ..COMMITS
-    },
     // There is no log.
     Finding {
         scene: Scene {
@@ -100,37 +87,26 @@ static FINDINGS: &[Finding] = &[
     },
 ];
 
-// The first words of the page in which a log ends, as they are spelled and as they lie on the disk.
-fn words_of(log: &FoundLog, page: &[u8; 8192], place: usize) -> Option<(u64, u64)> {
-    let word = log.spelled.words.get(place)?;
-    let bytes = page.get(8 * (place % 1024)..)?.first_chunk()?;
-    Some((*word, u64::from_le_bytes(*bytes)))
-}
-
-// A log's end is spelled as its page lies on the disk.
+// The page that holds a log's end is handed on as it was read, with what lies behind the end.
 #[test]
-fn a_logs_end_is_spelled_again(rt: HostRuntime) -> Result<(), Fail> {
+fn a_logs_end_is_handed_on_as_it_was_read(rt: HostRuntime) -> Result<(), Fail> {
     let alloc = rt.alloc();
     let mut disk = disk_of(alloc, &TWO_COMMITS)?;
-    let Ok(log) = find(alloc, &mut disk, smallest(), SYSTEM_ID, 1) else {
+    let Ok(log) = find(alloc, &mut disk, smallest(), 1) else {
         return Err(Fail::from("no log was found"));
     };
     let mut page = [0; 8192];
     let Ok(true) = disk.read_page(smallest(), 1, 0, &mut page) else {
         return Err(Fail::from("no page was read"));
     };
-    for place in 0..15 {
-        if let Some((word, read)) = words_of(&log, &page, place) {
-            assert_eq!(rt; word, read, "{place}");
-        }
-    }
+    assert!(rt; *log.page == page);
+    assert_eq!(rt; log.position, smallest().position_of(Lsn(0x10_0078)));
     Ok(())
 }
 
 fn numbers_of(found: Result<FoundLog, FindFault>) -> Result<[u64; 4], FindFault> {
     let log = found?;
-    let end = &log.spelled;
-    Ok([end.count, end.end.0, end.last_start.0, log.made])
+    Ok([log.count, log.end.0, log.last_start.0, log.made])
 }
 
 #[test]
@@ -144,10 +120,10 @@ fn logs_are_found_and_settled(rt: HostRuntime) -> Result<(), Fail> {
             return Err(Fail::from("at most 4,096 segments"));
         }
         let mut disk = disk_of(alloc, &row.scene)?;
-        let settled = numbers_of(find_and_settle(alloc, &mut disk, geometry, row.sysid, cap));
+        let settled = numbers_of(find_and_settle(alloc, &mut disk, geometry, cap));
         assert_eq!(rt; (settled, disk.moment()), (row.found, row.moment));
         if settled.is_ok() {
-            let again = numbers_of(find(alloc, &mut disk, geometry, row.sysid, cap));
+            let again = numbers_of(find(alloc, &mut disk, geometry, cap));
             assert_eq!(rt; again, row.found);
         }
     }
@@ -155,7 +131,7 @@ fn logs_are_found_and_settled(rt: HostRuntime) -> Result<(), Fail> {
 }
 
 // With so much main data a record is one byte longer than those that this program writes.
-const TOO_LONG: usize = 1_048_577 - 29;
+const LONGEST: usize = 1_048_577 - 29;
 
 // Puts a page with the front of what is left of a log's only record, and answers what is left then.
 fn put_page<'a>(disk: &mut MemDisk, number: u8, rest: &'a [u8]) -> Result<&'a [u8], Fail> {
@@ -212,18 +188,14 @@ fn log_of(alloc: Global, record: &[u8]) -> Result<MemDisk, Fail> {
     Ok(disk)
 }
 
+// It has 1,045,488 bytes in segment 1, and 3,089 in the first page of segment 2, behind 40 of its
+// header.
 #[test]
-fn a_record_that_is_too_long_is_not_ours(rt: HostRuntime) -> Result<(), Fail> {
+fn a_record_longer_than_ours_is_found(rt: HostRuntime) -> Result<(), Fail> {
     let alloc = rt.alloc();
-    let main = vec![in alloc; 0; TOO_LONG]?;
+    let main = vec![in alloc; 0; LONGEST]?;
     let mut disk = log_of(alloc, &record_of_main(alloc, &main)?)?;
-    let found = numbers_of(find(alloc, &mut disk, smallest(), 1, 2));
-    assert_eq!(rt;
-        found,
-        Err(FindFault::Foreign(Stopped::Damaged {
-            at: Lsn(0x10_0028),
-            kind: DamageKind::Malformed,
-        }))
-    );
+    let found = numbers_of(find(alloc, &mut disk, smallest(), 2));
+    assert_eq!(rt; found, Ok([1, 0x20_0c40, 0x10_0028, 2]));
     Ok(())
 }

@@ -53,20 +53,20 @@ module _ (size sysid : ℕ) (t : Tape) (found : List FoundRecord) (left : WasLef
   -- what settling keeps of these segments up to where the log was found to end, it keeps of those
   -- that are there up to the end of these records
   pub settling_keeps : (Keeps : (count end : ℕ) → Type 0) (cap count : ℕ) (log : FoundLog)
-      → FindsLog size sysid cap (Some t) log → AreAllThere size (state_now t) count
-      → Keeps count log.spelled.end.0 → Keeps left.count (end_behind size found)
+      → FindsLog size cap (Some t) log → AreAllThere size (state_now t) count
+      → Keeps count log.end.0 → Keeps left.count (end_behind size found)
   settling_keeps Keeps cap count log finds counts keeps =
       subst (λ (n : ℕ). Keeps n (end_behind size found)) (sym (same_segments count counts))
       (subst (Keeps count) (end_of_log size sysid t found left cap log finds) keeps)
 
   -- the calls of a settling were, or some of them
   settling_stays : (cap handed count : ℕ) (log : FoundLog) (now : Tape)
-      → FindsLog size sysid cap (Some t) log → AreAllThere size (state_now t) count
-      → KeepsOld size (state_now t) count log.spelled.end.0 handed now → StaysOld handed now
+      → FindsLog size cap (Some t) log → AreAllThere size (state_now t) count
+      → KeepsOld size (state_now t) count log.end.0 handed now → StaysOld handed now
   settling_stays cap handed count log now =
       settling_keeps (λ n end. KeepsOld size (state_now t) n end handed now) cap count log
 
-  pub stopped_stays : (cap handed last : ℕ) (now : Tape) → handed ≡ length t.calls → HasBegunToSettle size sysid cap (Some t) (Some now) handed last → StaysOld handed now
+  pub stopped_stays : (cap handed last : ℕ) (now : Tape) → handed ≡ length t.calls → HasBegunToSettle size cap (Some t) (Some now) handed last → StaysOld handed now
   stopped_stays cap handed last now counted begun =
       let stops = begun.stopped in
       elim stops.there [

@@ -10,7 +10,7 @@ use Rattle.wal_reader.specs.declared.found.FoundRecord.{FoundRecord}
 use Rattle.wal_reader.proofs.SettledLaws.{decoding_is_settled}
 use Rattle.segment_disk.specs.DiskImage.{image_as_read}
 use Rattle.segment_disk.specs.Tape.{DiskState, state_now}
-use Rattle.written_log.specs.FoundLog.{HasFound, ReadsAsFound}
+use Rattle.written_log.specs.FoundLog.{ReadsUntorn, ReadsFirstEntries}
 use Rattle.written_log.specs.Written.{found_entry, found_from, found_of}
 use Rattle.written_log.proofs.FoundImages.{chained_front}
 use Rattle.written_log.proofs.FoundLogs.{found_logs_read_as_log}
@@ -63,7 +63,7 @@ word-as_found size sysid a es =
 -- ---- what was found
 
 -- read so far, as that many of the order's entries
-pub same_as_read : (size sysid count : ℕ) (order es : List Entry) (state : DiskState) (found : List FoundRecord) → HasFound size sysid count order state found → (read : ReadsAsFound size sysid count order state found) → IsChained size es → All (λ (e : Entry). e.pass ≡ None) es → found_of size es ≡ found → es ≡ map as_found (take read.among order)
+pub same_as_read : (size sysid count : ℕ) (order es : List Entry) (state : DiskState) (found : List FoundRecord) → ReadsUntorn size sysid count order state found → (read : ReadsFirstEntries size sysid count order state found) → IsChained size es → All (λ (e : Entry). e.pass ≡ None) es → found_of size es ≡ found → es ≡ map as_found (take read.among order)
 same_as_read size sysid count order es state found has read chained nobodys is =
     let front = chained_front size sysid order has.may.valid has.may.known has.may.narrow has.may.chained has.may.bounded read.among in
     same_entries size (first_position size) 0 0 es (take read.among order) chained front nobodys (is ∙ read.found_is)

@@ -87,7 +87,7 @@ module _ (size sysid : ℕ) (t next : Tape) (found : List FoundRecord)
 
   -- the disk failed while its log was settled
   module _ (cap handed last moment : ℕ) (now : Tape) (counted : handed ≡ length t.calls)
-      (begun : HasBegunToSettle size sysid cap (Some t) (Some now) handed last)
+      (begun : HasBegunToSettle size cap (Some t) (Some now) handed last)
       (since : handed ≤ moment) where
     failed_again : IsLeftAt now moment next → NoneTorn size left.order next
         → (records : List FoundRecord) × WasLeftOf size sysid left.order next records

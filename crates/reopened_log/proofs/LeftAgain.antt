@@ -14,7 +14,7 @@ use Rattle.flush_core.specs.SettledLog.{AreOnly, IsZeroOrLogWord}
 use Rattle.flush_core.proofs.SettledLeft.{at_number}
 use Rattle.wal_reader.specs.declared.found.FoundRecord.{FoundRecord}
 use Rattle.wal_reader.proofs.SettledLaws.{decoding_is_settled}
-use Rattle.written_log.specs.FoundLog.{HasFound}
+use Rattle.written_log.specs.FoundLog.{ReadsUntorn}
 use Rattle.written_log.specs.SettledFound.{IsReadOrLost, MayOnlyLose, NothingWaits}
 use Rattle.written_log.proofs.NeverWhole.{losses_never_make_next_whole}
 use Rattle.written_log.proofs.SettledFound.{crashed_disks_may_hold_log}
@@ -67,7 +67,7 @@ module _ (size count : ℕ) (Fits : ℕ → ℕ → List ℕ → Type 0) (state 
 
 -- ---- a disk on which a log is found that a crash left
 
-pub was_left : (size sysid count : ℕ) (order : List Entry) (t crashed : Tape) (moment : ℕ) (found : List FoundRecord) → HasFound size sysid count order (state_now crashed) found → AreOnly count (state_now crashed) → count < 2 ^ 60 / size → IsLeftByCrash t moment crashed → WasLeftOf size sysid order crashed found
+pub was_left : (size sysid count : ℕ) (order : List Entry) (t crashed : Tape) (moment : ℕ) (found : List FoundRecord) → ReadsUntorn size sysid count order (state_now crashed) found → AreOnly count (state_now crashed) → count < 2 ^ 60 / size → IsLeftByCrash t moment crashed → WasLeftOf size sysid order crashed found
 was_left size sysid count order t crashed moment found has only low crash = (
   record {
     order = order;
@@ -90,7 +90,7 @@ crashed_logs_were_left size sysid since moment order t crashed valid known narro
     let there = are_there size IsNowhere (IsZeroOrLogWord size sysid order) some segments.0 state segments.2 (assures.left moment later (image_as_read state) crash.leaves) in
     let only = are_only size IsNowhere (IsZeroOrLogWord size sysid order) some segments.0 state segments.2 in
     let lawful = crashed_disks_may_hold_log size sysid segments.0 since moment order state t assures later crash.quiet crash.leaves there in
-    let has : HasFound size sysid segments.0 order state settled.0 = record {
+    let has : ReadsUntorn size sysid segments.0 order state settled.0 = record {
       may = record { valid = valid; known = known; narrow = narrow; chained = chained; bounded = bounded; lawful = lawful };
       none_torn = none_torn;
       answer = settled.1;

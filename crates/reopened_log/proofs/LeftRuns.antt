@@ -11,6 +11,7 @@ use Rattle.flush_core.specs.Settled.{HaveWholePages}
 use Rattle.flush_core.specs.SettledLog.{AreOnly}
 use Rattle.wal_core.specs.Suited.{BeganSuited, IsSuited}
 use Rattle.wal_core.specs.Words.{Opening}
+use Rattle.machine_laws.specs.WholeOrders.{LiesBehind}
 use Rattle.wal_script.specs.Asked.{AskedLine}
 use Rattle.told_lines.specs.declared.told.Told.{Told}
 use Rattle.told_lines.specs.Told.{order_from}
@@ -43,7 +44,7 @@ module _ (opening : Opening) (began now : Tape) (goes_on : TapeGoesOn (Some bega
 
 -- ---- a run
 
-module _ (opening : Opening) (front : List Entry) (last : ℕ) (began now : Tape) (script : List (List AskedLine)) (lists : List (List Told)) (run : IsRunOn opening front (Some began) (Some now) last script lists)
+module _ (opening : Opening) (front : List Entry) (last : ℕ) (began now : Tape) (script : List (List AskedLine)) (lists : List (List Told)) (lies : LiesBehind opening front) (run : IsRunOn opening (Some began) (Some now) last script lists)
     (suited : IsSuited opening (state_now began)) (counted : opening.moment ≡ length began.calls) where
   pub run_written : IsWrittenLog opening front (order_from (opening.setup).segment_size 1 script lists) now
   run_written = record {
@@ -53,15 +54,15 @@ module _ (opening : Opening) (front : List Entry) (last : ℕ) (began now : Tape
     views = run.machine.views;
     sound = run.machine.sound;
     order_is = run.machine.order_is;
-    tape_is = writer_tape opening front now last script lists run.machine;
+    tape_is = writer_tape opening now last script lists run.machine;
     suited = began_suited opening began now run.goes_on counted suited;
-    lies = run.machine.lies;
+    lies = lies;
   }
 
 pub crashed_runs_were_left : CrashedRunsWereLeft
-crashed_runs_were_left opening front moment last began now crashed script lists run suited only few counted narrow since crash none_torn =
+crashed_runs_were_left opening front moment last began now crashed script lists lies run suited only few counted narrow since crash none_torn =
     crashed_written opening front (order_from (opening.setup).segment_size 1 script lists) now
-    (run_written opening front last began now script lists run suited counted)
+    (run_written opening front last began now script lists lies run suited counted)
     (only_then opening began now run.goes_on counted only) few narrow moment since crashed crash none_torn
 
 -- ---- of which order
@@ -96,7 +97,7 @@ crashed_reopened_runs_were_left opening front handed moment last t began now cra
           ))
       | inr later ↦
           (let was = crashed_runs_were_left opening front moment last began now crashed script
-          lists run (reopened_logs_are_suited opening front handed t began found r)
+          lists r.lies run (reopened_logs_are_suited opening front handed t began found r)
           (only_began opening front handed t began found r) r.openable.made_within
           (calls_counted opening front handed t began found r) r.left.has_found.may.narrow later crash
           none_torn in (

@@ -1,4 +1,5 @@
 pub mod FirstEntries
+pub mod FoundPlaces
 pub mod WholeWords
 pub mod SuitedDisks
 pub mod EarlyMoments
@@ -25,4 +26,4 @@ pub mod OwnPages
 pub mod OwnHeadersRead
 pub mod OwnRecords
 pub mod OwnAnswers
-pub mod OwnSystem
+pub mod AnyLogs

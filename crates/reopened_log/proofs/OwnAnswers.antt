@@ -1,7 +1,7 @@
 -- What stands behind the records of a disk that this program left it may have left.
 use Rattle.std.proofs.Common.{◌≡◌, ◌⊎◌, ℕ, ◌+◌, ◌-◌, ◌*◌, ◌^◌, ◌<◌, ◌≤◌, false, ltb, List, [], ◌∷◌, ◌++◌, length, take, Option, Some, None, Result, Ok, Err, inl, inr, refl, sym, ap, subst, ◌∙◌, add-zero, append-nil, append_assoc, arith}
 use Rattle.std.specs.Prelude.{slice_get}
-use Rattle.std.proofs.lemmas.Bool.{cases_Bool, cases_lt, cond-false, le-ltb}
+use Rattle.std.proofs.lemmas.Bool.{cases_Bool, cases_lt, cond-false, le-ltb, true≢false}
 use Rattle.std.proofs.lemmas.List.{length-append}
 use Rattle.std.proofs.lemmas.Option.{slice_get-get_or}
 use Rattle.std.proofs.Math.Seq.{get_or-append_seam, take-append_seam}
@@ -16,6 +16,7 @@ use Rattle.wal_page.specs.Log.{owner_of}
 use Rattle.wal_page.proofs.OwnerLaws.{owner_of-entry}
 use Rattle.wal_page.proofs.OrderLaws.{prev_of_push, room_at-pos, rooms_of-append, rooms_of_cons, rooms_of_push}
 use Rattle.wal_reader.specs.declared.found.Answer.{Answer}
+use Rattle.wal_reader.specs.declared.found.Answer.TheVariants as answers
 use Rattle.wal_reader.specs.declared.found.FoundRecord.{FoundRecord}
 use Rattle.wal_reader.specs.declared.record_place.RecordPlace.{RecordPlace}
 use Rattle.wal_reader.specs.Pages.{Pages, pages_in}
@@ -33,7 +34,7 @@ use Rattle.written_log.proofs.LawfulRecords.{entry_or_nothing, entry_start, entr
 use Rattle.written_log.proofs.LogPositions.{address_of-below_end}
 use Rattle.written_log.proofs.NextEntries.{next_of_entry}
 use Rattle.written_log.proofs.WrittenLogLaws.{first_page_position}
-use Rattle.reopened_log.specs.Own.{LeftLogsAreOwn}
+use Rattle.reopened_log.specs.Own.{LeftLogsAreNotForeign, LeftLogsAreOwn}
 use Rattle.reopened_log.proofs.OwnHeadersRead.{AreLow, HasHeader, has_header, page_timeline, still_owed, timeline_at, wide}
 use Rattle.reopened_log.proofs.OwnPages.{IsOwnAnswer, answers_own, answers_tell, continued_is}
 use Rattle.reopened_log.proofs.OwnRecords.{end_stops, entry_stops}
@@ -152,3 +153,8 @@ left_logs_are_own size sysid t found others answer left decodes =
     let lawful = read_lawful size sysid left.count left.order state found left.has_found in
     let are = image_has_pages size image may.valid sysid left.order 0 may.chained may.bounded lawful in
     reads_stop size sysid (pages_in size image) left.order 0 may.valid may.known may.narrow may.chained may.bounded are (image_is_low size image may.valid) left.has_found.none_torn (beginning size (pages_in size image) size) refl decodes.read answer decodes.reads
+
+pub left_logs_are_not_foreign : LeftLogsAreNotForeign
+left_logs_are_not_foreign size sysid cap t found stop left refused =
+    let log = refused.1 in
+    true≢false (sym log.foreign ∙ left_logs_are_own size sysid t found log.records (answers.Stopped stop) left log.decodes)

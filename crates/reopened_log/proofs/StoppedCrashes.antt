@@ -21,8 +21,8 @@ none_made size end handed last t now stops none =
     subst (λ (n : ℕ). stops.calls.front ++ stops.calls.others ≡ settle_calls size end n (state_now t)) none stops.calls.are in
     omega (arith, length-append stops.calls.front stops.calls.others, ap length are)
 
-module _ (size sysid cap handed last : ℕ) (t now : Tape) (found : List FoundRecord) (left : WasLeft size sysid t found) (begun : HasBegunToSettle size sysid cap (Some t) (Some now) handed last) where
-  abbrev stops : HasNotSettled size begun.log.spelled.end.0 (Some t) (Some now) handed last
+module _ (size sysid cap handed last : ℕ) (t now : Tape) (found : List FoundRecord) (left : WasLeft size sysid t found) (begun : HasBegunToSettle size cap (Some t) (Some now) handed last) where
+  abbrev stops : HasNotSettled size begun.log.end.0 (Some t) (Some now) handed last
   stops = begun.stopped
 
   -- the segments that were there were counted, if as many calls were made
@@ -30,14 +30,14 @@ module _ (size sysid cap handed last : ℕ) (t now : Tape) (found : List FoundRe
   counted_all segments counts made =
       elim stops.there [
         | inl all ↦ omega (arith, same_segments size sysid t found left segments counts, same_segments size sysid t found left stops.count all)
-        | inr none ↦ omega (arith, none.0, made, none_made size begun.log.spelled.end.0 handed last t now stops none.0)
+        | inr none ↦ omega (arith, none.0, made, none_made size begun.log.end.0 handed last t now stops none.0)
       ]
 
   reads : (segments : ℕ) → AreAllThere size (state_now t) segments → segments ≤ length stops.calls.front → KeepsRead size (state_now t) left.count (end_behind size found) (handed + segments) now
   reads segments counts made =
       let is = counted_all segments counts made in
       settling_keeps size sysid t found left (λ n end. KeepsRead size (state_now t) n end (handed + segments) now) cap segments begun.log begun.found counts
-      (subst (λ (n : ℕ). KeepsRead size (state_now t) n begun.log.spelled.end.0 (handed + n) now) is
+      (subst (λ (n : ℕ). KeepsRead size (state_now t) n begun.log.end.0 (handed + n) now) is
       (stops.keeps_read (omega (arith, is, made)) left.whole))
 
 pub stopped_settlings_survive_crashes : StoppedSettlingsSurviveCrashes

@@ -12,7 +12,7 @@ use Rattle.flush_core.specs.Settled.{AreThere, IsAmong}
 use Rattle.flush_core.specs.SettledLog.{IsZeroOrLogWord}
 use Rattle.flush_core.proofs.SettledLeft.{at_number}
 use Rattle.wal_reader.proofs.SettledLaws.{decoding_is_settled}
-use Rattle.written_log.specs.FoundLog.{HasFound}
+use Rattle.written_log.specs.FoundLog.{ReadsUntorn}
 use Rattle.written_log.specs.SettledFound.{IsReadOrLost, MayOnlyLose}
 use Rattle.written_log.proofs.NeverWhole.{losses_never_make_next_whole}
 use Rattle.wal_core.specs.Growing.{LosesOnly, SegmentLosesOnly}
@@ -63,7 +63,7 @@ stopped_logs_were_left size sysid since moment order t stopped valid known narro
     let some : 0 < pages_of size = omega (arith, (segment_size_in_pages size valid).1) in
     let there = are_there size IsNowhere (IsZeroOrLogWord size sysid order) some count state segments.2 fits in
     let only = are_only size IsNowhere (IsZeroOrLogWord size sysid order) some count state segments.2 in
-    let has : HasFound size sysid count order state settled.0 = record {
+    let has : ReadsUntorn size sysid count order state settled.0 = record {
       may = record { valid = valid; known = known; narrow = narrow; chained = chained; bounded = bounded; lawful = state_lawful size sysid count order state valid there fits loses };
       none_torn = none_torn;
       answer = settled.1;

@@ -16,9 +16,9 @@ use Rattle.reopened_log.proofs.Surviving.{calls_counted, some_tape}
 use Rattle.reopened_log.proofs.WrittenLogs.{stopped_written}
 
 pub stopped_runs_were_left : StoppedRunsWereLeft
-stopped_runs_were_left opening front moment last began now stopped script lists run suited only whole few counted narrow since stops none_torn =
+stopped_runs_were_left opening front moment last began now stopped script lists lies run suited only whole few counted narrow since stops none_torn =
     stopped_written opening front (order_from (opening.setup).segment_size 1 script lists) now
-    (run_written opening front last began now script lists run suited counted)
+    (run_written opening front last began now script lists lies run suited counted)
     (only_then opening began now run.goes_on counted only) few narrow
     (whole_then opening began now run.goes_on counted whole) moment since stopped stops none_torn
 
@@ -64,6 +64,6 @@ stopped_reopened_runs_were_left opening front handed moment last t began now sto
           (let was = reopened_settlings_were_left opening front handed moment t began stopped found r since (stops_before opening began now run.goes_on counted moment early stopped stops) old_torn in
           (found, was.0, order_before opening moment r.left.order es was.0.order early was.1))
       | inr later ↦
-          (let was = stopped_runs_were_left opening front moment last began now stopped script lists run (reopened_logs_are_suited opening front handed t began found r) (only_began opening front handed t began found r) (began_whole opening front handed t began found r) r.openable.made_within counted r.left.has_found.may.narrow later stops none_torn in
+          (let was = stopped_runs_were_left opening front moment last began now stopped script lists r.lies run (reopened_logs_are_suited opening front handed t began found r) (only_began opening front handed t began found r) (began_whole opening front handed t began found r) r.openable.made_within counted r.left.has_found.may.narrow later stops none_torn in
           (was.0, was.1.0, order_since opening moment r.left.order es was.1.0.order later was.1.1))
     ]

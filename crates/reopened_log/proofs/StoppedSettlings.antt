@@ -5,13 +5,12 @@ use Rattle.std.specs.List.{AllByRecursion}
 use Rattle.std.proofs.lemmas.List.{append_assoc}
 use Rattle.std.proofs.Math.Seq.{take-append-add, take-length}
 use Rattle.byte_position.specs.Geometry.{IsSegmentSize, pages_of}
-use Rattle.byte_position.specs.Position.{end_address_of}
 use Rattle.byte_position.proofs.SegmentSizes.{segment_size_in_pages}
 use Rattle.segment_disk.specs.declared.disk.Call.{Call}
 use Rattle.segment_disk.specs.Assured.{DiskImageFits, SegmentAssures, StateAssures}
 use Rattle.segment_disk.specs.DiskImage.{image_as_read, word_of}
 use Rattle.segment_disk.specs.Tape.{DiskState, Segment, Tape, page_of_segment, state_now}
-use Rattle.wal_page.specs.Order.{Entry, end_position}
+use Rattle.wal_page.specs.Order.{Entry}
 use Rattle.flush_core.specs.Calls.{AreMade, with_calls}
 use Rattle.flush_core.specs.Lawful.{IsLawful}
 use Rattle.flush_core.specs.Settled.{HasSettled, HaveWholePages, AreThere, IsAmong, IsOldOrZero, IsReadOrZero, NextFails, settle_calls}
@@ -23,16 +22,13 @@ use Rattle.wal_reader.specs.declared.found.FoundRecord.{FoundRecord}
 use Rattle.wal_reader.specs.Pages.{pages_in}
 use Rattle.wal_reader.specs.Decodes.{Decodes}
 use Rattle.wal_reader.proofs.SettledLaws.{decoding_is_settled}
-use Rattle.written_log.specs.FoundLog.{HasFound, end_behind}
+use Rattle.written_log.specs.FoundLog.{ReadsUntorn, end_behind}
 use Rattle.written_log.specs.SettledFound.{NextIsNeverWhole}
 use Rattle.written_log.specs.Torn.{NoTornPass}
-use Rattle.written_log.specs.Written.{found_of}
-use Rattle.written_log.proofs.FoundImages.{end_of_front}
 use Rattle.written_log.proofs.ReadImages.{as_read_fits, fits_lawful}
 use Rattle.written_log.proofs.SettledFound.{read_images_decode_to_found}
 use Rattle.found_log.specs.Found.{FindsLog, HasBegunToSettle}
 use Rattle.found_log.specs.declared.finding.FoundLog.{FoundLog}
-use Rattle.found_log.specs.Spelled.{spelled_entries}
 use Rattle.wal_core.specs.Words.{Opening}
 use Rattle.reopened_log.specs.Reopened.{IsReopenedOn}
 use Rattle.reopened_log.specs.Stopped.{ReopenedSettlingsWereLeft, StoppedSettlingsWereLeft, CompletedSettlingsWereLeft}
@@ -90,7 +86,7 @@ module _ (size sysid : ℕ) (t : Tape) (found : List FoundRecord) (left : WasLef
       there = λ k low. absurd (omega (arith, low));
     }
 
-    found_again : NoTornPass size (pages_in size (image_as_read state)) left.order → HasFound size sysid left.count left.order state found
+    found_again : NoTornPass size (pages_in size (image_as_read state)) left.order → ReadsUntorn size sysid left.count left.order state found
     found_again none_torn =
         let settled = decoding_is_settled size (image_as_read state) size None valid in
         let same = read_images_decode_to_found size sysid left.count left.order before found left.has_found left.only (image_as_read state) (as_read_fits size (IsAmong left.count) (IsOldOrZero size before end) state old) reads image_lawful none_torn settled.0 settled.1 settled.2 in
@@ -231,15 +227,11 @@ module _ (size sysid : ℕ) (t : Tape) (found : List FoundRecord) (left : WasLef
       stops_behind now [] (same ∙ ap (λ (l : List Call). record t { calls = l }) (sym (append-nil t.calls))) tt moment since ended stops
 
   -- the end is that of what was found
-  pub end_of_log : (cap : ℕ) (log : FoundLog) → FindsLog size sysid cap (Some t) log → log.spelled.end.0 ≡ end_behind size found
+  pub end_of_log : (cap : ℕ) (log : FoundLog) → FindsLog size cap (Some t) log → log.end.0 ≡ end_behind size found
   end_of_log cap log finds =
-      let es = spelled_entries log.spelled in
-      let same = left_logs_are_read size sysid t found (found_of size es) finds.tells.own.answer left finds.tells.own.decodes in
-      let all : es ≡ take (length es) es = sym (take-length es) in
-      finds.ends.end_is ∙ ap (λ (l : List Entry). end_address_of size (end_position size l)) all
-      ∙ sym (end_of_front size es (length es) found valid finds.ends.chained (sym same ∙ ap (found_of size) all))
+      finds.end_is ∙ ap (end_behind size) (left_logs_are_read size sysid t found finds.records finds.tells.ends.answer left finds.tells.ends.decodes)
 
-  pub stopped : (cap handed last moment : ℕ) (now : Tape) → handed ≡ length t.calls → HasBegunToSettle size sysid cap (Some t) (Some now) handed last → handed ≤ moment
+  pub stopped : (cap handed last moment : ℕ) (now : Tape) → handed ≡ length t.calls → HasBegunToSettle size cap (Some t) (Some now) handed last → handed ≤ moment
       → (ended : Tape) → StopsAt now moment ended → StopsSettling ended
   stopped cap handed last moment now counted begun since ended stops =
       let settling = begun.stopped in
@@ -248,17 +240,17 @@ module _ (size sysid : ℕ) (t : Tape) (found : List FoundRecord) (left : WasLef
         | inl counts ↦
             (let count = same_count size settling.count left.count (IsZeroOrLogWord size sysid left.order) before (2 ^ 60 / size) some_pages left.has_found.may.lawful left.only left.low counts.there counts.others in
             let calls = subst (λ (n : ℕ). settling.calls.front ++ settling.calls.others ≡ settle_calls size n left.count before) (end_of_log cap begun.log begun.found)
-            (subst (λ (n : ℕ). settling.calls.front ++ settling.calls.others ≡ settle_calls size begun.log.spelled.end.0 n before) (sym count) settling.calls.are) in
+            (subst (λ (n : ℕ). settling.calls.front ++ settling.calls.others ≡ settle_calls size begun.log.end.0 n before) (sym count) settling.calls.are) in
             stops_meanwhile now handed last moment counted settling.calls.front settling.calls.others calls settling.calls.ends since ended stops)
       ]
 
-  completed : (cap handed last moment : ℕ) (log : FoundLog) (now : Tape) → handed ≡ length t.calls → FindsLog size sysid cap (Some t) log → HasSettled size log.spelled.end.0 log.made (Some t) (Some now) handed last → handed ≤ moment
+  completed : (cap handed last moment : ℕ) (log : FoundLog) (now : Tape) → handed ≡ length t.calls → FindsLog size cap (Some t) log → HasSettled size log.end.0 log.made (Some t) (Some now) handed last → handed ≤ moment
       → (ended : Tape) → StopsAt now moment ended → StopsSettling ended
   completed cap handed last moment log now counted finds settled since ended stops =
       let count = same_count size log.made left.count (IsZeroOrLogWord size sysid left.order) before (2 ^ 60 / size) some_pages left.has_found.may.lawful left.only left.low settled.there.there settled.there.others in
       let calls = settled.calls.calls in
       let are = subst (λ (n : ℕ). calls ≡ settle_calls size n left.count before) (end_of_log cap log finds)
-      (subst (λ (n : ℕ). calls ≡ settle_calls size log.spelled.end.0 n before) (sym count) settled.calls.are) in
+      (subst (λ (n : ℕ). calls ≡ settle_calls size log.end.0 n before) (sym count) settled.calls.are) in
       stops_meanwhile now handed last moment counted calls [] (append-nil calls ∙ are) (inl settled.calls.made) since ended stops
 
 pub stopped_settlings_were_left : StoppedSettlingsWereLeft

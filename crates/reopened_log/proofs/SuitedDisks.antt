@@ -17,7 +17,7 @@ use Rattle.flush_core.specs.SettledLog.{AreOnly, IsLogWord, IsZeroOrLogWord, Rea
 use Rattle.flush_core.proofs.SettledLeft.{from_number}
 use Rattle.flush_core.proofs.SettledLogs.{settled_logs_are_whole}
 use Rattle.wal_reader.specs.declared.found.FoundRecord.{FoundRecord}
-use Rattle.written_log.specs.FoundLog.{ReadsAsFound, end_behind}
+use Rattle.written_log.specs.FoundLog.{ReadsFirstEntries, end_behind}
 use Rattle.written_log.specs.Written.{found_of}
 use Rattle.written_log.proofs.FoundLogs.{found_logs_read_as_log}
 use Rattle.written_log.proofs.FoundImages.{end_of_front}
@@ -69,7 +69,7 @@ module _ (opening : Opening) (front : List Entry) (handed : ℕ) (t began : Tape
   count_is =
       same_count size opening.made r.left.count (IsZeroOrLogWord size sysid r.left.order) before (2 ^ 60 / size) (omega (arith, (segment_size_in_pages size valid).1)) r.left.has_found.may.lawful r.left.only r.left.low r.settled.there.there r.settled.there.others
 
-  reads : ReadsAsFound (opening.setup).segment_size (opening.setup).sysid r.left.count r.left.order (state_now t) found
+  reads : ReadsFirstEntries (opening.setup).segment_size (opening.setup).sysid r.left.count r.left.order (state_now t) found
   reads = found_logs_read_as_log size sysid r.left.count r.left.order before found r.left.has_found
 
   -- what was found stands from the log's start on, and ends where the opening says

@@ -145,10 +145,10 @@ reopened_settlings_stay_sure opening front handed moment t began next found r si
 -- ---- a run
 
 pub runs_make_sure : RunsMakeSure
-runs_make_sure opening front moment last began now next script lists run suited whole counted since is upto asked =
+runs_make_sure opening front moment last began now next script lists lies run suited whole counted since is upto asked =
     let order = order_from (opening.setup).segment_size 1 script lists in
-    let w = run_written opening front last began now script lists run suited counted in
-    let words = keeps_words opening front now last script lists run.machine w.suited in
+    let w = run_written opening front last began now script lists lies run suited counted in
+    let words = keeps_words opening now last script lists run.machine w.suited in
     let there = whole_then opening began now run.goes_on counted whole in
     elim asked [
       | inl low ↦ written_sure opening front order now w there moment since next is upto opening.moment since

@@ -113,9 +113,9 @@ module _ (opening : Opening) (front : List Entry) (handed : ℕ) (t began : Tape
         )
 
 pub reopened_logs_survive_crashes : ReopenedLogsSurviveCrashes
-reopened_logs_survive_crashes opening front handed last faults t began now found script lists reopened run moment image since leaves old_torn none_torn told answer decodes =
+reopened_logs_survive_crashes opening front handed last faults t began now found script lists reopened run behind moment image since leaves old_torn none_torn told answer decodes =
     let suited = reopened_logs_are_suited opening front handed t began found reopened in
     elim (cases_lt moment opening.moment) [
       | inl early ↦ early_front opening front handed t began found reopened now (order_from (opening.setup).segment_size 1 script lists) script lists last run.goes_on run.moments moment image since leaves early old_torn told answer decodes
-      | inr later ↦ (run.crash suited moment image later leaves none_torn told answer decodes, λ _. run.keeps_found suited moment image later leaves none_torn told answer decodes)
+      | inr later ↦ (behind.crash suited moment image later leaves none_torn told answer decodes, λ _. behind.keeps_found suited moment image later leaves none_torn told answer decodes)
     ]

@@ -19,6 +19,7 @@ use Rattle.told_lines.specs.declared.told.Told.{Told}
 use Rattle.wal_core.specs.Made.{MakeInTurn}
 use Rattle.wal_core.specs.Suited.{IsSuited}
 use Rattle.wal_core.specs.Words.{Opening}
+use Rattle.machine_laws.specs.WholeOrders.{LiesBehind}
 use Rattle.run_laws.specs.Assured.{IsRunOn, order_told}
 use Rattle.reopened_log.specs.Reopened.{IsReopenedOn}
 use Rattle.reopened_log.specs.WasLeft.{WasLeft, WasLeftOf}
@@ -69,7 +70,7 @@ abbrev pub CrashedStoppedSettlingsWereLeft : Type 0
 CrashedStoppedSettlingsWereLeft =
     (size sysid cap handed last moment : ℕ) (t now crashed : Tape) (found : List FoundRecord)
     → (left : WasLeft size sysid t found) → handed ≡ length t.calls
-    → HasBegunToSettle size sysid cap (Some t) (Some now) handed last → handed ≤ moment
+    → HasBegunToSettle size cap (Some t) (Some now) handed last → handed ≤ moment
     → IsLeftByCrash now moment crashed
     → NoTornPass size (pages_in size (image_as_read (state_now crashed))) left.order
     → (told : List FoundRecord) × WasLeftOf size sysid left.order crashed told
@@ -79,8 +80,8 @@ abbrev pub CrashedCompletedSettlingsWereLeft : Type 0
 CrashedCompletedSettlingsWereLeft =
     (size sysid cap handed last moment : ℕ) (log : FoundLog) (t now crashed : Tape)
     (found : List FoundRecord) → (left : WasLeft size sysid t found) → handed ≡ length t.calls
-    → FindsLog size sysid cap (Some t) log
-    → HasSettled size log.spelled.end.0 log.made (Some t) (Some now) handed last → handed ≤ moment
+    → FindsLog size cap (Some t) log
+    → HasSettled size log.end.0 log.made (Some t) (Some now) handed last → handed ≤ moment
     → IsLeftByCrash now moment crashed
     → NoTornPass size (pages_in size (image_as_read (state_now crashed))) left.order
     → (told : List FoundRecord) × WasLeftOf size sysid left.order crashed told
@@ -115,7 +116,7 @@ abbrev pub CrashedRunsWereLeft : Type 0
 CrashedRunsWereLeft =
     (opening : Opening) (front : List Entry) (moment last : ℕ) (began now crashed : Tape)
     (script : List (List AskedLine)) (lists : List (List Told))
-    → IsRunOn opening front (Some began) (Some now) last script lists
+    → LiesBehind opening front → IsRunOn opening (Some began) (Some now) last script lists
     → IsSuited opening (state_now began) → AreOnly opening.made (state_now began)
     → opening.made ≤ (opening.setup).cap_segments → opening.moment ≡ length began.calls
     → (opening.setup).sysid < 2 ^ 64 → opening.moment ≤ moment
@@ -135,7 +136,7 @@ CrashedReopenedRunsWereLeft =
     (t began now crashed : Tape) (found : List FoundRecord)
     (script : List (List AskedLine)) (lists : List (List Told))
     → (reopened : IsReopenedOn opening front handed t began found)
-    → IsRunOn opening front (Some began) (Some now) last script lists
+    → IsRunOn opening (Some began) (Some now) last script lists
     → handed ≤ moment → IsLeftByCrash now moment crashed
     → NoTornPass (opening.setup).segment_size
     (pages_in (opening.setup).segment_size (image_as_read (state_now crashed)))

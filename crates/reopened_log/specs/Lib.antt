@@ -9,3 +9,4 @@ pub mod Stopped
 pub mod Own
 pub mod Sure
 pub mod Lives
+pub mod AnyLogs

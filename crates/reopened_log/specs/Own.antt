@@ -22,4 +22,4 @@ LeftLogsAreOwn =
 abbrev pub LeftLogsAreNotForeign : Type 0
 LeftLogsAreNotForeign =
     (size sysid cap : ℕ) (t : Tape) (found : List FoundRecord) (stop : Stopped)
-    → WasLeft size sysid t found → RefusesLog size sysid cap (Foreign stop) t → ⊥
+    → WasLeft size sysid t found → RefusesLog size cap (Foreign stop) t → ⊥

@@ -21,6 +21,7 @@ use Rattle.told_lines.specs.declared.told.Told.{Told}
 use Rattle.wal_core.specs.Growing.{LosesOnly}
 use Rattle.wal_core.specs.Suited.{IsSuited}
 use Rattle.wal_core.specs.Words.{Opening}
+use Rattle.machine_laws.specs.WholeOrders.{LiesBehind}
 use Rattle.run_laws.specs.Assured.{IsRunOn, order_told}
 use Rattle.reopened_log.specs.Again.{HasMadeInTurn, IsOrderAt}
 use Rattle.reopened_log.specs.Reopened.{IsReopenedOn}
@@ -36,7 +37,7 @@ abbrev pub StoppedSettlingsWereLeft : Type 0
 StoppedSettlingsWereLeft =
     (size sysid cap handed last moment : ℕ) (t now stopped : Tape) (found : List FoundRecord)
     → (left : WasLeft size sysid t found) → handed ≡ length t.calls
-    → HasBegunToSettle size sysid cap (Some t) (Some now) handed last → handed ≤ moment
+    → HasBegunToSettle size cap (Some t) (Some now) handed last → handed ≤ moment
     → StopsAt now moment stopped
     → NoTornPass size (pages_in size (image_as_read (state_now stopped))) left.order
     → WasLeftOf size sysid left.order stopped found
@@ -46,8 +47,8 @@ abbrev pub CompletedSettlingsWereLeft : Type 0
 CompletedSettlingsWereLeft =
     (size sysid cap handed last moment : ℕ) (log : FoundLog) (t now stopped : Tape)
     (found : List FoundRecord) → (left : WasLeft size sysid t found) → handed ≡ length t.calls
-    → FindsLog size sysid cap (Some t) log
-    → HasSettled size log.spelled.end.0 log.made (Some t) (Some now) handed last → handed ≤ moment
+    → FindsLog size cap (Some t) log
+    → HasSettled size log.end.0 log.made (Some t) (Some now) handed last → handed ≤ moment
     → StopsAt now moment stopped
     → NoTornPass size (pages_in size (image_as_read (state_now stopped))) left.order
     → WasLeftOf size sysid left.order stopped found
@@ -89,7 +90,7 @@ abbrev pub StoppedRunsWereLeft : Type 0
 StoppedRunsWereLeft =
     (opening : Opening) (front : List Entry) (moment last : ℕ) (began now stopped : Tape)
     (script : List (List AskedLine)) (lists : List (List Told))
-    → IsRunOn opening front (Some began) (Some now) last script lists
+    → LiesBehind opening front → IsRunOn opening (Some began) (Some now) last script lists
     → IsSuited opening (state_now began) → AreOnly opening.made (state_now began)
     → HaveWholePages (opening.setup).segment_size (state_now began)
     → opening.made ≤ (opening.setup).cap_segments → opening.moment ≡ length began.calls
@@ -109,7 +110,7 @@ StoppedReopenedRunsWereLeft =
     (t began now stopped : Tape) (found : List FoundRecord)
     (script : List (List AskedLine)) (lists : List (List Told))
     → (reopened : IsReopenedOn opening front handed t began found)
-    → IsRunOn opening front (Some began) (Some now) last script lists
+    → IsRunOn opening (Some began) (Some now) last script lists
     → handed ≤ moment → StopsAt now moment stopped
     → NoTornPass (opening.setup).segment_size
     (pages_in (opening.setup).segment_size (image_as_read (state_now stopped)))

@@ -22,6 +22,7 @@ use Rattle.told_lines.specs.Crash.{SaysDurable}
 use Rattle.told_lines.specs.Told.{SomeTold}
 use Rattle.wal_core.specs.Suited.{IsSuited}
 use Rattle.wal_core.specs.Words.{Opening, found_end}
+use Rattle.machine_laws.specs.WholeOrders.{LiesBehind}
 use Rattle.run_laws.specs.Assured.{IsRunOn, order_told}
 use Rattle.reopened_log.specs.Again.{IsLeftByCrash}
 use Rattle.reopened_log.specs.Reopened.{IsReopenedOn}
@@ -81,7 +82,7 @@ abbrev pub StoppedSettlingsStaySure : Type 0
 StoppedSettlingsStaySure =
     (size sysid cap handed last moment : ℕ) (t now next : Tape) (found : List FoundRecord)
     → (left : WasLeft size sysid t found) → handed ≡ length t.calls
-    → HasBegunToSettle size sysid cap (Some t) (Some now) handed last → handed ≤ moment
+    → HasBegunToSettle size cap (Some t) (Some now) handed last → handed ≤ moment
     → IsLeftAt now moment next → StaysSure size sysid t found left next
 
 -- and where it was settled and opened
@@ -99,7 +100,7 @@ abbrev pub RunsMakeSure : Type 0
 RunsMakeSure =
     (opening : Opening) (front : List Entry) (moment last : ℕ) (began now next : Tape)
     (script : List (List AskedLine)) (lists : List (List Told))
-    → IsRunOn opening front (Some began) (Some now) last script lists
+    → LiesBehind opening front → IsRunOn opening (Some began) (Some now) last script lists
     → IsSuited opening (state_now began)
     → HaveWholePages (opening.setup).segment_size (state_now began)
     → opening.moment ≡ length began.calls → opening.moment ≤ moment → IsLeftAt now moment next

@@ -15,7 +15,7 @@ use Rattle.wal_script.specs.Asked.{AskedLine}
 use Rattle.told_lines.specs.declared.told.Told.{Told}
 use Rattle.told_lines.specs.Crash.{IsFrontWithTold}
 use Rattle.wal_core.specs.Words.{Opening}
-use Rattle.run_laws.specs.Assured.{RunAssures, order_told}
+use Rattle.run_laws.specs.Assured.{AssuresBehind, RunAssures, order_told}
 use Rattle.reopened_log.specs.Reopened.{IsReopenedOn}
 use Rattle.reopened_log.specs.WasLeft.{WasLeft}
 
@@ -28,7 +28,8 @@ ReopenedLogsSurviveCrashes =
     (opening : Opening) (front : List Entry) (handed last faults : ℕ) (t began now : Tape)
     (found : List FoundRecord) (script : List (List AskedLine)) (lists : List (List Told))
     → (reopened : IsReopenedOn opening front handed t began found)
-    → RunAssures opening front (Some began) (Some now) last faults script lists
+    → RunAssures opening (Some began) (Some now) last faults script lists
+    → AssuresBehind opening front (Some began) (Some now) script lists
     → (moment : ℕ) (image : DiskImage) → handed ≤ moment → LeftAt now moment image
     → NoTornPass (opening.setup).segment_size (pages_in (opening.setup).segment_size image)
     (reopened.left).order
@@ -50,7 +51,7 @@ abbrev pub StoppedSettlingsSurviveCrashes : Type 0
 StoppedSettlingsSurviveCrashes =
     (size sysid cap handed last : ℕ) (t now : Tape) (found : List FoundRecord)
     → (left : WasLeft size sysid t found) → handed ≡ length t.calls
-    → (begun : HasBegunToSettle size sysid cap (Some t) (Some now) handed last)
+    → (begun : HasBegunToSettle size cap (Some t) (Some now) handed last)
     → (moment : ℕ) (image : DiskImage) → handed ≤ moment → LeftAt now moment image
     → NoTornPass size (pages_in size image) left.order
     → (told : List FoundRecord) (answer : Answer)

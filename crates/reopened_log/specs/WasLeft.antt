@@ -6,7 +6,7 @@ use Rattle.wal_page.specs.Order.{Entry}
 use Rattle.flush_core.specs.Settled.{HaveWholePages}
 use Rattle.flush_core.specs.SettledLog.{AreOnly}
 use Rattle.wal_reader.specs.declared.found.FoundRecord.{FoundRecord}
-use Rattle.written_log.specs.FoundLog.{HasFound}
+use Rattle.written_log.specs.FoundLog.{ReadsUntorn}
 use Rattle.written_log.specs.SettledFound.{NextIsNeverWhole}
 
 -- the disk holds what was written of the log of some order, in the segments from 1 to `count` and
@@ -16,7 +16,7 @@ use Rattle.written_log.specs.SettledFound.{NextIsNeverWhole}
 pub record WasLeft (size sysid : ℕ) (t : Tape) (found : List FoundRecord) : Type 0 where
   pub order : List Entry
   pub count : ℕ
-  pub has_found : HasFound size sysid count order (state_now t) found
+  pub has_found : ReadsUntorn size sysid count order (state_now t) found
   pub only : AreOnly count (state_now t)
   pub never_whole : NextIsNeverWhole size sysid order found (state_now t)
   pub whole : HaveWholePages size (state_now t)

@@ -7,8 +7,14 @@ ghost use Rattle.reopened_log.specs.Again.{
   CrashedRunsWereLeft,
   CrashedStoppedSettlingsWereLeft,
 };
+ghost use Rattle.reopened_log.specs.AnyLogs.{FoundLogsAreSuited};
 ghost use Rattle.reopened_log.specs.Empty.{EmptyDisksWereLeft};
-ghost use Rattle.reopened_log.specs.FoundFirst.{FoundEntriesComeFirst, LeftLogsAreRead};
+ghost use Rattle.reopened_log.specs.FoundFirst.{
+  FoundEntriesAreOne,
+  FoundEntriesComeFirst,
+  FoundPlacesLieBehind,
+  LeftLogsAreRead,
+};
 ghost use Rattle.reopened_log.specs.Own.{LeftLogsAreNotForeign, LeftLogsAreOwn};
 ghost use Rattle.reopened_log.specs.Reopened.{ReopenedLogsAreSuited};
 ghost use Rattle.reopened_log.specs.Stopped.{
@@ -35,10 +41,12 @@ ghost use Rattle.reopened_log.specs.Surviving.{
 
 /// A law: nobody's entries whose records were found of a log are the log's first entries but for
 /// their passes, and give it the same words. Of a disk that was left so there is one list of
-/// records that is read.
+/// records that is read, and one of such entries; and the log goes on behind them.
 pub fn found_entries_come_first()
     ensures first { FoundEntriesComeFirst }
     ensures read { LeftLogsAreRead }
+    ensures one { FoundEntriesAreOne }
+    ensures place { FoundPlacesLieBehind }
 {}
 
 /// A law: where a disk that this program left was settled, and its log opened behind what was
@@ -123,4 +131,11 @@ pub fn disks_stay_sure()
 /// A law: a run makes sure all that was found, and all that a line was told to be durable.
 pub fn runs_make_sure()
     ensures { RunsMakeSure }
+{}
+
+/// A law: a log that was found and settled may go on, whoever wrote it, if its disk held pages in
+/// the segments that were counted and no other segment. So each word below its end stays as it was
+/// read, whatever crashes come.
+pub fn found_logs_are_suited()
+    ensures { FoundLogsAreSuited }
 {}

@@ -1,5 +1,5 @@
 -- What a log that was closed tells of its disk, of moments and faults, and of the order's room.
-use Rattle.std.proofs.Common.{◌≡◌, ◌≢◌, ℕ, zero, suc, ◌^◌, ◌<◌, ◌≤◌, All, List, ◌++◌, Some, inl, inr, refl, sym, ◌∙◌, subst, arith}
+use Rattle.std.proofs.Common.{◌≡◌, ◌≢◌, ℕ, zero, suc, ◌^◌, ◌<◌, ◌≤◌, All, List, Some, inl, inr, refl, sym, ◌∙◌, subst, arith}
 use Rattle.std.proofs.lemmas.List.Elements.{All-weaker}
 use mathlib.Core.Option.{Option, none, some, some-injective}
 use Rattle.segment_disk.specs.Cause.{Rose}
@@ -10,14 +10,12 @@ use Rattle.wal_core.specs.Durable.{IsPromised, IsToldRightly}
 use Rattle.wal_core.specs.Suited.{BeganSuited, tape_from}
 use Rattle.wal_core.specs.Views.{FlushPromise, Joined, View, receipts_of}
 use Rattle.wal_core.specs.Words.{Opening, down_word, flushed_word, moment_word}
-use Rattle.closed_log.specs.Closed.{IsClosedOn}
-use Rattle.closed_log.proofs.Closing.{told_from}
-use Rattle.closed_log.proofs.Promises.{told_rightly}
-use Rattle.machine_laws.specs.WholeOrders.{LiesBehind}
+use Rattle.run_laws.specs.Closed.{IsClosedOn}
+use Rattle.run_laws.proofs.Closing.{told_from}
+use Rattle.run_laws.proofs.Promises.{told_rightly}
 use Rattle.run_laws.specs.Ended.{IsClosedLog}
 use Rattle.run_laws.specs.Latest.{NoneIsLater}
 use Rattle.run_laws.specs.Played.{KnowsFault, pass_state_of}
-use Rattle.run_laws.proofs.WholeOrders.{end_whole}
 
 -- a fault that was met is the down value, where that is 0 only without a fault
 rose_by : (begun down faults : ℕ) (fault : Option ℕ) → fault ≡ some faults
@@ -74,14 +72,13 @@ module _ (opening : Opening) (order : List Entry) (v : View)
       down_is_set faults knows (((((c.closed).durable).down).at_home refl).1 up)
 
   -- a log has at most 4,096 segments of at most 2 ^ 30 bytes
-  pub rooms_are_low : (front : List Entry) → LiesBehind opening front
-      → rooms_of (opening.setup).segment_size (front ++ order) ≤ 2 ^ 42
-  rooms_are_low front lies =
+  pub rooms_are_low : rooms_of (opening.setup).segment_size order ≤ 2 ^ 42
+  rooms_are_low =
       let setup_is = (c.sound).setup_is in
       omega (
         arith,
         ((c.closed).accounted).within,
-        end_whole opening front lies order,
+        (((c.sound).reserved).placed).from,
         capacity_of-le (opening.setup).segment_size (opening.setup).cap_segments setup_is.size
             setup_is.cap_high,
       )

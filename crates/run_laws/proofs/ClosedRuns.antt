@@ -9,7 +9,7 @@ use Rattle.segment_disk.specs.Assured.{SegmentAssures}
 use Rattle.segment_disk.specs.Tape.{DiskState, Tape}
 use Rattle.segment_disk.specs.declared.disk.Call.{Call}
 use Rattle.flush_core.specs.Pages.{HoldsNothing}
-use Rattle.wal_page.specs.Order.{Entry, IsChained, end_position, rooms_of}
+use Rattle.wal_page.specs.Order.{Entry, IsChained, rooms_of}
 use Rattle.wal_script.specs.Asked.{AskedLine}
 use Rattle.told_lines.specs.declared.told.Told.{Told}
 use Rattle.told_lines.specs.Told.{IsFullAnswer, IsRefused, SomeTold, TellsAll, order_from}
@@ -17,11 +17,14 @@ use Rattle.told_lines.specs.Crash.{EachIsTimely, KeepsFound, SurvivesCrashes}
 use Rattle.told_lines.specs.Whole.{IsWhole}
 use Rattle.wal_core.specs.Suited.{BeganSuited, IsLogAt, tape_from}
 use Rattle.wal_core.specs.Views.{View}
-use Rattle.wal_core.specs.Words.{Opening, found_position, order_end}
+use Rattle.wal_core.specs.Words.{GoesOnAtPlace, Opening, found_position, order_end}
 use Rattle.wal_core.proofs.Tapes.{at_told, told_as}
-use Rattle.closed_log.specs.Closed.{IsClosedOn}
-use Rattle.closed_log.proofs.FoundKept.{keep}
-use Rattle.closed_log.proofs.Fronts.{no_other_words}
+use Rattle.machine_laws.specs.Crashes.{LeavesLawful}
+use Rattle.machine_laws.specs.WholeOrders.{LiesBehind}
+use Rattle.run_laws.specs.Closed.{IsClosedOn}
+use Rattle.run_laws.proofs.ClosedDisk.{crashes}
+use Rattle.run_laws.proofs.FoundKept.{keep}
+use Rattle.run_laws.proofs.Fronts.{no_other_words}
 use Rattle.wal_rule.specs.Slotted.{GoesOnFrom, first_on, slot_disk, slot_plain}
 use Rattle.wal_rule.specs.declared.writer.LogWriter.{LogWriter}
 use Rattle.wal_rule.proofs.SlotTapes.{tape_on_first}
@@ -29,7 +32,7 @@ use Rattle.wal_rule.proofs.OpeningTold.{found_suited}
 use Rattle.run_laws.specs.Counted.{all_reserved_count}
 use Rattle.run_laws.specs.Ended.{IsClosedLog, logged_at_end}
 use Rattle.run_laws.proofs.Counting.{own_counted}
-use Rattle.run_laws.proofs.WholeOrders.{chained_whole, end_whole}
+use Rattle.run_laws.proofs.WholeOrders.{chained_whole}
 use Rattle.run_laws.proofs.FullScripts.{too_much_asked}
 use Rattle.run_laws.proofs.LastFlush.{left_whole}
 use Rattle.run_laws.proofs.LineFaults.{run_stays_down}
@@ -41,7 +44,7 @@ use Rattle.run_laws.proofs.MachineRuns.{keeps_words}
 use Rattle.run_laws.proofs.RunCrashes.{told_survive, told_timely}
 use Rattle.run_laws.proofs.RunOrder.{told_order, told_rise}
 use Rattle.run_laws.proofs.RunTells.{run_tells}
-use Rattle.run_laws.specs.Assured.{HoldsSuited, IsMachineRun, KeepsToldWords, LeavesLogWords, RunAssures, TapeGoesOn, order_told}
+use Rattle.run_laws.specs.Assured.{AssuresBehind, HoldsSuited, IsMachineRun, KeepsToldWords, LeavesLogWords, RunAssures, TapeGoesOn, order_told}
 use Rattle.run_laws.specs.ClosedRuns.{HasFlushedAll, IsRunClosed}
 use Rattle.run_laws.proofs.ClosedLogs.{closed_on, fault_rose, knows_no_fault, none_is_later, rooms_are_low}
 
@@ -73,9 +76,9 @@ none_unless none never = refl
 none_unless (some faults) never = absurd (never faults refl)
 
 module _ {D : Type 0} (tape : D → Option Tape) (moment faults : D → ℕ) (began : Option Tape)
-    (opening : Opening) (front : List Entry) (v : View) (w : LogWriter D) (position : ℕ)
+    (opening : Opening) (v : View) (w : LogWriter D) (position : ℕ)
     (script : List (List AskedLine)) (lists : List (List Told))
-    (r : IsRunClosed tape moment faults began opening front v w position script lists) where
+    (r : IsRunClosed tape moment faults began opening v w position script lists) where
   abbrev size : ℕ
   size = (opening.setup).segment_size
 
@@ -102,17 +105,8 @@ module _ {D : Type 0} (tape : D → Option Tape) (moment faults : D → ℕ) (be
   order_is : ((r.closes).sound).order ≡ order_from (opening.setup).segment_size 1 script lists
   order_is = sym (told_order opening order last_view closed script lists r.taken)
 
-  abbrev whole : List Entry
-  whole = front ++ order
-
-  whole_is : front ++ ((r.closes).sound).order
-      ≡ order_told front (opening.setup).segment_size script lists
-  whole_is = ap (λ (es : List Entry). front ++ es) order_is
-
-  tells : TellsAll (logged_at_end opening front (front ++ order) (faults (slot_disk w))) 1 script
-      lists
-  tells = run_tells opening order last_view closed front r.lies script lists r.taken
-      (faults (slot_disk w))
+  tells : TellsAll (logged_at_end opening order (faults (slot_disk w))) 1 script lists
+  tells = run_tells opening order last_view closed script lists r.taken (faults (slot_disk w))
       (λ count is. let counted = ((r.closes).of_log).down count is in omega (arith, counted))
 
   -- ---- on a disk that held what the log may go on on
@@ -130,31 +124,19 @@ module _ {D : Type 0} (tape : D → Option Tape) (moment faults : D → ℕ) (be
   closed_there suited t is = closed_on opening order last_view closed r.narrow t (own ∙ is)
       (at_told (BeganSuited opening) (tape (slot_disk w)) t is (began_on suited))
 
-  words : HoldsSuited opening began → IfSome (tape (slot_disk w))
-      (LeavesLogWords (opening.setup).segment_size (opening.setup).sysid whole opening.moment)
-  words suited = told_as (tape (slot_disk w)) (λ t is moment image from left k.
-      (no_other_words opening order t last_view (closed_there suited t is) front r.lies
-      moment image from left).words k)
-
-  crash : HoldsSuited opening began → IfSome (tape (slot_disk w))
-      (SurvivesCrashes (opening.setup).segment_size opening.moment whole lists)
-  crash suited = told_as (tape (slot_disk w)) (λ t is.
-      told_survive opening order t last_view (closed_there suited t is) front r.lies script lists
-      r.taken)
-
-  keeps : HoldsSuited opening began → IfSome (tape (slot_disk w))
-      (KeepsFound (opening.setup).segment_size opening.moment whole front)
-  keeps suited = told_as (tape (slot_disk w)) (λ t is.
-      keep opening order t last_view (closed_there suited t is) front r.lies)
+  only : HoldsSuited opening began → IfSome (tape (slot_disk w))
+      (LeavesLawful opening order 0 opening.moment)
+  only suited = told_as (tape (slot_disk w)) (λ t is.
+      (crashes opening order t last_view (closed_there suited t is)).only)
 
   timely : HoldsSuited opening began → IfSome (tape (slot_disk w))
-      (λ t. EachIsTimely (opening.setup).segment_size opening.moment whole t 1 script lists)
+      (λ t. EachIsTimely (opening.setup).segment_size opening.moment order t 1 script lists)
   timely suited = told_as (tape (slot_disk w)) (λ t is.
-      told_timely opening order t last_view (closed_there suited t is) whole script lists r.taken)
+      told_timely opening order t last_view (closed_there suited t is) order script lists r.taken)
 
   -- ---- what is assured
 
-  machine : IsMachineRun opening front (tape (slot_disk w)) (moment (slot_disk w)) script lists
+  machine : IsMachineRun opening (tape (slot_disk w)) (moment (slot_disk w)) script lists
   machine = record {
     first = first_on began;
     words = (r.closes).words;
@@ -168,45 +150,77 @@ module _ {D : Type 0} (tape : D → Option Tape) (moment faults : D → ℕ) (be
     moment_is = refl;
     here = (r.closes).here;
     taken = r.taken;
-    lies = r.lies;
   }
 
   firm : HoldsSuited opening began → IfSome (tape (slot_disk w))
       (KeepsToldWords opening (order_from (opening.setup).segment_size 1 script lists) lists)
   firm suited = told_as (tape (slot_disk w)) (λ t is.
-      keeps_words opening front t (moment (slot_disk w)) script lists
-      (subst (λ (o : Option Tape). IsMachineRun opening front o (moment (slot_disk w)) script lists) is
+      keeps_words opening t (moment (slot_disk w)) script lists
+      (subst (λ (o : Option Tape). IsMachineRun opening o (moment (slot_disk w)) script lists) is
       machine) (at_told (BeganSuited opening) (tape (slot_disk w)) t is (began_on suited)))
 
-  pub run_assures : RunAssures opening front began (tape (slot_disk w)) (moment (slot_disk w))
+  pub run_assures : RunAssures opening began (tape (slot_disk w)) (moment (slot_disk w))
       (faults (slot_disk w)) script lists
   run_assures = record {
     machine = machine;
     told = subst (λ (es : List Entry).
-        TellsAll (logged_at_end opening front es (faults (slot_disk w))) 1 script lists) whole_is
-        tells;
+        TellsAll (logged_at_end opening es (faults (slot_disk w))) 1 script lists) order_is tells;
     stays_down = run_stays_down opening last_view script lists r.taken;
     one_fault = told_once opening order last_view closed script lists r.taken;
-    gapless = subst (IsChained size) whole_is
-        (chained_whole opening front r.lies order (((r.closes).closed).accounted).chained);
+    gapless = subst (GoesOnAtPlace opening) order_is (((r.closes).closed).accounted).chained;
     in_line_order = told_rise opening order last_view closed script lists r.taken;
     caught_up = run_catches_up opening last_view script lists r.taken;
     moments = run_rises opening last_view script lists r.taken (r.closes).in_order
         (moment (slot_disk w)) (none_is_later opening order last_view closed);
     goes_on = tape_goes_on began (tape (slot_disk w)) ((r.closes).of_log).told
         ((r.closes).of_log).on_first ((r.closes).of_log).goes_on;
-    words = subst (λ (es : List Entry). HoldsSuited opening began → IfSome (tape (slot_disk w))
-        (LeavesLogWords size (opening.setup).sysid es opening.moment)) whole_is words;
     firm = firm;
-    crash = subst (λ (es : List Entry). HoldsSuited opening began → IfSome (tape (slot_disk w))
-        (SurvivesCrashes size opening.moment es lists)) whole_is crash;
-    keeps_found = subst (λ (es : List Entry). HoldsSuited opening began
-        → IfSome (tape (slot_disk w)) (KeepsFound size opening.moment es front)) whole_is keeps;
+    only_log = subst (λ (es : List Entry). HoldsSuited opening began → IfSome (tape (slot_disk w))
+        (LeavesLawful opening es 0 opening.moment)) order_is only;
     no_late_receipt = subst (λ (es : List Entry). HoldsSuited opening began
         → IfSome (tape (slot_disk w))
-        (λ t. EachIsTimely size opening.moment es t 1 script lists)) whole_is timely;
-    full = too_much_asked opening order last_view closed front r.lies script lists r.taken;
+        (λ t. EachIsTimely size opening.moment es t 1 script lists)) order_is timely;
+    full = too_much_asked opening order last_view closed script lists r.taken;
   }
+
+  -- ---- with entries that lie below the place
+
+  module _ (front : List Entry) (lies : LiesBehind opening front) where
+    abbrev whole : List Entry
+    whole = front ++ order
+
+    whole_is : front ++ ((r.closes).sound).order
+        ≡ order_told front (opening.setup).segment_size script lists
+    whole_is = ap (λ (es : List Entry). front ++ es) order_is
+
+    words : HoldsSuited opening began → IfSome (tape (slot_disk w))
+        (LeavesLogWords (opening.setup).segment_size (opening.setup).sysid whole opening.moment)
+    words suited = told_as (tape (slot_disk w)) (λ t is moment image from left k.
+        (no_other_words opening order t last_view (closed_there suited t is) front lies
+        moment image from left).words k)
+
+    crash : HoldsSuited opening began → IfSome (tape (slot_disk w))
+        (SurvivesCrashes (opening.setup).segment_size opening.moment whole lists)
+    crash suited = told_as (tape (slot_disk w)) (λ t is.
+        told_survive opening order t last_view (closed_there suited t is) front lies script lists
+        r.taken)
+
+    keeps : HoldsSuited opening began → IfSome (tape (slot_disk w))
+        (KeepsFound (opening.setup).segment_size opening.moment whole front)
+    keeps suited = told_as (tape (slot_disk w)) (λ t is.
+        keep opening order t last_view (closed_there suited t is) front lies)
+
+    pub run_assures_behind : AssuresBehind opening front began (tape (slot_disk w)) script lists
+    run_assures_behind = record {
+      gapless = subst (IsChained size) whole_is
+          (chained_whole opening front lies order (((r.closes).closed).accounted).chained);
+      words = subst (λ (es : List Entry). HoldsSuited opening began → IfSome (tape (slot_disk w))
+          (LeavesLogWords size (opening.setup).sysid es opening.moment)) whole_is words;
+      crash = subst (λ (es : List Entry). HoldsSuited opening began → IfSome (tape (slot_disk w))
+          (SurvivesCrashes size opening.moment es lists)) whole_is crash;
+      keeps_found = subst (λ (es : List Entry). HoldsSuited opening began
+          → IfSome (tape (slot_disk w)) (KeepsFound size opening.moment es front)) whole_is keeps;
+    }
 
   -- ---- faults
 
@@ -235,20 +249,24 @@ module _ {D : Type 0} (tape : D → Option Tape) (moment faults : D → ℕ) (be
 
   all_there : (slot_plain tape moment w).fault ≡ none → HoldsSuited opening began
       → HasFlushedAll (opening.setup).segment_size lists v
-      → IsWhole (opening.setup).segment_size (tape (slot_disk w)) whole
-  all_there up suited (inl p) = subst (λ (t : Option Tape). IsWhole size t whole) own
-      (left_whole opening order last_view closed front r.lies script lists r.taken up p.0 p.1 p.2 r.narrow
+      → (front : List Entry) → LiesBehind opening front
+      → IsWhole (opening.setup).segment_size (tape (slot_disk w)) (front ++ order)
+  all_there up suited (inl p) front lies =
+      subst (λ (t : Option Tape). IsWhole size t (front ++ order)) own
+      (left_whole opening order last_view closed front lies script lists r.taken up p.0 p.1 p.2
+      r.narrow
       (subst (λ (t : Option Tape). IfSome t (BeganSuited opening)) (sym own) (began_on suited)))
-  all_there up suited (inr f) = absurd (knows_no_fault opening order last_view closed up f.0 f.1)
+  all_there up suited (inr f) front lies =
+      absurd (knows_no_fault opening order last_view closed up f.0 f.1)
 
   pub flushed_whole : HasFlushedAll (opening.setup).segment_size lists v
       → faults (slot_disk w) ≡ opening.faults → opening.faults < 2 ^ 64 - 1
-      → HoldsSuited opening began
+      → HoldsSuited opening began → (front : List Entry) → LiesBehind opening front
       → IsWhole (opening.setup).segment_size (tape (slot_disk w))
       (order_told front (opening.setup).segment_size script lists)
-  flushed_whole flushed same low suited =
-      subst (IsWhole size (tape (slot_disk w))) whole_is
-      (all_there (none_met same low) suited flushed)
+  flushed_whole flushed same low suited front lies =
+      subst (IsWhole size (tape (slot_disk w))) (whole_is front lies)
+      (all_there (none_met same low) suited flushed front lies)
 
   -- ---- the order in numbers
 
@@ -256,18 +274,12 @@ module _ {D : Type 0} (tape : D → Option Tape) (moment faults : D → ℕ) (be
       ≡ all_reserved_count lists
   records_counted = own_counted opening last_view script lists r.taken
 
-  pub position_told : position
-      ≡ end_position (opening.setup).segment_size
-      (order_told front (opening.setup).segment_size script lists)
-  position_told = (r.closes).position_is ∙ (((r.closes).closed).free).position
-      ∙ end_whole opening front r.lies order ∙ ap (end_position size) whole_is
-
   pub bytes_told : position ≡ found_position opening + rooms_of (opening.setup).segment_size
       (order_from (opening.setup).segment_size 1 script lists)
   bytes_told = (r.closes).position_is ∙ (((r.closes).closed).free).position
       ∙ ap (order_end opening) order_is
 
   pub rooms_within : rooms_of (opening.setup).segment_size
-      (order_told front (opening.setup).segment_size script lists) ≤ 2 ^ 42
-  rooms_within = subst (λ (es : List Entry). rooms_of size es ≤ 2 ^ 42) whole_is
-      (rooms_are_low opening order last_view closed front r.lies)
+      (order_from (opening.setup).segment_size 1 script lists) ≤ 2 ^ 42
+  rooms_within = subst (λ (es : List Entry). rooms_of size es ≤ 2 ^ 42) order_is
+      (rooms_are_low opening order last_view closed)

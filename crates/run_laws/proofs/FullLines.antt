@@ -2,26 +2,23 @@
 -- found the log at a segment's start, such a front ends there.
 use Rattle.std.proofs.Common.{◌≡◌, ℕ, ◌<◌, ◌≤◌, All, List, [], ◌∷◌, ◌++◌, length, length-append, take, sym, ap, ◌∙◌, subst, arith}
 use Rattle.std.proofs.Math.Seq.{take-append_seam}
-use Rattle.std.proofs.lemmas.List.{append_assoc}
 use Rattle.std.proofs.lemmas.List.Elements.{All-head}
 use Rattle.byte_position.specs.Position.{end_address_of, first_position}
 use Rattle.wal_types.specs.declared.record.Record.{Record}
-use Rattle.wal_page.specs.Order.{Entry, IsChained, end_position, room_at}
+use Rattle.wal_page.specs.LogPlace.{IsPlace}
+use Rattle.wal_page.specs.Order.{Entry, FollowsFrom, room_at}
 use Rattle.wal_page.proofs.OrderLaws.{FollowsFrom-parts}
 use Rattle.wal_core.specs.Views.{AtSegmentStart, LogFull, Stop, StopCause}
 use Rattle.wal_core.specs.Words.{GoesOnAtPlace, Opening, log_limit, order_end}
 use Rattle.wal_core.specs.Ordered.{entries_under, FrontEndsAt}
-use Rattle.machine_laws.specs.WholeOrders.{LiesBehind}
-use Rattle.told_lines.specs.Told.{Logged, MayBeFull, MayStay}
+use Rattle.told_lines.specs.Told.{Logged, MayBeFull, MayStay, front_end}
 use Rattle.told_lines.proofs.AllLaws.{parts_all}
 use Rattle.wal_core.specs.PassLogs.{PassLog, log_with_stop}
 use Rattle.run_laws.specs.Played.{AddsFull, AddsStay, behind_last_own}
 use Rattle.run_laws.specs.Ended.{logged_at_end}
-use Rattle.run_laws.proofs.WholeOrders.{chained_whole, end_whole}
 use Rattle.run_laws.proofs.OwnEnds.{StartsBelow, ends_within, own_starts_below}
-use Rattle.run_laws.proofs.Sorting.{under_behind}
 
-module _ (opening : Opening) (front : List Entry) (lies : LiesBehind opening front)
+module _ (opening : Opening) (placed : IsPlace (opening.setup).segment_size opening.place)
     (order : List Entry) (last pass : ℕ) (follows : GoesOnAtPlace opening order)
     (all : List Entry) where
   abbrev pub size : ℕ
@@ -31,52 +28,42 @@ module _ (opening : Opening) (front : List Entry) (lies : LiesBehind opening fro
   limit = log_limit opening.setup
 
   abbrev pub logged : Logged
-  logged = logged_at_end opening front (front ++ order) last
+  logged = logged_at_end opening order last
 
-  abbrev whole : List Entry
-  whole = front ++ order
+  abbrev position : ℕ
+  position = (opening.place).position
 
   -- an entry of the pass starts below where these of it end
   abbrev IsBelow : List Entry → Entry → Type 0
   IsBelow own e = StartsBelow pass
       (behind_last_own size (first_position size) own) e
 
-  -- so many first entries of the whole order end at a byte position, and have what was found and
-  -- these entries of the pass
+  -- so many first entries of the order end at a byte position, and have these entries of the pass
   record FrontHas (at : ℕ) (own : List Entry) : Type 0 where
     count : ℕ
-    within : count ≤ length whole
-    has_found : length front ≤ count
-    earlier : behind_last_own size (first_position size) own
-        ≤ end_position size (take count whole)
-    no_later : All (IsBelow own) (take count whole)
-    ends : end_position size (take count whole) ≡ at
+    within : count ≤ length order
+    earlier : behind_last_own size (first_position size) own ≤ front_end logged count
+    no_later : All (IsBelow own) (take count order)
+    ends : front_end logged count ≡ at
 
   front_has : (at : ℕ) (own begun back : List Entry) → order ≡ begun ++ back
       → at ≡ order_end opening begun → entries_under pass begun ≡ own → FrontHas at own
   front_has at own begun back are end mine =
-      let part : List Entry = front ++ begun in
-      let parts : whole ≡ part ++ back =
-      ap (λ (es : List Entry). front ++ es) are ∙ sym (append_assoc front begun back) in
-      let ends_there : at ≡ end_position size part = end ∙ end_whole opening front lies begun in
-      let mine_there : entries_under pass part ≡ own =
-      under_behind front begun pass lies.nobodys ∙ mine in
-      let same : take (length part) whole ≡ part =
-      ap (take (length part)) parts ∙ take-append_seam part back in
-      let ends : end_position size (take (length part) whole) ≡ at =
-      ap (end_position size) same ∙ sym ends_there in
-      let chain = FollowsFrom-parts size (first_position size) part back
-      (subst (IsChained size) parts (chained_whole opening front lies order follows)) in
-      let within = ends_within size pass part chain.0 in
-      let own_below = subst (λ (es : List Entry). All (IsBelow es) part) mine_there
-      (own_starts_below size pass part chain.0) in
+      let first = first_position size in
+      let same : take (length begun) order ≡ begun =
+      ap (take (length begun)) are ∙ take-append_seam begun back in
+      let ends : front_end logged (length begun) ≡ at = ap (order_end opening) same ∙ sym end in
+      let chain = (FollowsFrom-parts size position begun back
+      (subst (FollowsFrom size position) are follows)).0 in
       let own_within = subst (λ (es : List Entry).
-      behind_last_own size (first_position size) es ≤ end_position size part) mine_there within in
+      behind_last_own size first es ≤ order_end opening begun) mine
+      (ends_within size pass position first begun chain placed.from) in
+      let own_below = subst (λ (es : List Entry). All (IsBelow es) begun) mine
+      (own_starts_below size pass position first begun chain placed.from) in
       record {
-        count = length part;
-        within = omega (arith, ap length parts, length-append part back);
-        has_found = omega (arith, length-append front begun);
-        earlier = omega (arith, ends, ends_there, own_within);
+        count = length begun;
+        within = omega (arith, ap length are, length-append begun back);
+        earlier = omega (arith, ends, end, own_within);
         no_later = subst (All (IsBelow own)) (sym same) own_below;
         ends = ends;
       }
@@ -106,7 +93,6 @@ module _ (opening : Opening) (front : List Entry) (lies : LiesBehind opening fro
       record {
         front = f.count;
         within = f.within;
-        has_found = f.has_found;
         earlier = f.earlier;
         no_later = f.no_later;
         left = omega (arith, f.ends, full.free_is);
@@ -124,7 +110,6 @@ module _ (opening : Opening) (front : List Entry) (lies : LiesBehind opening fro
       record {
         front = f.count;
         within = f.within;
-        has_found = f.has_found;
         earlier = f.earlier;
         no_later = f.no_later;
         end_is = stay.end_is ∙ ap (end_address_of size) (sym f.ends);

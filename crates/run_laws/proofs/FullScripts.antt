@@ -1,6 +1,6 @@
--- Where a line found the log full, what was found and the script's records take up more than the
--- log has for records.
-use Rattle.std.proofs.Common.{◌≡◌, ℕ, ◌+◌, ◌<◌, ◌≤◌, cond, Bool, true, false, leb, List, [], ◌∷◌, ◌++◌, take, Option, Some, None, option_to_list, inl, inr, refl, ap, arith}
+-- Where a line found the log full, the script's records take up more than the log has for records
+-- behind the place at which it was opened.
+use Rattle.std.proofs.Common.{◌≡◌, ℕ, ◌+◌, ◌<◌, ◌≤◌, cond, Bool, true, false, leb, List, [], ◌∷◌, take, Option, Some, None, option_to_list, inl, inr, refl, ap, arith}
 use Rattle.std.proofs.lemmas.List.Elements.{All-head, All-tail}
 use Rattle.std.proofs.lemmas.List.Sums.{sum_by-take-le}
 use mathlib.Core.Option as mathlib_option
@@ -14,18 +14,17 @@ use Rattle.record_spelling.proofs.SwitchLaws.{room-switch}
 use Rattle.wal_types.specs.declared.answers.Cause.TheVariants.{Full, Disk, Down}
 use Rattle.wal_types.specs.declared.lsn.Lsn.{Lsn}
 use Rattle.wal_types.specs.declared.record.Record.{Record}
-use Rattle.wal_page.specs.Order.{Entry, end_position, room_at, rooms_of}
+use Rattle.wal_page.specs.Order.{Entry, room_at, rooms_of}
 use Rattle.wal_page.proofs.OrderLaws.{rooms_of_cons, rooms_of-append}
 use Rattle.wal_page.proofs.PaddingLaws.{assembled_room_at-bound, room_at-inserted}
 use Rattle.wal_script.specs.Asked.{Asked, AskedLine, Insert, Commit, Flush, CommitAsync, WriteBehind, Switch}
 use Rattle.wal_script.specs.Writable.{AsksWritable}
-use Rattle.wal_core.specs.Words.{Opening, log_limit}
+use Rattle.wal_core.specs.Words.{Opening, found_position, log_limit}
 use Rattle.wal_core.specs.Views.{View}
 use Rattle.told_lines.specs.declared.told.Told.{Told}
 use Rattle.told_lines.specs.declared.told.Told.TheVariants.{Wrote, Hard, Flushed, Async, Idle, Switched, Stayed, Refused}
-use Rattle.told_lines.specs.Told.{FitsLine, IsFullAnswer, Logged, MayBeFull, SomeAnswer, SomeTold, TellsAll, TellsFrom, behind_or, entries_from, entries_of, entry_at, entry_of, insert_by_start, reserved_by, sorted_by_start}
-use Rattle.told_lines.specs.Rooms.{all_rooms_asked, capacity_of, room_asked, rooms_asked}
-use Rattle.machine_laws.specs.WholeOrders.{LiesBehind}
+use Rattle.told_lines.specs.Told.{FitsLine, IsFullAnswer, Logged, MayBeFull, SomeAnswer, SomeTold, TellsAll, TellsFrom, behind_or, entries_from, entries_of, entry_at, entry_of, front_end, insert_by_start, reserved_by, sorted_by_start}
+use Rattle.told_lines.specs.Rooms.{all_rooms_asked, room_asked, rooms_asked}
 use Rattle.run_laws.specs.Ended.{HasTakenIn, IsClosedLog, logged_at_end}
 use Rattle.run_laws.proofs.RunOrder.{told_order, valid}
 use Rattle.run_laws.proofs.RunTells.{run_tells}
@@ -124,19 +123,21 @@ module _ (logged : Logged) (sized : IsSegmentSize logged.size) where
   -- a front of the order and the record together have no room
   record_exceeds : (pass behind : ℕ) (value : Record) (free : ℕ)
       → AsksWritable (Insert value) → MayBeFull logged pass behind value free
-      → logged.capacity < rooms_of logged.size logged.order + room_asked logged.size (Insert value)
+      → logged.limit
+      < logged.start + rooms_of logged.size logged.order + room_asked logged.size (Insert value)
   record_exceeds pass behind value free writable full =
       let front = take full.front logged.order in
       let fewer : rooms_of logged.size front ≤ rooms_of logged.size logged.order =
       sum_by-take-le (λ (e : Entry). room_at logged.size e.start e.value) logged.order full.front in
-      let room = room_at-inserted logged.size (end_position logged.size front) value writable in
+      let room = room_at-inserted logged.size (front_end logged full.front) value writable in
       let short : free < room_asked logged.size (Insert value) = omega (arith, room, full.short) in
       omega (arith, fewer, short, full.left)
 
   -- nor have they with a segment switch, for which a few bytes are left
   switch_exceeds : (pass behind free : ℕ) → MayBeFull logged pass behind switch_record free
       → free < 24
-      → logged.capacity < rooms_of logged.size logged.order + room_asked logged.size Switch
+      → logged.limit
+      < logged.start + rooms_of logged.size logged.order + room_asked logged.size Switch
   switch_exceeds pass behind free full few =
       let fewer =
       sum_by-take-le (λ (e : Entry). room_at logged.size e.start e.value) logged.order full.front in
@@ -146,9 +147,9 @@ module _ (logged : Logged) (sized : IsSegmentSize logged.size) where
   -- a line that found the log full asks for more than is left, and takes none
   line_exceeds : (pass behind : ℕ) (asked : Asked) (told : Told) → AsksWritable asked
       → FitsLine logged pass behind asked told → IsFullAnswer told
-      → logged.capacity
+      → logged.limit
       + rooms_of logged.size (option_to_list (entry_of logged.size pass asked told))
-      < rooms_of logged.size logged.order + room_asked logged.size asked
+      < logged.start + rooms_of logged.size logged.order + room_asked logged.size asked
   line_exceeds pass behind asked (Wrote start end) writable fits full = absurd full
   line_exceeds pass behind asked (Hard start end moment) writable fits full = absurd full
   line_exceeds pass behind asked (Flushed upto moment) writable fits full = absurd full
@@ -181,8 +182,8 @@ module _ (logged : Logged) (sized : IsSegmentSize logged.size) where
 
   lines_exceed : (pass behind : ℕ) (lines : List AskedLine) (told : List Told) → AskWritable lines
       → TellsFrom logged pass behind lines told → SomeAnswer IsFullAnswer told
-      → logged.capacity + rooms_of logged.size (entries_of logged.size pass lines told)
-      < rooms_of logged.size logged.order + rooms_asked logged.size lines
+      → logged.limit + rooms_of logged.size (entries_of logged.size pass lines told)
+      < logged.start + rooms_of logged.size logged.order + rooms_asked logged.size lines
   lines_exceed pass behind [] [] writable tells full = absurd full
   lines_exceed pass behind [] (answer ∷ told) writable tells full = absurd tells
   lines_exceed pass behind (line ∷ lines) [] writable tells full = absurd tells
@@ -207,8 +208,8 @@ module _ (logged : Logged) (sized : IsSegmentSize logged.size) where
 
   all_exceed : (pass : ℕ) (script : List (List AskedLine)) (lists : List (List Told))
       → AllAskWritable script → TellsAll logged pass script lists → SomeTold IsFullAnswer lists
-      → logged.capacity + rooms_of logged.size (entries_from logged.size pass script lists)
-      < rooms_of logged.size logged.order + all_rooms_asked logged.size script
+      → logged.limit + rooms_of logged.size (entries_from logged.size pass script lists)
+      < logged.start + rooms_of logged.size logged.order + all_rooms_asked logged.size script
   all_exceed pass [] [] writable tells full = absurd full
   all_exceed pass [] (told ∷ lists) writable tells full = absurd tells
   all_exceed pass (lines ∷ script) [] writable tells full = absurd tells
@@ -236,25 +237,20 @@ upper_count (some last) =
     (last, λ faults is. let same : last ≡ faults = cc in omega (arith, same))
 
 pub too_much_asked : (opening : Opening) (order : List Entry) (v : View)
-    → IsClosedLog opening order v → (front : List Entry) → LiesBehind opening front
-    → (script : List (List AskedLine)) (lists : List (List Told))
-    → HasTakenIn opening v script lists → SomeTold IsFullAnswer lists
-    → capacity_of (opening.setup).segment_size (opening.setup).cap_segments
-    < rooms_of (opening.setup).segment_size front
-    + all_rooms_asked (opening.setup).segment_size script
-too_much_asked opening order v c front lies script lists taken full =
+    → IsClosedLog opening order v → (script : List (List AskedLine)) (lists : List (List Told))
+    → HasTakenIn opening v script lists → SomeTold IsFullAnswer lists → log_limit opening.setup
+    < found_position opening + all_rooms_asked (opening.setup).segment_size script
+too_much_asked opening order v c script lists taken full =
     let size = (opening.setup).segment_size in
     let size_is = valid opening order v c script lists taken in
     let last = upper_count (c.writer).fault in
-    let tells = run_tells opening order v c front lies script lists taken last.0 last.1 in
+    let tells = run_tells opening order v c script lists taken last.0 last.1 in
     let told = ap (rooms_of size) (told_order opening order v c script lists taken) in
     let writable = script_writable size (log_limit opening.setup) 1 script lists taken.others
     taken.played in
     omega (
       arith,
       told,
-      rooms_of-append size front order,
       rooms_sorted size (entries_from size 1 script lists),
-      all_exceed (logged_at_end opening front (front ++ order) last.0) size_is 1 script lists writable
-          tells full,
+      all_exceed (logged_at_end opening order last.0) size_is 1 script lists writable tells full,
     )

@@ -7,16 +7,16 @@ use Rattle.segment_disk.specs.declared.disk.Call.{Call}
 use Rattle.segment_disk.specs.Tape.{Tape}
 use Rattle.byte_position.specs.Position.{end_address_of, first_position}
 use Rattle.wal_types.specs.declared.answers.Cause.TheVariants.{Full, Disk, Down}
-use Rattle.wal_page.specs.Order.{Entry, FollowsFrom, end_position, finish_of, position_behind, rooms_of}
+use Rattle.wal_page.specs.Order.{Entry, FollowsFrom, finish_of, position_behind, rooms_of}
 use Rattle.wal_page.proofs.OrderLaws.{rooms_of_cons}
 use Rattle.wal_script.specs.Asked.{Asked, AskedLine, Insert, Commit, Flush, CommitAsync, WriteBehind, Switch}
 use Rattle.wal_core.specs.Words.{Opening, end_form, flushed_word, moment_word, order_end}
 use Rattle.wal_core.specs.Suited.{BeganSuited, tape_from}
 use Rattle.wal_core.specs.Views.{FlushPromise, View}
 use Rattle.wal_core.specs.Durable.{IsPromised}
-use Rattle.closed_log.specs.Closed.{IsClosedOn}
-use Rattle.closed_log.proofs.Promises.{told_rightly}
-use Rattle.closed_log.proofs.ReadWhole.{whole}
+use Rattle.run_laws.specs.Closed.{IsClosedOn}
+use Rattle.run_laws.proofs.Promises.{told_rightly}
+use Rattle.run_laws.proofs.ReadWhole.{whole}
 use Rattle.told_lines.specs.declared.told.Told.{Told}
 use Rattle.told_lines.specs.declared.told.Told.TheVariants.{Wrote, Hard, Flushed, Async, Idle, Switched, Stayed, Refused}
 use Rattle.told_lines.specs.Told.{FitsLine, Logged, TellsAll, TellsFrom, behind_or, entries_from, entries_of, entry_of, insert_by_start, sorted_by_start}
@@ -24,7 +24,6 @@ use Rattle.told_lines.specs.Whole.{IsWhole}
 use Rattle.machine_laws.specs.WholeOrders.{LiesBehind}
 use Rattle.run_laws.specs.Ended.{HasTakenIn, IsClosedLog, logged_at_end}
 use Rattle.run_laws.specs.Reached.{EndsBy, ReachesAll}
-use Rattle.run_laws.proofs.WholeOrders.{end_form_whole}
 use Rattle.run_laws.proofs.RefusedLines.{no_fault, tells_no_fault}
 use Rattle.run_laws.proofs.RunOrder.{accounted, told_order}
 
@@ -157,7 +156,6 @@ module _ (logged : Logged) (up : logged.last ≡ 0) (address : ℕ) where
       (all_end (pass + 1) script lists tells.1 (All-tail AllBy told lists by))
 
 module _ (opening : Opening) (order : List Entry) (v : View) (c : IsClosedLog opening order v)
-    (front : List Entry) (lies : LiesBehind opening front)
     (script : List (List AskedLine)) (lists : List (List Told))
     (taken : HasTakenIn opening v script lists) (up : (c.writer).fault ≡ none)
     (p : FlushPromise) (was : Contains (v.writing).promises p)
@@ -173,11 +171,11 @@ module _ (opening : Opening) (order : List Entry) (v : View) (c : IsClosedLog op
   own_ended =
       subst (All EndsThere) (told_order opening order v c script lists taken)
       (all_sorted EndsThere (entries_from size 1 script lists)
-      (all_end (logged_at_end opening front (front ++ order) 0) refl p.upto 1 script lists
-      (tells_no_fault opening order v c script lists taken front lies up) reaches.ends))
+      (all_end (logged_at_end opening order 0) refl p.upto 1 script lists
+      (tells_no_fault opening order v c script lists taken up) reaches.ends))
 
-  order_flushed : end_form opening.setup (order_end opening order) ≤ flushed_word c.words
-  order_flushed =
+  pub flush_reaches : end_form opening.setup (order_end opening order) ≤ flushed_word c.words
+  flush_reaches =
       let right = told_rightly opening c.words (some c.writer) c.views c.sound c.id v c.here in
       let Promised = IsPromised (flushed_word c.words) (moment_word c.words) in
       let promised = All-contains Promised (v.writing).promises p right.own_promised was in
@@ -188,16 +186,12 @@ module _ (opening : Opening) (order : List Entry) (v : View) (c : IsClosedLog op
       (accounted opening order v c script lists taken).chained all
       ((c.sound).durable).found_low
 
-  pub flush_reaches : end_address_of (opening.setup).segment_size
-      (end_position (opening.setup).segment_size (front ++ order)) ≤ flushed_word c.words
-  flush_reaches = subst (λ (n : ℕ). n ≤ flushed_word c.words)
-      (end_form_whole opening front lies order) order_flushed
-
-  whole_of : (opening.setup).sysid < 2 ^ 64 → (calls : Option (List Call)) → (c.writer).calls ≡ calls
+  whole_of : (front : List Entry) → LiesBehind opening front → (opening.setup).sysid < 2 ^ 64
+      → (calls : Option (List Call)) → (c.writer).calls ≡ calls
       → IfSome (tape_from c.first calls) (BeganSuited opening)
       → IsWhole (opening.setup).segment_size (tape_from c.first calls) (front ++ order)
-  whole_of narrow None is began = tt
-  whole_of narrow (Some calls) is began =
+  whole_of front lies narrow None is began = tt
+  whole_of front lies narrow (Some calls) is began =
       let t : Tape = record { at_first = c.first; calls = calls } in
       let on : IsClosedOn opening order t v = record {
         words = c.words;
@@ -212,10 +206,17 @@ module _ (opening : Opening) (order : List Entry) (v : View) (c : IsClosedLog op
         calls_is = is;
         began = began;
       } in
-      let holds = whole opening order t v on order_flushed front lies in
+      let holds = whole opening order t v on flush_reaches front lies in
       (holds.left, holds.read)
 
-  pub left_whole : (opening.setup).sysid < 2 ^ 64
-      → IfSome (tape_from c.first (c.writer).calls) (BeganSuited opening)
-      → IsWhole (opening.setup).segment_size (tape_from c.first (c.writer).calls) (front ++ order)
-  left_whole narrow began = whole_of narrow (c.writer).calls refl began
+pub left_whole : (opening : Opening) (order : List Entry) (v : View)
+    (c : IsClosedLog opening order v) (front : List Entry) → LiesBehind opening front
+    → (script : List (List AskedLine)) (lists : List (List Told))
+    → HasTakenIn opening v script lists → (c.writer).fault ≡ none
+    → (p : FlushPromise) → Contains (v.writing).promises p
+    → ReachesAll (opening.setup).segment_size p.upto lists → (opening.setup).sysid < 2 ^ 64
+    → IfSome (tape_from c.first (c.writer).calls) (BeganSuited opening)
+    → IsWhole (opening.setup).segment_size (tape_from c.first (c.writer).calls) (front ++ order)
+left_whole opening order v c front lies script lists taken up p was reaches narrow began =
+    whole_of opening order v c script lists taken up p was reaches front lies narrow
+    (c.writer).calls refl began

@@ -11,7 +11,7 @@ use Rattle.told_lines.specs.declared.told.Told.{Told}
 use Rattle.told_lines.specs.declared.told.Told.TheVariants.{Wrote, Hard, Flushed, Async, Idle, Switched, Stayed, Refused}
 use Rattle.told_lines.specs.Crash.{IsBefore, NoneIsLate, WritesNone, moment_told}
 use Rattle.told_lines.specs.Told.{entries_of}
-use Rattle.closed_log.specs.Timely.{IsTimely}
+use Rattle.run_laws.specs.Timely.{IsTimely}
 use Rattle.run_laws.specs.Played.{PassState, PlaysLines}
 use Rattle.run_laws.proofs.LineEntries.{lines_entries}
 use Rattle.run_laws.proofs.LinePromises.{IsPromisedSo, Promised, line_promised, promises_held}

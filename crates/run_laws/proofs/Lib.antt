@@ -25,3 +25,11 @@ pub mod ClosedLogs
 pub mod OneFault
 pub mod ClosedRuns
 pub mod CatchingUp
+pub mod Promises
+pub mod Closing
+pub mod ClosedDisk
+pub mod Fronts
+pub mod FoundKept
+pub mod Timeliness
+pub mod ReadWhole
+pub mod Risen

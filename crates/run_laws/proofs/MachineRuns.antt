@@ -1,10 +1,10 @@
 -- What a crash leaves of a machine's run, word by word: all that its lines were told is firm.
-use Rattle.std.proofs.Common.{◌≡◌, ℕ, All, List, ◌++◌, Some, inl, inr, sym, ap, ◌∙◌, subst, arith}
+use Rattle.std.proofs.Common.{◌≡◌, ℕ, All, List, Some, inl, inr, sym, ap, ◌∙◌, subst, arith}
 use Rattle.std.proofs.lemmas.Bool.{cases_lt}
 use mathlib.Core.Option.{none, some, some-injective}
 use Rattle.segment_disk.specs.Assured.{IsMadeUpto}
 use Rattle.segment_disk.specs.Tape.{Tape}
-use Rattle.wal_page.specs.Order.{Entry, IsChained}
+use Rattle.wal_page.specs.Order.{Entry}
 use Rattle.wal_script.specs.Asked.{AskedLine}
 use Rattle.wal_core.specs.Durable.{AreKept, IsFirm, IsLogBelow, IsPromiseKept}
 use Rattle.wal_core.specs.Locked.{HasWriteTurn, IsWriteTurn, StandsTo}
@@ -18,9 +18,8 @@ use Rattle.machine_laws.proofs.DurableTapes.{TapeAssures-later}
 use Rattle.told_lines.specs.declared.told.Told.{Told}
 use Rattle.told_lines.specs.Crash.{SaysDurable}
 use Rattle.told_lines.specs.Told.{SomeTold, order_from}
-use Rattle.closed_log.proofs.Promises.{told_rightly}
-use Rattle.run_laws.specs.Assured.{IsMachineRun, KeepsToldWords, order_told}
-use Rattle.run_laws.proofs.WholeOrders.{chained_whole}
+use Rattle.run_laws.proofs.Promises.{told_rightly}
+use Rattle.run_laws.specs.Assured.{IsMachineRun, KeepsToldWords}
 use Rattle.run_laws.proofs.RunCrashes.{ArePromises, all_promised}
 use Rattle.run_laws.proofs.RunOrder.{unmapped}
 
@@ -47,9 +46,9 @@ same_writer turn home writer writers is = some-injective home writer (elim (case
       (is.each is.holder holder.0 holder.1))
 ])
 
-module _ (opening : Opening) (front : List Entry) (now : Tape) (moment : ℕ)
+module _ (opening : Opening) (now : Tape) (moment : ℕ)
     (script : List (List AskedLine)) (lists : List (List Told))
-    (m : IsMachineRun opening front (Some now) moment script lists) where
+    (m : IsMachineRun opening (Some now) moment script lists) where
   abbrev size : ℕ
   size = (opening.setup).segment_size
 
@@ -58,11 +57,6 @@ module _ (opening : Opening) (front : List Entry) (now : Tape) (moment : ℕ)
 
   pub writer_tape : tape_from m.first ((m.sound).writer).calls ≡ Some now
   writer_tape = ap (λ (w : Plain). tape_from m.first w.calls) (sym home_is) ∙ m.tape_is
-
-  pub run_chained : IsChained (opening.setup).segment_size
-      (order_told front (opening.setup).segment_size script lists)
-  run_chained = subst (λ (es : List Entry). IsChained size (front ++ es)) m.order_is
-      (chained_whole opening front m.lies (m.sound).order ((m.sound).reserved).chained)
 
   -- ---- on a disk that held at the opening what the log may go on on
 

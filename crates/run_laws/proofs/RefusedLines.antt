@@ -1,5 +1,5 @@
 -- Where the disk did not fail, a line is refused only where some line found the log full.
-use Rattle.std.proofs.Common.{◌≡◌, ℕ, ◌+◌, All, List, [], ◌∷◌, ◌++◌, Some, None, inl, inr, arith}
+use Rattle.std.proofs.Common.{◌≡◌, ℕ, ◌+◌, All, List, [], ◌∷◌, Some, None, inl, inr, arith}
 use Rattle.std.proofs.lemmas.List.Elements.{All-head, All-tail, All-weaker}
 use mathlib.Core.Option.{Option, none, some}
 use Rattle.wal_types.specs.declared.answers.Cause.TheVariants.{Full, Disk, Down}
@@ -10,7 +10,6 @@ use Rattle.wal_core.specs.Views.{View}
 use Rattle.told_lines.specs.declared.told.Told.{Told}
 use Rattle.told_lines.specs.declared.told.Told.TheVariants.{Wrote, Hard, Flushed, Async, Idle, Switched, Stayed, Refused}
 use Rattle.told_lines.specs.Told.{IsFault, IsFullAnswer, IsRefused, Logged, SomeAnswer, SomeTold, TellsAll}
-use Rattle.machine_laws.specs.WholeOrders.{LiesBehind}
 use Rattle.run_laws.specs.Ended.{HasTakenIn, IsClosedLog, IsKnownTo, PlayedAll, logged_at_end}
 use Rattle.run_laws.specs.Played.{KnowsFault, Leaves, PassState, PlaysLines, pass_state_of, state_at_first}
 use Rattle.run_laws.proofs.ClosedLogs.{knows_no_fault}
@@ -121,10 +120,10 @@ module _ (opening : Opening) (order : List Entry) (v : View) (c : IsClosedLog op
     (script : List (List AskedLine)) (lists : List (List Told))
     (taken : HasTakenIn opening v script lists) where
   -- where the writer met no fault, no line was told one
-  pub tells_no_fault : (front : List Entry) → LiesBehind opening front → (c.writer).fault ≡ none
-      → TellsAll (logged_at_end opening front (front ++ order) 0) 1 script lists
-  tells_no_fault front lies up =
-      run_tells opening order v c front lies script lists taken 0
+  pub tells_no_fault : (c.writer).fault ≡ none
+      → TellsAll (logged_at_end opening order 0) 1 script lists
+  tells_no_fault up =
+      run_tells opening order v c script lists taken 0
       (λ faults down. absurd (not_there (c.writer).fault faults up down))
 
   pub refused_for_want_of_room : (c.writer).fault ≡ none → SomeTold IsRefused lists

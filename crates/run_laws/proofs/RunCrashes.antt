@@ -13,10 +13,10 @@ use Rattle.told_lines.specs.Crash.{EachIsTimely, SaysDurable, SurvivesCrashes}
 use Rattle.told_lines.specs.Told.{SomeTold}
 use Rattle.told_lines.proofs.AnswerLoops.{some_told}
 use Rattle.machine_laws.specs.WholeOrders.{LiesBehind}
-use Rattle.closed_log.specs.Closed.{IsClosedOn, WasPromised}
-use Rattle.closed_log.specs.Timely.{IsTimely}
-use Rattle.closed_log.proofs.Fronts.{survive}
-use Rattle.closed_log.proofs.Timeliness.{timely}
+use Rattle.run_laws.specs.Closed.{IsClosedOn, WasPromised}
+use Rattle.run_laws.specs.Timely.{IsTimely}
+use Rattle.run_laws.proofs.Fronts.{survive}
+use Rattle.run_laws.proofs.Timeliness.{timely}
 use Rattle.run_laws.specs.Played.{pass_state_of, state_at_first}
 use Rattle.run_laws.specs.Ended.{HasTakenIn, PlayedAll}
 use Rattle.run_laws.proofs.LateLines.{none_late}

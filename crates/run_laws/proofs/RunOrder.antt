@@ -1,6 +1,7 @@
 -- The order of a closed log is that of what the script's lines were told.
 use Rattle.std.proofs.Common.{◌≡◌, ℕ, suc, zero, ◌+◌, ◌<◌, ◌≤◌, All, List, [], ◌∷◌, ◌++◌, inl, inr, length, map, refl, sym, ap, ◌∙◌, subst, arith}
 use Rattle.std.proofs.lemmas.List.Elements.{All-cons, All-contains, All-head, All-nil, All-tail}
+use Rattle.wal_page.specs.LogPlace.{IsPlace}
 use Rattle.wal_page.specs.Order.{Entry}
 use Rattle.byte_position.specs.Geometry.{IsSegmentSize}
 use Rattle.wal_page.proofs.OrderLaws.{room_at-pos}
@@ -11,8 +12,8 @@ use Rattle.wal_core.specs.Views.{Joined, View}
 use Rattle.wal_core.specs.Moves.{joined_of}
 use Rattle.wal_core.specs.Ordered.{entries_under, TookIn}
 use Rattle.machine_laws.specs.ClosedLogs.{OrderIsAccounted}
-use Rattle.closed_log.specs.Rising.{RiseFrom}
-use Rattle.closed_log.proofs.Risen.{risen}
+use Rattle.run_laws.specs.Rising.{RiseFrom}
+use Rattle.run_laws.proofs.Risen.{risen}
 use Rattle.told_lines.specs.declared.told.Told.{Told}
 use Rattle.told_lines.specs.Told.{entries_from, entries_of, order_from, sorted_by_start, IsRising, RiseInLineOrder}
 use Rattle.run_laws.specs.Played.{PlaysAllLines, state_at_first, pass_state_of}
@@ -106,6 +107,9 @@ module _ (opening : Opening) (order : List Entry) (v : View) (c : IsClosedLog op
 
   pub valid : IsSegmentSize (opening.setup).segment_size
   valid = ((c.sound).setup_is).size
+
+  pub at_place : IsPlace (opening.setup).segment_size opening.place
+  at_place = ((c.sound).reserved).placed
 
   pub accounted : OrderIsAccounted opening order c.words c.views v.reserving
   accounted = (c.closed).accounted

@@ -1,5 +1,5 @@
 -- What the passes of an order reserved, put together pass by pass and sorted, is the order.
-use Rattle.std.proofs.Common.{◌≡◌, ◌≢◌, ◌⊎◌, ℕ, suc, zero, ◌+◌, ◌<◌, ◌≤◌, cond, Bool, true, false, leb, ltb, ltb-true, ltb-false, All, List, [], ◌∷◌, ◌++◌, None, Some, IsSome, inl, inr, refl, sym, ap, ◌∙◌, subst, arith}
+use Rattle.std.proofs.Common.{◌≡◌, ◌≢◌, ◌⊎◌, ℕ, suc, zero, ◌+◌, ◌<◌, ◌≤◌, cond, Bool, true, false, leb, ltb, ltb-true, ltb-false, All, List, [], ◌∷◌, ◌++◌, Some, IsSome, inl, inr, refl, sym, ap, ◌∙◌, subst, arith}
 use Rattle.std.proofs.lemmas.Bool.{le-leb, lt-leb}
 use Rattle.std.proofs.lemmas.List.Elements.{All-head, All-tail}
 use Rattle.wal_page.specs.Order.{Entry, FollowsFrom, position_behind}
@@ -26,20 +26,6 @@ hit n e es h = ap (λ (b : Bool). cond b (e ∷ entries_under n es) (entries_und
 miss : (n : ℕ) (e : Entry) (es : List Entry) → is_pass n e.pass ≡ false
     → entries_under n (e ∷ es) ≡ entries_under n es
 miss n e es h = ap (λ (b : Bool). cond b (e ∷ entries_under n es) (entries_under n es)) h
-
--- ---- behind entries that are nobody's
-
-module _ (front back : List Entry) where
-  pub under_behind : (n : ℕ) → All (λ e. e.pass ≡ None) front
-      → entries_under n (front ++ back) ≡ entries_under n back
-  under_behind n nobodys = none_of front nobodys
-    where
-      none_of : (es : List Entry) → All (λ e. e.pass ≡ None) es
-          → entries_under n (es ++ back) ≡ entries_under n back
-      none_of [] all = refl
-      none_of (e ∷ es) all =
-          miss n e (es ++ back) (ap (is_pass n) (All-head (λ (x : Entry). x.pass ≡ None) e es all))
-          ∙ none_of es (All-tail (λ (x : Entry). x.pass ≡ None) e es all)
 
 -- ---- what starts behind a position
 

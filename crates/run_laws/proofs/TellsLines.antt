@@ -1,5 +1,5 @@
 -- Lines that were played are told what they may be told.
-use Rattle.std.proofs.Common.{◌≡◌, ℕ, ◌+◌, ◌≤◌, All, List, [], ◌∷◌, ◌++◌, length, take, Option, Some, None, option_to_list, refl, sym, ap, ◌∙◌, subst, arith}
+use Rattle.std.proofs.Common.{◌≡◌, ℕ, ◌+◌, ◌≤◌, All, List, [], ◌∷◌, ◌++◌, length, take, take_all, Option, Some, None, option_to_list, refl, sym, ap, ◌∙◌, subst, arith}
 use Rattle.std.proofs.Math.Seq.{take-append_seam}
 use Rattle.std.proofs.lemmas.List.Elements.{All-head}
 use Rattle.byte_position.specs.Geometry.{IsSegmentSize}
@@ -11,15 +11,15 @@ use Rattle.wal_types.specs.declared.answers.Cause.{Cause}
 use Rattle.wal_types.specs.declared.answers.Cause.TheVariants.{Full, Disk, Down}
 use Rattle.wal_types.specs.declared.lsn.Lsn.{Lsn}
 use Rattle.wal_types.specs.declared.record.Record.{Record}
-use Rattle.wal_page.specs.Order.{Entry, end_position, position_behind, room_at}
+use Rattle.wal_page.specs.LogPlace.{IsPlace}
+use Rattle.wal_page.specs.Order.{Entry, position_behind, room_at}
 use Rattle.wal_script.specs.Asked.{Asked, AskedLine, Insert, Commit, Flush, CommitAsync, WriteBehind, Switch}
 use Rattle.wal_core.specs.Views.{Stop, FlushPromise}
-use Rattle.wal_core.specs.Words.{GoesOnAtPlace, Opening, log_limit}
+use Rattle.wal_core.specs.Words.{GoesOnAtPlace, Opening, end_form, log_limit, order_end}
 use Rattle.wal_core.specs.Ordered.{FrontEndsAt}
-use Rattle.machine_laws.specs.WholeOrders.{LiesBehind}
 use Rattle.told_lines.specs.declared.told.Told.{Told}
 use Rattle.told_lines.specs.declared.told.Told.TheVariants.{Wrote, Hard, Flushed, Async, Idle, Switched, Stayed, Refused}
-use Rattle.told_lines.specs.Told.{FitsLine, IsFault, IsPlaced, LeavesFew, Logged, MayRefuseFlush, MayRefuseRecord, TellsFrom, behind_or, entries_of, entry_of}
+use Rattle.told_lines.specs.Told.{FitsLine, IsFault, IsPlaced, LeavesFew, Logged, MayRefuseFlush, MayRefuseRecord, TellsFrom, behind_or, entries_of, entry_of, front_end}
 use Rattle.told_lines.proofs.AllLaws.{parts_all}
 use Rattle.wal_core.specs.PassLogs.{PassLog, log_with_promise}
 use Rattle.run_laws.specs.Played.{KnowsFault, Leaves, PassState, PlaysLines, RefusesFlushLine, RefusesRecordLine, RefusesSwitchLine, Reserves, ReservesUpto, behind_last_own}
@@ -37,7 +37,7 @@ behind_more size behind [] None = refl
 behind_more size behind [] (Some e) = refl
 behind_more size behind (f ∷ es) e = behind_more size (position_behind size f) es e
 
-module _ (opening : Opening) (front : List Entry) (lies : LiesBehind opening front)
+module _ (opening : Opening) (placed : IsPlace (opening.setup).segment_size opening.place)
     (order : List Entry) (last pass : ℕ) (valid : IsSegmentSize (opening.setup).segment_size)
     (follows : GoesOnAtPlace opening order) (all : List Entry) where
   abbrev pub size : ℕ
@@ -47,17 +47,21 @@ module _ (opening : Opening) (front : List Entry) (lies : LiesBehind opening fro
   limit = log_limit opening.setup
 
   abbrev pub logged : Logged
-  logged = logged_at_end opening front (front ++ order) last
+  logged = logged_at_end opening order last
 
   abbrev first : ℕ
   first = first_position (opening.setup).segment_size
 
   -- each promise is of what was reserved
   abbrev pub IsWithin : FlushPromise → Type 0
-  IsWithin p = p.upto ≤ end_address_of size (end_position size (front ++ order))
+  IsWithin p = p.upto ≤ end_form opening.setup (order_end opening order)
 
   abbrev pub Ends : Stop → Type 0
   Ends f = FrontEndsAt opening pass order all f
+
+  -- the front of all entries is the order
+  whole_end : order_end opening order ≡ front_end logged (length order)
+  whole_end = ap (order_end opening) (sym (take_all (length order) order (omega arith)))
 
   start_position : (value : Record) (start : Lsn) (before after : PassLog)
       → (r : Reserves size limit pass value start.0 before after)
@@ -71,10 +75,10 @@ module _ (opening : Opening) (front : List Entry) (lies : LiesBehind opening fro
   started value start before after r =
       r.start_is ∙ ap (address_of size) (sym (start_position value start before after r))
 
-  placed : (value : Record) (start end : Lsn) (before after : PassLog)
+  is_placed : (value : Record) (start end : Lsn) (before after : PassLog)
       → ReservesUpto size limit pass value start.0 end.0 before after
       → IsPlaced size value start.0 end.0
-  placed value start end before after r = record {
+  is_placed value start end before after r = record {
     starts = started value start before after r.reserved;
     ends = r.end_is ∙ ap (λ (n : ℕ). end_address_of size (n + room_at size n value))
         (sym (start_position value start before after r.reserved));
@@ -83,18 +87,20 @@ module _ (opening : Opening) (front : List Entry) (lies : LiesBehind opening fro
   promised : (upto moment : ℕ) (before after : PassLog)
       → after ≡ log_with_promise upto moment before
       → Held size limit pass Ends IsWithin after
-      → upto ≤ end_address_of size (end_position size (front ++ order))
+      → upto ≤ end_address_of size (front_end logged (length order))
   promised upto moment before after log_is held =
       let more : FlushPromise =
       record { upto = upto; moment = moment; entries = length before.entries } in
       let all_within = subst (All IsWithin) (ap (λ (l : PassLog). l.promises) log_is) held.1 in
-      All-head IsWithin more [] (parts_all IsWithin before.promises (more ∷ []) all_within).1
+      let within =
+      All-head IsWithin more [] (parts_all IsWithin before.promises (more ∷ []) all_within).1 in
+      subst (λ (n : ℕ). upto ≤ end_address_of size n) whole_end within
 
   module _ (before after : PassState)
       (held : Held size limit pass Ends IsWithin after.log)
       (faulty : (faults : ℕ) → KnowsFault faults after → IsFault logged faults)
       (own : take (length (before.log).entries) all ≡ (before.log).entries)
-      (seen_low : after.seen ≤ end_position size (front ++ order)) where
+      (seen_low : after.seen ≤ order_end opening order) where
     abbrev behind : ℕ
     behind = behind_last_own size (first_position size) (before.log).entries
 
@@ -102,7 +108,7 @@ module _ (opening : Opening) (front : List Entry) (lies : LiesBehind opening fro
         → RefusesRecordLine size limit pass value cause reserved before after
         → MayRefuseRecord logged pass behind value cause reserved
     refuses value (Full free) None l =
-        full_cause opening front lies order last pass follows all value free before.log after.log
+        full_cause opening placed order last pass follows all value free before.log after.log
         l held.0 own
     refuses value (Full free) (Some start) l = absurd l
     refuses value (Disk faults) None l = absurd l
@@ -130,7 +136,7 @@ module _ (opening : Opening) (front : List Entry) (lies : LiesBehind opening fro
 
     fits : (asked : Asked) (told : Told) → Leaves size limit pass asked told before after
         → FitsLine logged pass behind asked told
-    fits (Insert value) (Wrote start end) l = placed value start end before.log after.log l
+    fits (Insert value) (Wrote start end) l = is_placed value start end before.log after.log l
     fits (Insert value) (Hard start end moment) l = absurd l
     fits (Insert value) (Flushed upto moment) l = absurd l
     fits (Insert value) (Async start end) l = absurd l
@@ -140,7 +146,7 @@ module _ (opening : Opening) (front : List Entry) (lies : LiesBehind opening fro
     fits (Insert value) (Refused cause reserved) l = refuses value cause reserved l
     fits (Commit value) (Wrote start end) l = absurd l
     fits (Commit value) (Hard start end moment) l =
-        placed value start end before.log l.between l.reserved
+        is_placed value start end before.log l.between l.reserved
     fits (Commit value) (Flushed upto moment) l = absurd l
     fits (Commit value) (Async start end) l = absurd l
     fits (Commit value) (Idle upto) l = absurd l
@@ -160,7 +166,7 @@ module _ (opening : Opening) (front : List Entry) (lies : LiesBehind opening fro
     fits (CommitAsync value) (Hard start end moment) l = absurd l
     fits (CommitAsync value) (Flushed upto moment) l = absurd l
     fits (CommitAsync value) (Async start end) l =
-        placed value start end before.log after.log l.reserved
+        is_placed value start end before.log after.log l.reserved
     fits (CommitAsync value) (Idle upto) l = absurd l
     fits (CommitAsync value) (Switched start end) l = absurd l
     fits (CommitAsync value) (Stayed end) l = absurd l
@@ -175,7 +181,7 @@ module _ (opening : Opening) (front : List Entry) (lies : LiesBehind opening fro
     fits WriteBehind (Idle upto) l = record {
       page = (l.behind).page;
       within = (let further = end_address_of-mono size valid after.seen
-          (end_position size (front ++ order)) seen_low in
+          (front_end logged (length order)) (omega (arith, seen_low, whole_end)) in
           omega (arith, l.reserved, further));
     }
     fits WriteBehind (Switched start end) l = absurd l
@@ -186,9 +192,9 @@ module _ (opening : Opening) (front : List Entry) (lies : LiesBehind opening fro
     fits Switch (Flushed upto moment) l = absurd l
     fits Switch (Async start end) l = absurd l
     fits Switch (Idle upto) l = absurd l
-    fits Switch (Switched start end) l = placed switch_record start end before.log after.log l
+    fits Switch (Switched start end) l = is_placed switch_record start end before.log after.log l
     fits Switch (Stayed end) l =
-        stay_cause opening front lies order last pass follows all end.0 before.log after.log l
+        stay_cause opening placed order last pass follows all end.0 before.log after.log l
         held.0 own
     fits Switch (Refused cause reserved) l = (
       refuses switch_record cause reserved
@@ -200,7 +206,7 @@ module _ (opening : Opening) (front : List Entry) (lies : LiesBehind opening fro
       → PlaysLines size limit pass before lines told after → (after.log).entries ≡ all
       → Held size limit pass Ends IsWithin after.log
       → ((faults : ℕ) → KnowsFault faults after → IsFault logged faults)
-      → after.seen ≤ end_position size (front ++ order) → TellsFrom logged pass
+      → after.seen ≤ order_end opening order → TellsFrom logged pass
       (behind_last_own size (first_position size) (before.log).entries) lines told
   tells [] [] before after plays ends held faulty seen_low = tt
   tells [] (answer ∷ told) before after plays ends held faulty seen_low = absurd plays

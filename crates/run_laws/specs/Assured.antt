@@ -6,13 +6,13 @@ use Rattle.segment_disk.specs.DiskImage.{DiskImage, LeftAt}
 use Rattle.segment_disk.specs.ImageWords.{image_word}
 use Rattle.segment_disk.specs.Tape.{DiskState, Tape, state_now}
 use Rattle.wal_page.specs.Log.{IsLawfulWord}
-use Rattle.wal_page.specs.Order.{Entry, IsChained, rooms_of}
+use Rattle.wal_page.specs.Order.{Entry, IsChained}
 use Rattle.wal_core.specs.Durable.{IsFirm}
 use Rattle.wal_core.specs.Sound.{IsSound}
 use Rattle.wal_core.specs.Suited.{IsSuited, tape_from}
 use Rattle.wal_core.specs.Views.{HasAt, Plain, View}
-use Rattle.wal_core.specs.Words.{Opening, found_end}
-use Rattle.machine_laws.specs.WholeOrders.{LiesBehind}
+use Rattle.wal_core.specs.Words.{GoesOnAtPlace, Opening, found_end, found_position, log_limit}
+use Rattle.machine_laws.specs.Crashes.{LeavesLawful}
 use Rattle.wal_script.specs.Asked.{AskedLine}
 use Rattle.told_lines.specs.declared.told.Told.{Told}
 use Rattle.told_lines.specs.Told.{EachStaysDown, IsFullAnswer, RiseInLineOrder, SomeTold, TellsAll, order_from}
@@ -20,11 +20,11 @@ use Rattle.told_lines.specs.Counts.{TellsOneFault}
 use Rattle.told_lines.specs.Moments.{EachRises}
 use Rattle.told_lines.specs.CatchingUp.{EachCatchesUp}
 use Rattle.told_lines.specs.Crash.{EachIsTimely, KeepsFound, SaysDurable, SurvivesCrashes}
-use Rattle.told_lines.specs.Rooms.{all_rooms_asked, capacity_of}
+use Rattle.told_lines.specs.Rooms.{all_rooms_asked}
 use Rattle.run_laws.specs.Ended.{HasTakenIn, logged_at_end}
 
--- the whole order: what the opening found, and behind it what the lines were told; backend b has
--- pass b + 1
+-- the whole order, where what lies below the opening's place is known entry by entry: these, and
+-- behind them what the lines were told; backend b has pass b + 1
 abbrev pub order_told : List Entry → ℕ → List (List AskedLine) → List (List Told) → List Entry
 order_told front size script lists = front ++ order_from size 1 script lists
 
@@ -55,11 +55,11 @@ pub record KeepsToldWords (opening : Opening) (order : List Entry) (lists : List
   pub told : (moment address : ℕ) → SomeTold (SaysDurable moment address) lists
       → IsFirm opening order address moment t
 
--- the run was one of the machine, with a log that was opened so behind these entries: in a state
--- that the machine's invariant allows, its order is what the lines were told, the writer at home
--- made the disk's calls, and a pass took in those of all backends, each of which played its lines
--- and was told these answers
-pub record IsMachineRun (opening : Opening) (front : List Entry) (now : Option Tape) (moment : ℕ)
+-- the run was one of the machine, with a log that was opened so: in a state that the machine's
+-- invariant allows, its order is what the lines were told, the writer at home made the disk's
+-- calls, and a pass took in those of all backends, each of which played its lines and was told
+-- these answers
+pub record IsMachineRun (opening : Opening) (now : Option Tape) (moment : ℕ)
     (script : List (List AskedLine)) (lists : List (List Told)) : Type 0 where
   pub first : DiskState
   pub words : List ℕ
@@ -73,46 +73,49 @@ pub record IsMachineRun (opening : Opening) (front : List Entry) (now : Option T
   pub moment_is : writer.moment ≡ moment
   pub here : HasAt views id view
   pub taken : HasTakenIn opening view script lists
-  pub lies : LiesBehind opening front
 
 -- the run was such a one, on a disk that had the tape `began` at the opening and has the tape `now`
 -- in the end; its lines are told of no moment before the opening's
-pub record IsRunOn (opening : Opening) (front : List Entry) (began now : Option Tape) (moment : ℕ)
+pub record IsRunOn (opening : Opening) (began now : Option Tape) (moment : ℕ)
     (script : List (List AskedLine)) (lists : List (List Told)) : Type 0 where
-  pub machine : IsMachineRun opening front now moment script lists
+  pub machine : IsMachineRun opening now moment script lists
   pub goes_on : TapeGoesOn began now
   pub moments : EachRises opening.moment script lists moment
 
--- the log was opened behind the entries `front`; the disk had the tape `began` at the opening, and
--- has the tape `now`, this moment and this count of faults in the end
-pub record RunAssures (opening : Opening) (front : List Entry) (began now : Option Tape)
-    (moment faults : ℕ) (script : List (List AskedLine)) (lists : List (List Told)) : Type 0 where
-  pub machine : IsMachineRun opening front now moment script lists
-  pub told : TellsAll (logged_at_end opening front
-      (order_told front (opening.setup).segment_size script lists) faults) 1 script lists
+-- the log was opened on a disk that had the tape `began` then, and has the tape `now`, this moment
+-- and this count of faults in the end; whatever lies below the opening's place
+pub record RunAssures (opening : Opening) (began now : Option Tape) (moment faults : ℕ)
+    (script : List (List AskedLine)) (lists : List (List Told)) : Type 0 where
+  pub machine : IsMachineRun opening now moment script lists
+  pub told : TellsAll (logged_at_end opening
+      (order_from (opening.setup).segment_size 1 script lists) faults) 1 script lists
   pub stays_down : EachStaysDown lists
   pub one_fault : TellsOneFault lists
-  pub gapless : IsChained (opening.setup).segment_size
-      (order_told front (opening.setup).segment_size script lists)
+  pub gapless : GoesOnAtPlace opening (order_from (opening.setup).segment_size 1 script lists)
   pub in_line_order : RiseInLineOrder (opening.setup).segment_size 1 script lists
   pub caught_up : EachCatchesUp script lists
   pub moments : EachRises opening.moment script lists moment
   pub goes_on : TapeGoesOn began now
+  pub firm : HoldsSuited opening began → IfSome now (KeepsToldWords opening
+      (order_from (opening.setup).segment_size 1 script lists) lists)
+  pub only_log : HoldsSuited opening began → IfSome now (LeavesLawful opening
+      (order_from (opening.setup).segment_size 1 script lists) 0 opening.moment)
+  pub no_late_receipt : HoldsSuited opening began → IfSome now
+      (λ t. EachIsTimely (opening.setup).segment_size opening.moment
+      (order_from (opening.setup).segment_size 1 script lists) t 1 script lists)
+  pub full : SomeTold IsFullAnswer lists → log_limit opening.setup
+      < found_position opening + all_rooms_asked (opening.setup).segment_size script
+
+-- .. and besides, where these entries lie below the place: what crashes leave of the whole order
+pub record AssuresBehind (opening : Opening) (front : List Entry) (began now : Option Tape)
+    (script : List (List AskedLine)) (lists : List (List Told)) : Type 0 where
+  pub gapless : IsChained (opening.setup).segment_size
+      (order_told front (opening.setup).segment_size script lists)
   pub words : HoldsSuited opening began → IfSome now (LeavesLogWords (opening.setup).segment_size
       (opening.setup).sysid (order_told front (opening.setup).segment_size script lists)
       opening.moment)
-  pub firm : HoldsSuited opening began
-      → IfSome now (KeepsToldWords opening
-      (order_from (opening.setup).segment_size 1 script lists) lists)
   pub crash : HoldsSuited opening began → IfSome now (SurvivesCrashes (opening.setup).segment_size
       opening.moment (order_told front (opening.setup).segment_size script lists) lists)
   pub keeps_found : HoldsSuited opening began → IfSome now (KeepsFound
       (opening.setup).segment_size opening.moment
       (order_told front (opening.setup).segment_size script lists) front)
-  pub no_late_receipt : HoldsSuited opening began → IfSome now
-      (λ t. EachIsTimely (opening.setup).segment_size opening.moment
-      (order_told front (opening.setup).segment_size script lists) t 1 script lists)
-  pub full : SomeTold IsFullAnswer lists
-      → capacity_of (opening.setup).segment_size (opening.setup).cap_segments
-      < rooms_of (opening.setup).segment_size front
-      + all_rooms_asked (opening.setup).segment_size script

@@ -1,10 +1,8 @@
 -- A run of several backends whose log was closed.
 use Rattle.std.specs.Prelude.{◌≡◌, ◌⊎◌, ℕ, ◌^◌, ◌<◌, Contains, List, length, IfSome, Option}
 use Rattle.segment_disk.specs.Tape.{Tape}
-use Rattle.wal_page.specs.Order.{Entry}
 use Rattle.wal_core.specs.Words.{Opening}
 use Rattle.wal_core.specs.Views.{FlushPromise, View}
-use Rattle.machine_laws.specs.WholeOrders.{LiesBehind}
 use Rattle.wal_rule.specs.Closing.{ClosesWith}
 use Rattle.wal_rule.specs.Downs.{KnowsDown}
 use Rattle.wal_rule.specs.declared.writer.LogWriter.{LogWriter}
@@ -22,12 +20,10 @@ HasFlushedAll size lists v =
 -- a log was closed by this pass, with this writer and this number of the position; the pass had
 -- taken in those that played the script; `began` is the disk's tape at the opening
 pub record IsRunClosed {D : Type 0} (tape : D → Option Tape) (moment faults : D → ℕ)
-    (began : Option Tape) (opening : Opening) (front : List Entry) (v : View) (w : LogWriter D)
-    (position : ℕ) (script : List (List AskedLine)) (lists : List (List Told)) : Type 0 where
+    (began : Option Tape) (opening : Opening) (v : View) (w : LogWriter D) (position : ℕ)
+    (script : List (List AskedLine)) (lists : List (List Told)) : Type 0 where
   pub closes : ClosesWith tape moment faults began opening v w position
   pub taken : HasTakenIn opening v script lists
   -- a page tells the system id in eight bytes
   pub narrow : (opening.setup).sysid < 2 ^ 64
   pub counted : IfSome began (λ t. opening.moment ≡ length t.calls)
-  -- what the opening found, behind which the log went on
-  pub lies : LiesBehind opening front

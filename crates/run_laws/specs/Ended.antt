@@ -8,8 +8,7 @@ use Rattle.wal_page.specs.Order.{Entry}
 use Rattle.wal_script.specs.Asked.{AskedLine}
 use Rattle.told_lines.specs.declared.told.Told.{Told}
 use Rattle.told_lines.specs.Told.{Logged}
-use Rattle.told_lines.specs.Rooms.{capacity_of}
-use Rattle.wal_core.specs.Words.{Opening, log_limit}
+use Rattle.wal_core.specs.Words.{Opening, found_position, log_limit}
 use Rattle.wal_core.specs.Views.{HasAt, Plain, View}
 use Rattle.wal_core.specs.Moves.{joined_of}
 use Rattle.wal_core.specs.Sound.{IsSound}
@@ -66,13 +65,13 @@ pub record HasTakenIn (opening : Opening) (v : View) (script : List (List AskedL
   pub played : PlayedAll (opening.setup).segment_size (log_limit opening.setup) 1 script lists
       others
 
--- the log that lines are told of, with what its opening found and its whole order, where its disk's
--- count of faults was `last` at the end
-abbrev pub logged_at_end : Opening → (front order : List Entry) → ℕ → Logged
-logged_at_end opening front order last = record {
+-- the log that lines are told of, with its order since the opening, where its disk's count of
+-- faults was `last` at the end
+abbrev pub logged_at_end : Opening → (order : List Entry) → ℕ → Logged
+logged_at_end opening order last = record {
   size = (opening.setup).segment_size;
-  capacity = capacity_of (opening.setup).segment_size (opening.setup).cap_segments;
-  found = front;
+  limit = log_limit opening.setup;
+  start = found_position opening;
   order = order;
   faults_at_open = opening.faults;
   last = last;

@@ -5,3 +5,8 @@ pub mod Reached
 pub mod Latest
 pub mod ClosedRuns
 pub mod Assured
+pub mod Closed
+pub mod Surviving
+pub mod Timely
+pub mod Whole
+pub mod Rising

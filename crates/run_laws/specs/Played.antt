@@ -251,7 +251,8 @@ module _ (size limit pass : ℕ) where
   KeepsAsync other before after = Unit {0}
 
   -- the record asked for can be inserted; the async address that the pass met does not fall, and by
-  -- such a line it stays; nor does what it saw reserved fall; and where the pass knew a fault, it is told again and nothing else
+  -- such a line it stays; nor does what it saw reserved fall; and where the pass knew a fault, it
+  -- is told again and nothing else
   pub record PlaysLine (asked : Asked) (told : Told) (before after : PassState) : Type 0 where
     pub writable : AsksWritable asked
     pub leaves : Leaves asked told before after

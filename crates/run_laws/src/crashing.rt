@@ -10,7 +10,7 @@ ghost use Rattle.told_lines.specs.Crash.{EachIsTimely, SurvivesCrashes};
 ghost use Rattle.wal_core.specs.Words.{Opening};
 ghost use Rattle.wal_core.specs.Views.{View};
 ghost use Rattle.machine_laws.specs.WholeOrders.{LiesBehind};
-ghost use Rattle.closed_log.specs.Closed.{IsClosedOn};
+ghost use Rattle.run_laws.specs.Closed.{IsClosedOn};
 ghost use Rattle.run_laws.specs.Ended.{HasTakenIn};
 
 /// Whatever a crash leaves, at any moment since the opening, reads as a front of the whole order,

@@ -3,14 +3,13 @@
 
 ghost use Rattle.std.specs.Prelude.{◌≡◌, ℕ, ◌+◌, ◌++◌, ◌^◌, ◌<◌, ◌≤◌, Contains, IfSome, List};
 ghost use mathlib.Core.Option.{none};
-ghost use Rattle.byte_position.specs.Position.{end_address_of};
-ghost use Rattle.wal_page.specs.Order.{Entry, end_position, rooms_of};
+ghost use Rattle.wal_page.specs.Order.{Entry};
 ghost use Rattle.wal_script.specs.Asked.{AskedLine};
 ghost use Rattle.told_lines.specs.declared.told.Told.{Told};
 ghost use Rattle.told_lines.specs.Told.{IsFullAnswer, IsRefused, SomeTold};
-ghost use Rattle.told_lines.specs.Rooms.{all_rooms_asked, capacity_of};
+ghost use Rattle.told_lines.specs.Rooms.{all_rooms_asked};
 ghost use Rattle.told_lines.specs.Whole.{IsWhole};
-ghost use Rattle.wal_core.specs.Words.{Opening, flushed_word};
+ghost use Rattle.wal_core.specs.Words.{Opening, end_form, flushed_word, found_position, log_limit, order_end};
 ghost use Rattle.wal_core.specs.Views.{FlushPromise, View};
 ghost use Rattle.wal_core.specs.Suited.{BeganSuited, tape_from};
 ghost use Rattle.machine_laws.specs.WholeOrders.{LiesBehind};
@@ -25,29 +24,25 @@ pub fn refusals_without_a_fault()
         → (c.writer).fault ≡ none → SomeTold IsRefused lists → SomeTold IsFullAnswer lists }
 {}
 
-/// Where a line found the log full, what was found and the script's records take up more than the
-/// log has for records, on any disk.
+/// Where a line found the log full, the script's records take up more than the log has for records
+/// behind the place at which it was opened, on any disk.
 pub fn full_logs_have_too_much_asked_of_them()
     ensures more { (opening : Opening) (order : List Entry) (v : View)
-        → IsClosedLog opening order v → (front : List Entry) → LiesBehind opening front
-        → (script : List (List AskedLine)) (lists : List (List Told))
-        → HasTakenIn opening v script lists → SomeTold IsFullAnswer lists
-        → capacity_of (opening.setup).segment_size (opening.setup).cap_segments
-        < rooms_of (opening.setup).segment_size front
-        + all_rooms_asked (opening.setup).segment_size script }
+        → IsClosedLog opening order v → (script : List (List AskedLine))
+        (lists : List (List Told)) → HasTakenIn opening v script lists
+        → SomeTold IsFullAnswer lists → log_limit opening.setup
+        < found_position opening + all_rooms_asked (opening.setup).segment_size script }
 {}
 
 /// Where the disk did not fail, a promise to the first pass of all that the lines were told of
 /// leaves all of the order flushed: what was found is so from the opening on.
 pub fn last_flush_reaches()
     ensures reach { (opening : Opening) (order : List Entry) (v : View)
-        (c : IsClosedLog opening order v) (front : List Entry) → LiesBehind opening front
-        → (script : List (List AskedLine)) (lists : List (List Told))
-        → HasTakenIn opening v script lists → (c.writer).fault ≡ none
+        (c : IsClosedLog opening order v) (script : List (List AskedLine))
+        (lists : List (List Told)) → HasTakenIn opening v script lists → (c.writer).fault ≡ none
         → (p : FlushPromise) → Contains (v.writing).promises p
         → ReachesAll (opening.setup).segment_size p.upto lists
-        → end_address_of (opening.setup).segment_size
-        (end_position (opening.setup).segment_size (front ++ order)) ≤ flushed_word c.words }
+        → end_form opening.setup (order_end opening order) ≤ flushed_word c.words }
 {}
 
 /// Then, where the disk tells what it holds, and held what a log may begin on, all of the order is

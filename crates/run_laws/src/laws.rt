@@ -7,7 +7,8 @@ ghost use Rattle.segment_disk.specs.Cause.{Rose};
 ghost use Rattle.byte_position.specs.Geometry.{IsSegmentSize};
 ghost use Rattle.byte_position.specs.Position.{first_position};
 ghost use Rattle.wal_types.specs.declared.record.Record.{Record};
-ghost use Rattle.wal_page.specs.Order.{Entry, IsChained, end_position};
+ghost use Rattle.wal_page.specs.LogPlace.{IsPlace};
+ghost use Rattle.wal_page.specs.Order.{Entry, FollowsFrom, rooms_of};
 ghost use Rattle.wal_script.specs.Asked.{AskedLine};
 ghost use Rattle.told_lines.specs.declared.told.Told.{Told};
 ghost use Rattle.told_lines.specs.Counts.{TellsOneFault, own_faults_of, reserved_count};
@@ -20,7 +21,6 @@ ghost use Rattle.wal_core.specs.Moves.{after_join};
 ghost use Rattle.wal_core.specs.Sound.{IsSound};
 ghost use Rattle.wal_core.specs.Ordered.{entries_under, FrontEndsAt};
 ghost use Rattle.machine_laws.specs.ClosedLogs.{IsLastPass};
-ghost use Rattle.machine_laws.specs.WholeOrders.{LiesBehind};
 ghost use Rattle.wal_core.specs.PassLogs.{PassLog};
 ghost use Rattle.run_laws.specs.Counted.{all_reserved_count};
 ghost use Rattle.run_laws.specs.Played.{AddsFull, KnowsFault, PassState, PlaysAllLines, PlaysLine, PlaysLines, behind_last_own, pass_state_of};
@@ -90,7 +90,7 @@ pub fn faults_are_told_again()
         (lists : List (List Told)) → HasTakenIn opening v script lists → EachStaysDown lists }
 {}
 
-/// The order behind what was found is that of what the script's lines are told.
+/// The order since the opening is that of what the script's lines are told.
 pub fn orders_are_told()
     ensures order { (opening : Opening) (order : List Entry) (v : View)
         → IsClosedLog opening order v → (script : List (List AskedLine))
@@ -106,15 +106,17 @@ pub fn lines_are_told_in_order()
         → RiseInLineOrder (opening.setup).segment_size 1 script lists }
 {}
 
-/// What one pass has in a front of an order ends no later than the front.
+/// What one pass has in an order from a position on ends no later than the order, for a pass that
+/// has nothing there too: where it ended before, no later than that position.
 pub fn own_entries_end_within()
-    ensures within { (size number : ℕ) (front : List Entry) → IsChained size front
-        → behind_last_own size (first_position size) (entries_under number front)
-        ≤ end_position size front }
+    ensures within { (size number position behind : ℕ) (order : List Entry)
+        → FollowsFrom size position order → behind ≤ position
+        → behind_last_own size behind (entries_under number order)
+        ≤ position + rooms_of size order }
 {}
 
-/// There are as many entries behind what was found as answers that say that a record was reserved:
-/// of all backends together, and of each.
+/// There are as many entries since the opening as answers that say that a record was reserved: of
+/// all backends together, and of each.
 pub fn records_are_counted()
     ensures all { (opening : Opening) (order : List Entry) (v : View)
         → IsClosedLog opening order v → (script : List (List AskedLine))
@@ -137,17 +139,16 @@ pub fn faults_are_told_once()
 {}
 
 /// A line that is told that the log is full had too few bytes left behind a front of the order,
-/// which has all that was found, what the line's pass had reserved, and nothing that it reserved
-/// later.
+/// which has what the line's pass had reserved, and nothing that it reserved later.
 pub fn full_has_its_cause()
-    ensures cause { (opening : Opening) (front : List Entry) → LiesBehind opening front
+    ensures cause { (opening : Opening) → IsPlace (opening.setup).segment_size opening.place
         → (order : List Entry) (last pass : ℕ) → GoesOnAtPlace opening order
         → (all : List Entry) (value : Record) (free : ℕ) (before after : PassLog)
         → AddsFull (opening.setup).segment_size (log_limit opening.setup) pass value free
         before after
         → All (FrontEndsAt opening pass order all) after.stops
         → take (length before.entries) all ≡ before.entries
-        → MayBeFull (logged_at_end opening front (front ++ order) last) pass
+        → MayBeFull (logged_at_end opening order last) pass
         (behind_last_own (opening.setup).segment_size
         (first_position (opening.setup).segment_size) before.entries) value free }
 {}
@@ -156,9 +157,8 @@ pub fn full_has_its_cause()
 /// that the writer met, where it met one.
 pub fn lines_are_told_as_they_may_be()
     ensures tells { (opening : Opening) (order : List Entry) (v : View)
-        (c : IsClosedLog opening order v) (front : List Entry) → LiesBehind opening front
-        → (script : List (List AskedLine)) (lists : List (List Told))
-        → HasTakenIn opening v script lists → (last : ℕ)
+        (c : IsClosedLog opening order v) (script : List (List AskedLine))
+        (lists : List (List Told)) → HasTakenIn opening v script lists → (last : ℕ)
         → ((faults : ℕ) → (c.writer).fault ≡ some faults → faults ≤ last)
-        → TellsAll (logged_at_end opening front (front ++ order) last) 1 script lists }
+        → TellsAll (logged_at_end opening order last) 1 script lists }
 {}

@@ -24,9 +24,10 @@ impl<R: Files + Alloc + Clone + Drop> FileDisk<R>
 where
     R::File: FileExt + Lockable,
 {
-    /// Takes its room, and touches no file. A writer makes the folder, where it is missing, and locks
-    /// it by its first call; where another one has it, that call fails, and may be made again. The
-    /// number of the process is part of the names that its files have while they are made.
+    /// Takes its room, and touches no file. A writer makes the folder, where it is missing, and
+    /// locks it by its first call; where another one has it, that call fails, and may be made
+    /// again. The number of the process is part of the names that its files have while they are
+    /// made.
     pub fn open(
         rt: R,
         alloc: Global,

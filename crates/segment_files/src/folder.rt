@@ -155,8 +155,8 @@ where
     }
 
     // Locks the folder, which is made where it is missing, until it is closed. The system closes it
-    // where the process ends, however that comes: a killed one leaves no lock. A call of its own, so
-    // that the other calls make no room for it.
+    // where the process ends, however that comes: a killed one leaves no lock. A call of its own,
+    // so that the other calls make no room for it.
     #[inline(never)]
     fn lock(&mut self) -> io::Result<()>
         ensures stays { IsTrue self.old.has_failed → IsTrue self.new.has_failed }
@@ -262,7 +262,8 @@ impl<R: Files + Alloc + Clone + Drop> Folder<R> {
         Ok(())
     }
 
-    // Fails where the folder has a file of a later segment. Names that are no text are no segment's.
+    // Fails where the folder has a file of a later segment. Names that are no text are no
+    // segment's.
     fn check_last(&self, geometry: Geometry, segment: u64) -> io::Result<()>
         requires { segment < 2 ^ 64 / geometry }
     {

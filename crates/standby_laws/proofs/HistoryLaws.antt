@@ -24,7 +24,7 @@ use Rattle.wal_stream.specs.declared.standby.Standby.{Standby}
 use Rattle.wal_stream.proofs.FollowLaws.{never_diverges}
 use Rattle.reopened_log.specs.Again.{IsLeftByCrash}
 use Rattle.reopened_log.specs.StopsAt.{StopsAt}
-use Rattle.standby_laws.specs.History.{Closed, IsFoundSince, KeepsStandbyPromises, Lived, NoneTornRead, Open, ReachesEntries, Standing, begins, closes, crashes, disk_standing, fails_to_harden, fails_to_open, hardens, is_killed, is_offered, opens, told_by, told_since}
+use Rattle.standby_laws.specs.History.{Closed, IsFoundSince, KeepsStandbyPromises, Lived, NoneTornRead, Open, ReachesEntries, StandbyState, begins, closes, crashes, disk_standing, fails_to_harden, fails_to_open, hardens, is_killed, is_offered, opens, told_by, told_since}
 use Rattle.standby_laws.proofs.Holding.{HoldsOrder, IsHeld, held_crashed, held_stopped, image_held, image_lawful, order_begun, order_crashed, order_stopped}
 use Rattle.standby_laws.proofs.OpenSteps.{HoldsClosed, HoldsOpen, IsHeldBy, is_closed, open_promises, open_with, step_hardened, step_open}
 use Rattle.standby_laws.proofs.OpenedAgain.{opened_follows, opened_held, opened_in_turn, opened_keeps, opened_order, quiet_held, told_now}
@@ -65,7 +65,7 @@ module _ {D : Type 0} (tape : D → Option Tape) (moment faults : D → ℕ)
   abbrev ClosedSo : ℕ → List (ℕ × ℕ) → D → Type 0
   ClosedSo since told disk = HoldsClosed tape moment faults size sysid es since told disk
 
-  abbrev Holds : ℕ → List (ℕ × ℕ) → Standing D → Type 0
+  abbrev Holds : ℕ → List (ℕ × ℕ) → StandbyState D → Type 0
   Holds since told (Closed disk) = ClosedSo since told disk
   Holds since told (Open s) = OpenSo since told s
 
@@ -73,7 +73,7 @@ module _ {D : Type 0} (tape : D → Option Tape) (moment faults : D → ℕ)
   counted disk t told =
       subst (λ (o : Option Tape). IfSome o (λ t. moment disk ≡ length t.calls)) told (counts disk)
 
-  any_closed : (since : ℕ) (told : List (ℕ × ℕ)) (standing : Standing D)
+  any_closed : (since : ℕ) (told : List (ℕ × ℕ)) (standing : StandbyState D)
       → Holds since told standing → ClosedSo since told (disk_standing standing)
   any_closed since told (Closed disk) holds = holds
   any_closed since told (Open s) holds =
@@ -86,7 +86,7 @@ module _ {D : Type 0} (tape : D → Option Tape) (moment faults : D → ℕ)
 
   abbrev opened : (since : ℕ) (told : List (ℕ × ℕ)) (cap : ℕ) (disk : D) (s : Standby D)
       → ClosedSo since told disk → cap ≤ 4096 → NoneTornRead size es (tape disk)
-      → StandsAtFound tape moment faults size sysid cap disk s → OpenSo since told s
+      → StandsAtFound tape moment faults size cap disk s → OpenSo since told s
   opened since told cap disk s was few none_torn stands =
       let t = was.t in
       let torn = subst (λ (o : Option Tape). NoneTornRead size es o) was.told_tape none_torn in
@@ -110,7 +110,7 @@ module _ {D : Type 0} (tape : D → Option Tape) (moment faults : D → ℕ)
 
   found_holds : (since : ℕ) (told : List (ℕ × ℕ)) (cap from : ℕ) (disk : D) (s : Standby D)
       → ClosedSo since told disk → cap ≤ 4096 → NoneTornRead size es (tape disk)
-      → StandsAtFound tape moment faults size sysid cap disk s
+      → StandsAtFound tape moment faults size cap disk s
       → IsFoundSince tape moment disk (standby_disk s) from
       → OpenSo since (told ++ (from, standby_end s) ∷ []) s
   found_holds since told cap from disk s was few none_torn stands (inl now) =
@@ -145,13 +145,13 @@ module _ {D : Type 0} (tape : D → Option Tape) (moment faults : D → ℕ)
 
   begun : (since : ℕ) (told : List (ℕ × ℕ)) (cap : ℕ) (disk refused : D)
       → ClosedSo since told disk → cap ≤ 4096 → NoneTornRead size es (tape disk)
-      → HasBegunToSettle size sysid cap (tape disk) (tape refused) (moment disk) (moment refused)
+      → HasBegunToSettle size cap (tape disk) (tape refused) (moment disk) (moment refused)
       → ClosedSo since told refused
   begun since told cap disk refused was few none_torn stops =
       let torn = subst (λ (o : Option Tape). NoneTornRead size es o) was.told_tape none_torn in
       let stopped = stopped_settling size sysid es since was.t was.order torn cap (moment disk)
       (moment refused) (tape refused) few
-      (subst (λ (o : Option Tape). HasBegunToSettle size sysid cap o (tape refused) (moment disk)
+      (subst (λ (o : Option Tape). HasBegunToSettle size cap o (tape refused) (moment disk)
       (moment refused)) was.told_tape stops) in
       record {
         t = stopped.0;
@@ -163,7 +163,7 @@ module _ {D : Type 0} (tape : D → Option Tape) (moment faults : D → ℕ)
 
   unsettled : (since : ℕ) (told : List (ℕ × ℕ)) (cap : ℕ) (disk refused : D) (fault : FindFault)
       → ClosedSo since told disk → cap ≤ 4096 → NoneTornRead size es (tape disk)
-      → LeavesUnsettled size sysid cap (tape disk) (tape refused) (moment disk) (moment refused)
+      → LeavesUnsettled size cap (tape disk) (tape refused) (moment disk) (moment refused)
       fault
       → ClosedSo since told refused
   unsettled since told cap disk refused Memory was few none_torn none =
@@ -221,7 +221,7 @@ module _ {D : Type 0} (tape : D → Option Tape) (moment faults : D → ℕ)
 
   -- ---- all of it
 
-  pub lived_holds : (since : ℕ) (told : List (ℕ × ℕ)) (standing : Standing D)
+  pub lived_holds : (since : ℕ) (told : List (ℕ × ℕ)) (standing : StandbyState D)
       → Lived tape moment faults size sysid es since told standing → Holds since told standing
   lived_holds _ _ _ (begins disk t told_t may) = record {
     t = t;
@@ -301,13 +301,13 @@ module _ {D : Type 0} (tape : D → Option Tape) (moment faults : D → ℕ)
         × All (λ promise. promise.0 ≤ at → IsFrontUpto size es promise.1 found) told))
         (sym was.told_tape) left_here
 
-  pub promises_are_kept : (since : ℕ) (told : List (ℕ × ℕ)) (standing : Standing D)
+  pub promises_are_kept : (since : ℕ) (told : List (ℕ × ℕ)) (standing : StandbyState D)
       → Lived tape moment faults size sysid es since told standing
       → KeepsStandbyPromises tape size sysid es since told standing
   promises_are_kept since told standing lived =
       kept since told standing (lived_holds since told standing lived)
     where
-      kept : (since : ℕ) (told : List (ℕ × ℕ)) (standing : Standing D)
+      kept : (since : ℕ) (told : List (ℕ × ℕ)) (standing : StandbyState D)
           → Holds since told standing → KeepsStandbyPromises tape size sysid es since told standing
       kept since told (Closed disk) was = record {
         left = all_left since told disk was;

@@ -1,11 +1,11 @@
 -- What is found of a log on a disk that holds nothing else.
-use Rattle.std.proofs.Common.{◌≡◌, ℕ, zero, suc, ◌+◌, ◌*◌, ◌/◌, ◌^◌, ◌<◌, ◌≤◌, All, List, [], ◌∷◌, length, take, drop, Some, None, refl, sym, ap, subst, ◌∙◌, arith, take-append-drop}
+use Rattle.std.proofs.Common.{◌≡◌, ℕ, zero, suc, ◌+◌, ◌*◌, ◌/◌, ◌%◌, ◌^◌, ◌<◌, ◌≤◌, List, [], ◌∷◌, take, drop, Some, None, refl, sym, ap, subst, ◌∙◌, arith, take-append-drop}
 use Rattle.std.specs.Prelude.{slice_get}
-use Rattle.std.proofs.Math.Seq.{take-length}
 use Rattle.byte_position.specs.Geometry.{IsSegmentSize, pages_of}
-use Rattle.byte_position.specs.Position.{end_address_of}
+use Rattle.byte_position.specs.Position.{end_address_of, first_position}
 use Rattle.byte_position.proofs.EndAddresses.{end_address_of-mono}
 use Rattle.byte_position.proofs.SegmentSizes.{segment_size_in_pages}
+use Rattle.byte_position.proofs.Words.{end_address_of-mod_word}
 use Rattle.segment_disk.specs.Assured.{StateAssures}
 use Rattle.segment_disk.specs.DiskImage.{image_as_read}
 use Rattle.segment_disk.specs.Tape.{DiskState, Tape, state_now}
@@ -13,20 +13,21 @@ use Rattle.flush_core.specs.Settled.{HaveWholePages, IsAmong, IsAsRead}
 use Rattle.flush_core.specs.SettledLog.{AreOnly, IsLogWord, IsZeroOrLogWord}
 use Rattle.wal_page.specs.Order.{Entry, FollowsFrom, IsChained, end_position, finish_of, position_behind, rooms_of}
 use Rattle.wal_page.specs.Log.{log_byte, log_word}
+use Rattle.wal_page.specs.LogPlace.{LogPlace}
 use Rattle.wal_page.proofs.OrderLaws.{rooms_of_cons}
+use Rattle.wal_page.proofs.OwnerLaws.{end_position-whole}
+use Rattle.wal_page.proofs.WordPositions.{end_address_of-first_position}
 use Rattle.wal_reader.specs.declared.found.Answer.{Answer}
 use Rattle.wal_reader.specs.declared.found.FoundRecord.{FoundRecord}
 use Rattle.wal_reader.specs.Decodes.{Decodes}
 use Rattle.wal_reader.specs.Pages.{pages_in}
-use Rattle.written_log.specs.FoundLog.{HasFound, ReadsAsFound, end_behind}
-use Rattle.written_log.specs.Written.{found_of}
-use Rattle.written_log.proofs.FoundImages.{end_of_front}
+use Rattle.written_log.specs.FoundLog.{ReadsUntorn, ReadsFirstEntries, end_behind}
+use Rattle.written_log.proofs.FoundImages.{chained_front}
 use Rattle.written_log.proofs.FoundLogs.{found_logs_read_as_log}
 use Rattle.written_log.proofs.LawfulLaws.{log_byte-front}
 use Rattle.written_log.specs.Torn.{NoTornPass}
 use Rattle.wal_stream.specs.FollowedLog.{IsLogOrder}
-use Rattle.found_log.specs.Found.{IsFound}
-use Rattle.reopened_log.proofs.FirstEntries.{same_as_read, same_words}
+use Rattle.found_log.specs.Found.{IsDiskLog}
 use Rattle.reopened_log.proofs.SuitedDisks.{same_count}
 use Rattle.standby_laws.proofs.Holding.{HasFirstSegments}
 
@@ -72,7 +73,7 @@ module _ (size sysid : ℕ) (es : List Entry) (left : Tape) (o : ReadsOrder size
   abbrev pub count : ℕ
   count = o.segments.count
 
-  pub has_found : (found : List FoundRecord) (answer : Answer) → Decodes size (pages_in size (image_as_read (state_now left))) size None found answer → HasFound size sysid o.segments.count es (state_now left) found
+  pub has_found : (found : List FoundRecord) (answer : Answer) → Decodes size (pages_in size (image_as_read (state_now left))) size None found answer → ReadsUntorn size sysid o.segments.count es (state_now left) found
   has_found found answer decodes = record {
     may = record { valid = o.order.valid; known = o.order.known; narrow = o.order.narrow; chained = o.order.chained; bounded = o.order.bounded; lawful = o.lawful };
     none_torn = o.none_torn;
@@ -80,14 +81,15 @@ module _ (size sysid : ℕ) (es : List Entry) (left : Tape) (o : ReadsOrder size
     decodes = decodes;
   }
 
-  -- ---- these entries were found
+  -- ---- these records were found
 
-  module _ (cap made end : ℕ) (fs : List Entry) (found : IsFound size sysid cap fs made left) (chained : IsChained size fs) (end_is : end ≡ end_address_of size (end_position size fs)) where
-    pub has : HasFound size sysid o.segments.count es (state_now left) (found_of size fs)
-    has = has_found (found_of size fs) found.own.answer found.own.decodes
+  module _ (cap made end : ℕ) (records : List FoundRecord) (place : LogPlace)
+      (found : IsDiskLog size cap records place made left) (end_is : end ≡ end_behind size records) where
+    pub has : ReadsUntorn size sysid o.segments.count es (state_now left) records
+    has = has_found records found.ends.answer found.ends.decodes
 
-    pub read : ReadsAsFound size sysid o.segments.count es (state_now left) (found_of size fs)
-    read = found_logs_read_as_log size sysid count es before (found_of size fs) has
+    pub read : ReadsFirstEntries size sysid o.segments.count es (state_now left) records
+    read = found_logs_read_as_log size sysid count es before records has
 
     pub count_is : o.segments.count ≡ made
     count_is =
@@ -96,22 +98,26 @@ module _ (size sysid : ℕ) (es : List Entry) (left : Tape) (o : ReadsOrder size
     pub only_made : AreOnly made (state_now left)
     only_made = subst (λ (n : ℕ). AreOnly n before) count_is o.segments.only
 
-    pub found_end : end_behind size (found_of size fs) ≡ end
-    found_end =
-        let all : fs ≡ take (length fs) fs = sym (take-length fs) in
-        end_of_front size fs (length fs) (found_of size fs) o.order.valid chained (ap (found_of size) all) ∙ ap (λ (l : List Entry). end_address_of size (end_position size l)) (sym all) ∙ sym end_is
-
     -- the end is that of so many of the order's entries
     pub front_end : end ≡ end_address_of size (end_position size (take read.among es))
-    front_end = sym found_end ∙ read.end_is
+    front_end = end_is ∙ read.end_is
+
+    pub end_whole : end % 8 ≡ 0
+    end_whole =
+        let front = take read.among es in
+        let chained = chained_front size sysid es o.order.valid o.order.known o.order.narrow o.order.chained o.order.bounded read.among in
+        ap (λ (n : ℕ). n % 8) front_end
+        ∙ end_address_of-mod_word size o.order.valid (end_position size front) (end_position-whole size o.order.valid front chained)
+
+    pub end_from : size ≤ end
+    end_from = omega (
+      arith,
+      front_end,
+      end_address_of-mono size o.order.valid (first_position size) (end_position size (take read.among es)) (omega arith),
+      end_address_of-first_position size o.order.valid,
+    )
 
     -- what is read below the end is the log's
     pub read_below : (number word : ℕ) (bytes : List ℕ) → IsAmong made (number / pages_of size) → word < 1024 → number * 8192 + 8 * word < end → IsAsRead size (state_now left) number word bytes → IsLogWord size sysid es number word bytes
     read_below number word bytes among low below is =
-        read.reads number word bytes (subst (λ (n : ℕ). IsAmong n (number / pages_of size)) (sym count_is) among) low (omega (arith, below, found_end)) is
-
-    -- and so is what is spelled there
-    pub spelled_below : All (λ e. e.pass ≡ None) fs → (a : ℕ) → a + 8 ≤ end → log_word size sysid fs a ≡ log_word size sysid es a
-    spelled_below nobodys a below =
-        let same = same_as_read size sysid count es fs before (found_of size fs) has read chained nobodys refl in
-        same_words size sysid fs (take read.among es) same a ∙ sym (word_of_front size sysid o.order.valid es read.among o.order.chained a (omega (arith, below, front_end)))
+        read.reads number word bytes (subst (λ (n : ℕ). IsAmong n (number / pages_of size)) (sym count_is) among) low (omega (arith, below, end_is)) is

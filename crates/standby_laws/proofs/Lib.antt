@@ -6,6 +6,7 @@ pub mod StepsInTurn
 pub mod AgainPages
 pub mod Holding
 pub mod LeftLogs
+pub mod EndPages
 pub mod Settling
 pub mod OpenedAgain
 pub mod WholeCalls

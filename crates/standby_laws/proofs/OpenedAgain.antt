@@ -1,14 +1,11 @@
 -- A standby that is opened on a disk that holds nothing but words of one log follows that log,
 -- whatever waits for a sync there.
 use Rattle.std.proofs.Common.{◌≡◌, ℕ, ◌+◌, ◌*◌, ◌/◌, ◌%◌, ◌<◌, ◌≤◌, inl, inr, List, [], ◌++◌, length, Option, Some, None, IfSome, refl, sym, ap, subst, ◌∙◌, arith}
-use Rattle.std.specs.Int.{w64, to_le_bytes}
 use Rattle.std.specs.List.{AllByRecursion}
 use Rattle.std.specs.Option.{IsSomeAnd}
-use Rattle.std.specs.Prelude.{IsSome, slice_index}
+use Rattle.std.specs.Prelude.{IsSome}
 use Rattle.std.proofs.lemmas.Bool.{cases_lt}
 use Rattle.byte_position.specs.Geometry.{IsSegmentSize, pages_of}
-use Rattle.byte_position.specs.Position.{end_address_of, first_position}
-use Rattle.byte_position.proofs.EndAddresses.{end_address_of-mono}
 use Rattle.segment_disk.specs.declared.disk.Call.{Call}
 use Rattle.segment_disk.specs.Assured.{CallFits, IsMadeUpto, IsNowhere, SegmentAssures, StateAssures, TapeAssures}
 use Rattle.segment_disk.specs.DiskImage.{image_as_read, word_of}
@@ -21,11 +18,11 @@ use Rattle.flush_core.specs.Writer.{HoldsLogPages, writer_segment_size}
 use Rattle.flush_core.proofs.GrowingTapes.{with_calls-some}
 use Rattle.flush_core.proofs.SettledLeft.{at_number}
 use Rattle.flush_core.proofs.SettledPages.{after_calls-append}
-use Rattle.found_log.specs.Found.{FindsLog, IsFound}
-use Rattle.found_log.specs.Spelled.{spelled_entries}
-use Rattle.wal_page.specs.Order.{Entry, IsChained, end_position}
-use Rattle.wal_page.specs.Log.{log_word}
-use Rattle.wal_page.proofs.WordPositions.{end_address_of-first_position}
+use Rattle.found_log.specs.Found.{FindsLog, IsDiskLog, place_of_log}
+use Rattle.record_spelling.specs.Spelling.{word_at}
+use Rattle.wal_page.specs.Order.{Entry}
+use Rattle.wal_page.specs.LogPlace.{LogPlace}
+use Rattle.wal_reader.specs.declared.found.FoundRecord.{FoundRecord}
 use Rattle.wal_reader.specs.Pages.{pages_in}
 use Rattle.written_log.specs.SettledFound.{NothingWaits}
 use Rattle.written_log.specs.Torn.{NoTornPass}
@@ -35,11 +32,12 @@ use Rattle.wal_stream.specs.Standby.{HasResumed, own_page, standby_disk, standby
 use Rattle.wal_stream.specs.declared.standby.Standby.{Standby}
 use Rattle.reopened_log.proofs.SettlingCalls.{Settles, all_settle}
 use Rattle.standby_laws.proofs.AgainPages.{holds_log_pages, settled_pages, stands_read, word_below}
+use Rattle.standby_laws.proofs.EndPages.{own_word}
 use Rattle.standby_laws.proofs.Holding.{HoldsOrder, IsHeld, IsLogBelow, KeepsUpto, pages_now, words_now}
-use Rattle.standby_laws.proofs.LeftLogs.{ReadsOrder, only_made, read_below, spelled_below}
+use Rattle.standby_laws.proofs.LeftLogs.{ReadsOrder, end_from, end_whole, only_made, read_below}
 use Rattle.standby_laws.proofs.LogPages.{log_is_put, log_pages, log_puts, page_word, put_is_log}
 use Rattle.standby_laws.proofs.Moments.{assures_tape, runs_from}
-use Rattle.standby_laws.proofs.Settling.{end_whole, held_settled, keeps_settled, last_is, order_settled, reads_order, turn_settled}
+use Rattle.standby_laws.proofs.Settling.{held_settled, keeps_settled, last_is, order_settled, reads_order, turn_settled}
 use Rattle.standby_laws.proofs.Turns.{HasSegmentsInTurn, MakesInTurn}
 use Rattle.standby_laws.proofs.Weaker.{TapeAssures-within}
 
@@ -79,15 +77,18 @@ module _ {D : Type 0} (tape : D → Option Tape) (moment faults : D → ℕ) (si
     (es : List Entry) (since : ℕ) (t : Tape) (h : HoldsOrder size sysid es since t) (disk : D)
     (s : Standby D) (few : cap ≤ 4096) (told : tape disk ≡ Some t)
     (none_torn : NoTornPass size (pages_in size (image_as_read (state_now t))) es)
-    (stands : StandsAtFound tape moment faults size sysid cap disk s) where
-  abbrev fs : List Entry
-  fs = spelled_entries stands.log.spelled
+    (stands : StandsAtFound tape moment faults size cap disk s) where
+  abbrev records : List FoundRecord
+  records = stands.found.records
+
+  abbrev place : LogPlace
+  place = place_of_log stands.log
 
   abbrev made : ℕ
   made = stands.log.made
 
   abbrev end : ℕ
-  end = stands.log.spelled.end.0
+  end = stands.log.end.0
 
   abbrev before : DiskState
   before = state_now t
@@ -98,29 +99,18 @@ module _ {D : Type 0} (tape : D → Option Tape) (moment faults : D → ℕ) (si
   abbrev o : ReadsOrder size sysid es t
   o = reads_order size sysid es since t h none_torn
 
-  pub finds : FindsLog size sysid cap (Some t) stands.log
-  finds = subst (λ (tape : Option Tape). FindsLog size sysid cap tape stands.log) told stands.found
+  pub finds : FindsLog size cap (Some t) stands.log
+  finds = subst (λ (tape : Option Tape). FindsLog size cap tape stands.log) told stands.found
 
-  abbrev found : IsFound size sysid cap fs made t
-  found = finds.tells
+  found : IsDiskLog size cap stands.found.records (place_of_log stands.log) stands.log.made t
+  found = subst (λ (tape : Option Tape). IfSome tape (IsDiskLog size cap records place made)) told
+      stands.found.tells
 
-  chained : IsChained size (spelled_entries stands.log.spelled)
-  chained = stands.found.ends.chained
+  whole_end : stands.log.end.0 % 8 ≡ 0
+  whole_end = end_whole size sysid es t o cap made end records place found stands.found.end_is
 
-  end_is : stands.log.spelled.end.0
-      ≡ end_address_of size (end_position size (spelled_entries stands.log.spelled))
-  end_is = stands.found.ends.end_is
-
-  whole_end : stands.log.spelled.end.0 % 8 ≡ 0
-  whole_end = end_whole size sysid es since t h none_torn cap stands.log finds
-
-  end_from : size ≤ stands.log.spelled.end.0
-  end_from = omega (
-    arith,
-    end_is,
-    end_address_of-mono size h.order.valid (first_position size) (end_position size fs) (omega arith),
-    end_address_of-first_position size h.order.valid,
-  )
+  from_start : size ≤ stands.log.end.0
+  from_start = end_from size sysid es t o cap made end records place found stands.found.end_is
 
   -- ---- the calls that settled it
 
@@ -136,11 +126,11 @@ module _ {D : Type 0} (tape : D → Option Tape) (moment faults : D → ℕ) (si
       ∙ with_calls-some t calls
 
   calls_are : stands.settled.calls.calls
-      ≡ settle_calls size stands.log.spelled.end.0 stands.log.made (state_now t)
+      ≡ settle_calls size stands.log.end.0 stands.log.made (state_now t)
   calls_are = subst (λ (o : Option Tape). IfSome o (λ t. calls
       ≡ settle_calls size end made (state_now t))) told stands.settled.calls.are
 
-  each : AllByRecursion (Settles size stands.log.made stands.log.spelled.end.0 h.order.valid
+  each : AllByRecursion (Settles size stands.log.made stands.log.end.0 h.order.valid
       (state_now t) (pages_now size sysid es since t h) found.counted.there.there)
       stands.settled.calls.calls
   each = subst (λ (l : List Call). AllByRecursion (Settles size made end valid before
@@ -158,12 +148,12 @@ module _ {D : Type 0} (tape : D → Option Tape) (moment faults : D → ℕ) (si
 
   are : (segment : ℕ) → state_now (record t { calls = t.calls ++ stands.settled.calls.calls }) segment
       ≡ after_calls (state_now t)
-      (settle_calls size stands.log.spelled.end.0 stands.log.made (state_now t)) segment
+      (settle_calls size stands.log.end.0 stands.log.made (state_now t)) segment
   are segment =
       ap (λ (st : DiskState). st segment) (after_calls-append t.at_first t.calls calls)
       ∙ ap (λ (cs : List Call). after_calls before cs segment) calls_are
 
-  old : KeepsOld size (state_now t) stands.log.made stands.log.spelled.end.0 (moment disk)
+  old : KeepsOld size (state_now t) stands.log.made stands.log.end.0 (moment disk)
       (record t { calls = t.calls ++ stands.settled.calls.calls })
   old =
       let both = subst (λ (o : Option Tape). IfWhole size o (tape (standby_disk s))
@@ -174,41 +164,37 @@ module _ {D : Type 0} (tape : D → Option Tape) (moment faults : D → ℕ) (si
 
   -- ---- what it holds
 
-  holds_pages : HoldsLogPages size stands.log.spelled.end.0 stands.log.made
-      (tape (standby_disk s)) (settled_pages size stands.log.spelled.end.0 (state_now t))
+  holds_pages : HoldsLogPages size stands.log.end.0 stands.log.made
+      (tape (standby_disk s)) (settled_pages size stands.log.end.0 (state_now t))
   holds_pages =
       subst (λ (o : Option Tape). HoldsLogPages size end made o (settled_pages size end before))
       (sym told_now)
       (holds_log_pages size sysid made end es valid h.order.chained before
       (pages_now size sysid es since t h)
-      (only_made size sysid es t o cap made end fs found chained end_is) found.counted.there.there
-      end_from stands.found.reaches
-      (read_below size sysid es t o cap made end fs found chained end_is) (moment disk) after are
+      (only_made size sysid es t o cap made end records place found stands.found.end_is) found.counted.there.there
+      from_start stands.found.reaches
+      (read_below size sysid es t o cap made end records place found stands.found.end_is) (moment disk) after are
       old)
 
-  resumed : HasResumed tape moment (standby_disk s) stands.log.spelled.end.0
-      (settled_pages size stands.log.spelled.end.0 (state_now t)) s
+  resumed : HasResumed tape moment (standby_disk s) stands.log.end.0
+      (settled_pages size stands.log.end.0 (state_now t)) s
   resumed = stands.resumes (settled_pages size end before) holds_pages
 
-  log_below : HaveLogBelow size sysid es stands.log.spelled.end.0
-      (settled_pages size stands.log.spelled.end.0 (state_now t))
+  log_below : HaveLogBelow size sysid es stands.log.end.0
+      (settled_pages size stands.log.end.0 (state_now t))
   log_below number word low below =
       word_below size sysid made end es valid h.order.chained before
       (pages_now size sysid es since t h)
-      (only_made size sysid es t o cap made end fs found chained end_is) found.counted.there.there
-      end_from stands.found.reaches
-      (read_below size sysid es t o cap made end fs found chained end_is) number word low below
+      (only_made size sysid es t o cap made end records place found stands.found.end_is) found.counted.there.there
+      from_start stands.found.reaches
+      (read_below size sysid es t o cap made end records place found stands.found.end_is) number word low below
 
-  own_end : (k : ℕ) → stands.log.spelled.end.0 / 8192 * 8192 + 8 * k < stands.log.spelled.end.0
-      → IsLogWord size sysid es (stands.log.spelled.end.0 / 8192) k (word_of (own_page s) k)
+  own_end : (k : ℕ) → stands.log.end.0 / 8192 * 8192 + 8 * k < stands.log.end.0
+      → IsLogWord size sysid es (stands.log.end.0 / 8192) k (word_of (own_page s) k)
   own_end k below =
-      let spelled = subst (λ (n : ℕ). n / 8192 * 8192 + 8 * k < n
-      → slice_index stands.log.spelled.words.value k
-      ≡ log_word size sysid fs (n / 8192 * 8192 + 8 * k)) (sym end_is)
-      (stands.found.ends.words_are k) in
-      let same = spelled_below size sysid es t o cap made end fs found chained end_is
-      stands.found.ends.nobodys (end / 8192 * 8192 + 8 * k) (omega (arith, below, whole_end)) in
-      stands.page_is k (omega (arith, below)) ∙ ap (to_le_bytes w64) (spelled below ∙ same)
+      own_word size sysid es t o cap made end records place found stands.found.end_is
+      stands.found.reaches k below (own_page s) stands.whole stands.found.position_is
+      (ap (λ (own : List ℕ). word_at own k) stands.page_is ∙ stands.found.page_is k below)
 
   writer_size : writer_segment_size s.writer ≡ size
   writer_size = s.sized ∙ stands.size_is
@@ -306,15 +292,15 @@ module _ {D : Type 0} (tape : D → Option Tape) (moment faults : D → ℕ) (si
       where
         apart : (IsAmong made segment → ⊥) → ⊥
         apart none =
-            let gone = only_made size sysid es t o cap made end fs found chained end_is segment none in
+            let gone = only_made size sysid es t o cap made end records place found stands.found.end_is segment none in
             let no : ⊥ = cc (is, gone) in
             no
 
     quiet_segment : (segment : ℕ) (x : Option Segment) → state_now t segment ≡ x
         → IfSome x (λ s. s.writes ≡ [])
         → SegmentAssures size IsNowhere (IsZeroOrLogWord size sysid es) segment x
-        → SegmentAssures size (IsMadeUpto size stands.log.spelled.end.0)
-        (IsLogBelow size sysid es stands.log.spelled.end.0) segment x
+        → SegmentAssures size (IsMadeUpto size stands.log.end.0)
+        (IsLogBelow size sysid es stands.log.end.0) segment x
     quiet_segment segment None is none words = λ asked.
         let there = subst (λ (o : Option Segment). IsSome (page_of_segment o 0)) is
         (found.counted.there.there segment
@@ -331,11 +317,11 @@ module _ {D : Type 0} (tape : D → Option Tape) (moment faults : D → ℕ) (si
           (λ d m. IsSomeAnd (before d) (λ s. bytes ≡ word_of (page_as_read s m) word))
           (subst (λ (o : Option Segment). IsSomeAnd o
           (λ s. bytes ≡ word_of (page_as_read s page) word)) (sym is) read) in
-          read_below size sysid es t o cap made end fs found chained end_is number word bytes among
+          read_below size sysid es t o cap made end records place found stands.found.end_is number word bytes among
           low (omega (arith, below)) here,
     )
 
-    quiet_kept : KeepsUpto size sysid es stands.log.spelled.end.0 (length t.calls)
+    quiet_kept : KeepsUpto size sysid es stands.log.end.0 (length t.calls)
         (record t { calls = t.calls ++ stands.settled.calls.calls })
     quiet_kept =
         let IsThere = IsMadeUpto size end in

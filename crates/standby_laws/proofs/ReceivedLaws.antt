@@ -8,11 +8,11 @@ use Rattle.wal_stream.specs.Opened.{StandsAtFound}
 use Rattle.wal_stream.specs.Standby.{standby_disk, standby_end}
 use Rattle.wal_stream.specs.declared.standby.Standby.{Standby}
 use Rattle.wal_stream.proofs.FollowLaws.{follows_and_keeps}
-use Rattle.received_log.specs.Fetched.{SourceState}
-use Rattle.received_log.specs.Receiving.{Receives}
-use Rattle.received_log.specs.Sent.{HandsOutLog, promised_at}
-use Rattle.received_log.specs.declared.outcome.Received.{Received}
-use Rattle.received_log.proofs.SentLaws.{is_sent_run}
+use Rattle.wal_stream.specs.Fetched.{SourceState}
+use Rattle.wal_stream.specs.Receiving.{Receives}
+use Rattle.wal_stream.specs.Sent.{HandsOutLog, promised_at}
+use Rattle.wal_stream.specs.declared.outcome.Received.{Received}
+use Rattle.wal_stream.proofs.SentLaws.{is_sent_run}
 use Rattle.standby_laws.specs.History.{Closed, IsFoundSince, Lived, NoneTornRead, Open, closes, fails_to_harden, hardens, is_offered, opens}
 
 module _ {D : Type 0} (tape : D → Option Tape) (moment faults : D → ℕ) (size sysid : ℕ)
@@ -47,7 +47,7 @@ module _ {D : Type 0} (tape : D → Option Tape) (moment faults : D → ℕ) (si
       (before after : SourceState) (received : Received)
       → Lived tape moment faults size sysid es since told (Closed disk) → cap ≤ 4096
       → NoneTornRead size es (tape disk)
-      → StandsAtFound tape moment faults size sysid cap disk first
+      → StandsAtFound tape moment faults size cap disk first
       → IsFoundSince tape moment disk (standby_disk first) from
       → Receives tape moment faults before after first last received
       → HandsOutLog size sysid es hardened before after

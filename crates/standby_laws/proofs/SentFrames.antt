@@ -25,18 +25,18 @@ use Rattle.flush_core.proofs.SettledLogs.{synced_logs_are_lawful}
 use Rattle.wal_reader.specs.declared.found.Answer.TheVariants as answers
 use Rattle.wal_reader.specs.declared.found.FoundRecord.{FoundRecord}
 use Rattle.wal_reader.specs.declared.standing.ReadErr.TheVariants as reading
-use Rattle.written_log.specs.FoundLog.{ReadsAsFound, end_behind}
+use Rattle.written_log.specs.FoundLog.{ReadsFirstEntries, end_behind}
 use Rattle.written_log.proofs.FoundImages.{chained_front, front_bounded}
 use Rattle.written_log.proofs.FoundLogs.{found_logs_read_as_log}
 use Rattle.wal_stream.specs.FollowedLog.{IsLogOrder}
 use Rattle.wal_stream.specs.Following.{ComesOfLog}
 use Rattle.wal_stream.specs.Frame.{EndsInPage, IsFrameOfLog, IsSentOfLog, SentPage}
 use Rattle.wal_stream.proofs.FrameLaws.{frame_long, frames_of_log_pages, reads, same_page}
-use Rattle.sent_log.specs.Sending.{AreFramesOf, SendsAll, SendsFront}
-use Rattle.sent_log.specs.SentFrames.{frame_count, frame_of, frames_between, page_read}
-use Rattle.sent_log.specs.Synced.{HasSynced}
-use Rattle.sent_log.specs.declared.fault.SendErr.TheVariants.{Read, Sink}
-use Rattle.received_log.specs.Fetched.{first_pieces, frames_in}
+use Rattle.wal_stream.specs.Sending.{AreFramesOf, SendsAll, SendsFront}
+use Rattle.wal_stream.specs.SentFrames.{frame_count, frame_of, frames_between, page_read}
+use Rattle.wal_stream.specs.Synced.{HasSynced}
+use Rattle.wal_stream.specs.declared.fault.SendErr.TheVariants.{Read, Sink}
+use Rattle.wal_stream.specs.Fetched.{first_pieces, frames_in}
 use Rattle.reopened_log.specs.WasLeft.{WasLeft}
 use Rattle.reopened_log.proofs.FirstEntries.{left_logs_are_read}
 use Rattle.reopened_log.proofs.SuitedDisks.{same_count}
@@ -97,7 +97,7 @@ module _ (size sysid : ℕ) (t : Tape) (found : List FoundRecord) (left : WasLef
   abbrev end : ℕ
   end = end_behind size found
 
-  read : ReadsAsFound size sysid left.count left.order (state_now t) found
+  read : ReadsFirstEntries size sysid left.count left.order (state_now t) found
   read = found_logs_read_as_log size sysid left.count left.order (state_now t) found left.has_found
 
   is_order : IsLogOrder size sysid left.order

@@ -1,10 +1,9 @@
 -- A log that holds nothing but words of one order is settled, to the end or not: it holds nothing
 -- else then, with each entry that was whole.
-use Rattle.std.proofs.Common.{◌≡◌, ℕ, ◌+◌, ◌*◌, ◌/◌, ◌%◌, ◌<◌, ◌≤◌, List, [], ◌∷◌, ◌++◌, length, Bool, Option, Some, inl, inr, refl, sym, ap, subst, ◌∙◌, arith}
+use Rattle.std.proofs.Common.{◌≡◌, ℕ, ◌+◌, ◌*◌, ◌/◌, ◌%◌, ◌<◌, ◌≤◌, List, [], ◌∷◌, ◌++◌, length, Bool, Option, Some, inl, inr, refl, sym, subst, ◌∙◌, arith}
 use Rattle.std.specs.List.{AllByRecursion}
 use Rattle.std.proofs.lemmas.Bool.{cases_lt}
 use Rattle.byte_position.specs.Geometry.{pages_of}
-use Rattle.byte_position.proofs.Words.{end_address_of-mod_word}
 use Rattle.segment_disk.specs.declared.disk.Call.{Call}
 use Rattle.segment_disk.specs.declared.disk.CallKind.{CallKind}
 use Rattle.segment_disk.specs.declared.disk.CallKind.TheVariants.{Create, Write, Sync}
@@ -16,20 +15,18 @@ use Rattle.flush_core.specs.Settled.{AreThere, HaveWholePages, IsOldOrZero}
 use Rattle.flush_core.specs.SettledLog.{IsZeroOrLogWord}
 use Rattle.flush_core.proofs.GrowingTapes.{with_calls-some}
 use Rattle.flush_core.proofs.SettledLogs.{stands_fit}
-use Rattle.found_log.specs.Found.{FindsLog, HasBegunToSettle}
-use Rattle.found_log.specs.Spelled.{spelled_entries}
+use Rattle.found_log.specs.Found.{FindsLog, HasBegunToSettle, place_of_log}
 use Rattle.found_log.specs.declared.finding.FoundLog.{FoundLog}
-use Rattle.wal_page.specs.Order.{Entry, end_position}
-use Rattle.wal_page.proofs.OwnerLaws.{end_position-whole}
+use Rattle.wal_page.specs.Order.{Entry}
+use Rattle.wal_page.specs.LogPlace.{LogPlace}
 use Rattle.wal_reader.specs.Pages.{pages_in}
 use Rattle.written_log.specs.Torn.{NoTornPass}
-use Rattle.written_log.specs.Written.{found_of}
 use Rattle.written_log.proofs.FoundImages.{end_of_front}
 use Rattle.written_log.proofs.LawfulLaws.{lawful_images_decode_to_fronts}
 use Rattle.reopened_log.proofs.SettlingCalls.{Settles, all_settle, made_settle}
 use Rattle.standby_laws.specs.History.{ReachesEntries}
 use Rattle.standby_laws.proofs.Holding.{HoldsOrder, IsHeld, IsLogBelow, KeepsUpto, image_held, keeps_less, lawful_now, pages_now, read_is_left, segments_now, words_now}
-use Rattle.standby_laws.proofs.LeftLogs.{ReadsOrder, count_is, finish_within, found_end}
+use Rattle.standby_laws.proofs.LeftLogs.{ReadsOrder, count_is, end_whole, finish_within}
 use Rattle.standby_laws.proofs.Moments.{IsWhole, assures_now, runs_on}
 use Rattle.standby_laws.proofs.Turns.{AreMadeInTurn, MakeNone, grown_in_turn, none_in_turn}
 
@@ -146,44 +143,37 @@ module _ (size sysid : ℕ) (es : List Entry) (since : ℕ) (t : Tape)
       none_torn = none_torn;
     }
 
-    module _ (cap : ℕ) (log : FoundLog) (finds : FindsLog size sysid cap (Some t) log) where
-      abbrev fs : List Entry
-      fs = spelled_entries log.spelled
+    module _ (cap : ℕ) (log : FoundLog) (finds : FindsLog size cap (Some t) log) where
+      abbrev place : LogPlace
+      place = place_of_log log
 
       pub last_is : h.last ≡ log.made
-      last_is = count_is size sysid es t reads_order cap log.made log.spelled.end.0 fs finds.tells
-          finds.ends.chained finds.ends.end_is
+      last_is = count_is size sysid es t reads_order cap log.made log.end.0 finds.records place
+          finds.tells finds.end_is
 
-      pub end_whole : log.spelled.end.0 % 8 ≡ 0
-      end_whole = ap (λ (n : ℕ). n % 8) finds.ends.end_is
-          ∙ end_address_of-mod_word size h.order.valid (end_position size fs)
-          (end_position-whole size h.order.valid fs finds.ends.chained)
+      pub whole_end : log.end.0 % 8 ≡ 0
+      whole_end = end_whole size sysid es t reads_order cap log.made log.end.0 finds.records place
+          finds.tells finds.end_is
 
       -- it ends at or behind each entry that is whole
       found_reaches : (upto : ℕ) → IsLawful size sysid (image_as_read (state_now t)) es upto
-          → ReachesEntries size es upto log.spelled.end.0
+          → ReachesEntries size es upto log.end.0
       found_reaches upto is i e got low =
           let order = h.order in
           let front = lawful_images_decode_to_fronts size sysid upto (image_as_read before) es
           order.valid order.known order.narrow order.chained order.bounded is none_torn
-          (found_of size fs) finds.tells.own.answer finds.tells.own.decodes in
-          let ends = end_of_front size es front.count (found_of size fs) order.valid order.chained
+          finds.records finds.tells.ends.answer finds.tells.ends.decodes in
+          let ends = end_of_front size es front.count finds.records order.valid order.chained
           front.found_is in
           let here = finish_within size order.valid es order.chained front.count i e got
           (front.holds i e got low) in
-          omega (
-            arith,
-            here,
-            ends,
-            found_end size sysid es t reads_order cap log.made
-                log.spelled.end.0 fs finds.tells finds.ends.chained finds.ends.end_is,
-          )
+          omega (arith, here, ends, finds.end_is)
 
       -- so what is held is held below the end
       pub held_found : (promise : ℕ × ℕ) → IsHeld size sysid es t promise
-          → (held : IsHeld size sysid es t promise) × (held.upto ≤ log.spelled.end.0)
+          → (held : IsHeld size sysid es t promise) × (held.upto ≤ log.end.0)
       held_found promise held =
-          let end = log.spelled.end.0 in
+          let end = log.end.0 in
           let image = image_as_read before in
           let is = image_held size sysid es since t h (length t.calls) image h.words.counted
           (read_is_left size sysid es since t h) promise.0 held.upto held.whole held.keeps
@@ -193,7 +183,7 @@ module _ (size sysid : ℕ) (es : List Entry) (since : ℕ) (t : Tape)
             | inl less ↦ (
               record {
                 upto = end;
-                whole = end_whole;
+                whole = whole_end;
                 reaches = reaches_further size es promise.1 held.upto end held.reaches reaches;
                 keeps = keeps_less size sysid es promise.0 held.upto end t h.order.valid
                     (omega (arith, less)) held.keeps;
@@ -204,18 +194,18 @@ module _ (size sysid : ℕ) (es : List Entry) (since : ℕ) (t : Tape)
           ]
 
       pub held_settled : (made : ℕ) (there : AreThere (state_now t) made) (calls : List Call)
-          → AllByRecursion (Settles size made log.spelled.end.0 h.order.valid (state_now t)
+          → AllByRecursion (Settles size made log.end.0 h.order.valid (state_now t)
           (pages_now size sysid es since t h) there) calls
           → (promise : ℕ × ℕ) → IsHeld size sysid es t promise
           → (held : IsHeld size sysid es (record t { calls = t.calls ++ calls }) promise)
-          × (held.upto ≤ log.spelled.end.0)
+          × (held.upto ≤ log.end.0)
       held_settled made there calls each promise was =
           let held = held_found promise was in (
             record {
               upto = held.0.upto;
               whole = held.0.whole;
               reaches = held.0.reaches;
-              keeps = keeps_settled made log.spelled.end.0 there calls each promise.0 held.0.upto
+              keeps = keeps_settled made log.end.0 there calls each promise.0 held.0.upto
                   held.1 held.0.keeps;
             },
             held.1,
@@ -229,11 +219,11 @@ module _ (size sysid : ℕ) (es : List Entry) (since : ℕ) (t : Tape)
           → IsHeld size sysid es after promise
 
     pub stopped_settling : (cap old_moment new_moment : ℕ) (new : Option Tape) → cap ≤ 4096
-        → HasBegunToSettle size sysid cap (Some t) new old_moment new_moment
+        → HasBegunToSettle size cap (Some t) new old_moment new_moment
         → (after : Tape) × (new ≡ Some after) × IsStopped after
     stopped_settling cap old_moment new_moment new few begun =
         let stops = begun.stopped in
-        let end = begun.log.spelled.end.0 in
+        let end = begun.log.end.0 in
         let there : AreThere before stops.count = elim stops.there [
           | inl all ↦ all.there
           | inr none ↦ (λ segment among. absurd (omega (arith, among.0, among.1, none.0)))

@@ -29,15 +29,15 @@ use Rattle.reopened_log.specs.StopsAt.{StopsAt}
 -- ---- where it stands
 
 -- a disk on which no standby is open, or a standby
-pub data Standing (D : Type 0) : Type 0 where
-  Closed : (disk : D) → Standing D
-  Open : (standby : Standby D) → Standing D
+pub data StandbyState (D : Type 0) : Type 0 where
+  Closed : (disk : D) → StandbyState D
+  Open : (standby : Standby D) → StandbyState D
 
-abbrev pub disk_standing : {D : Type 0} → Standing D → D
+abbrev pub disk_standing : {D : Type 0} → StandbyState D → D
 disk_standing (Closed disk) = disk
 disk_standing (Open standby) = standby_disk standby
 
-abbrev pub IfOpen : {D : Type 0} → Standing D → (Standby D → Type 0) → Type 0
+abbrev pub IfOpen : {D : Type 0} → StandbyState D → (Standby D → Type 0) → Type 0
 IfOpen (Closed disk) Holds = Unit {0}
 IfOpen (Open standby) Holds = Holds standby
 
@@ -80,20 +80,20 @@ IsFoundSince tape moment disk opened from = (from ≡ moment opened)
 -- kill comes at any moment of that time, in the midst of an opening or a frame too. Frames of the
 -- log are sent no further than `hardened`
 pub data Lived {D : Type 0} (tape : D → Option Tape) (moment faults : D → ℕ) (size sysid : ℕ)
-    (es : List Entry) : ℕ → List (ℕ × ℕ) → Standing D → Type 0 where
+    (es : List Entry) : ℕ → List (ℕ × ℕ) → StandbyState D → Type 0 where
   begins : (disk : D) (t : Tape) → tape disk ≡ Some t → MayFollow size sysid es t
       → Lived tape moment faults size sysid es (moment disk) [] (Closed disk)
   opens : (since : ℕ) (told : List (ℕ × ℕ)) (cap from : ℕ) (disk : D) (s : Standby D)
       → Lived tape moment faults size sysid es since told (Closed disk) → cap ≤ 4096
       → NoneTornRead size es (tape disk)
-      → StandsAtFound tape moment faults size sysid cap disk s
+      → StandsAtFound tape moment faults size cap disk s
       → IsFoundSince tape moment disk (standby_disk s) from
       → Lived tape moment faults size sysid es since (told ++ (from, standby_end s) ∷ []) (Open s)
   fails_to_open : (since : ℕ) (told : List (ℕ × ℕ)) (cap : ℕ) (disk refused : D)
       (fault : FindFault) → Lived tape moment faults size sysid es since told (Closed disk)
       → cap ≤ 4096
       → NoneTornRead size es (tape disk)
-      → LeavesUnsettled size sysid cap (tape disk) (tape refused) (moment disk) (moment refused)
+      → LeavesUnsettled size cap (tape disk) (tape refused) (moment disk) (moment refused)
       fault
       → Lived tape moment faults size sysid es since told (Closed refused)
   is_offered : (since : ℕ) (told : List (ℕ × ℕ)) (hardened : ℕ) (old new : Standby D)
@@ -114,13 +114,13 @@ pub data Lived {D : Type 0} (tape : D → Option Tape) (moment faults : D → �
   closes : (since : ℕ) (told : List (ℕ × ℕ)) (s : Standby D)
       → Lived tape moment faults size sysid es since told (Open s)
       → Lived tape moment faults size sysid es since told (Closed (standby_disk s))
-  crashes : (since : ℕ) (told : List (ℕ × ℕ)) (standing : Standing D) (at : ℕ) (t left : Tape)
+  crashes : (since : ℕ) (told : List (ℕ × ℕ)) (standing : StandbyState D) (at : ℕ) (t left : Tape)
       (disk : D) → Lived tape moment faults size sysid es since told standing
       → tape (disk_standing standing) ≡ Some t → since ≤ at → IsLeftByCrash t at left
       → tape disk ≡ Some left
       → Lived tape moment faults size sysid es (moment disk)
       (told_since (moment disk) (told_by at told)) (Closed disk)
-  is_killed : (since : ℕ) (told : List (ℕ × ℕ)) (standing : Standing D) (at : ℕ) (t stopped : Tape)
+  is_killed : (since : ℕ) (told : List (ℕ × ℕ)) (standing : StandbyState D) (at : ℕ) (t stopped : Tape)
       (disk : D) → Lived tape moment faults size sysid es since told standing
       → tape (disk_standing standing) ≡ Some t → since ≤ at → StopsAt t at stopped
       → tape disk ≡ Some stopped
@@ -137,7 +137,7 @@ ReachesEntries size es upto end = (i : ℕ) (e : Entry) → slice_get es i ≡ S
 -- the order, which holds each entry under a promise by then; an open standby stands at or behind
 -- all of these, and never says that a frame of the log is of another one
 pub record KeepsStandbyPromises {D : Type 0} (tape : D → Option Tape) (size sysid : ℕ)
-    (es : List Entry) (since : ℕ) (told : List (ℕ × ℕ)) (standing : Standing D) : Type 0 where
+    (es : List Entry) (since : ℕ) (told : List (ℕ × ℕ)) (standing : StandbyState D) : Type 0 where
   pub left : IfSome (tape (disk_standing standing)) (λ t. (at : ℕ) (image : DiskImage) → since ≤ at
       → LeftAt t at image → NoTornPass size (pages_in size image) es
       → (found : List FoundRecord) (answer : Answer)

@@ -17,11 +17,11 @@ use Rattle.wal_reader.specs.declared.found.FoundRecord.{FoundRecord}
 use Rattle.written_log.specs.FoundLog.{end_behind}
 use Rattle.wal_stream.specs.FollowedLog.{IsLogOrder}
 use Rattle.wal_stream.specs.Frame.{IsFrameOfLog}
-use Rattle.sent_log.specs.Sending.{IsSending}
-use Rattle.sent_log.specs.declared.fault.SendErr.{SendErr}
-use Rattle.sent_log.specs.declared.fault.SendErr.TheVariants.{Read, Sink}
-use Rattle.received_log.specs.Fetched.{SourceState, frames_in}
-use Rattle.received_log.specs.Sent.{HandsOutLog}
+use Rattle.wal_stream.specs.Sending.{IsSending}
+use Rattle.wal_stream.specs.declared.fault.SendErr.{SendErr}
+use Rattle.wal_stream.specs.declared.fault.SendErr.TheVariants.{Read, Sink}
+use Rattle.wal_stream.specs.Fetched.{SourceState, frames_in}
+use Rattle.wal_stream.specs.Sent.{HandsOutLog}
 use Rattle.reopened_log.specs.WasLeft.{WasLeft}
 use Rattle.standby_laws.specs.Later.{IsHardenedUpto}
 

@@ -7,12 +7,12 @@ ghost use Rattle.wal_stream.specs.FollowedLog.{IsLogOrder};
 ghost use Rattle.wal_stream.specs.Opened.{StandsAtFound};
 ghost use Rattle.wal_stream.specs.Standby.{standby_disk, standby_end};
 ghost use Rattle.wal_stream.specs.declared.standby.Standby.{Standby};
-ghost use Rattle.received_log.specs.Fetched.{SourceState};
-ghost use Rattle.received_log.specs.Receiving.{Receives};
-ghost use Rattle.received_log.specs.Sent.{HandsOutLog, promised_at};
-ghost use Rattle.received_log.specs.declared.outcome.Received.{Received};
+ghost use Rattle.wal_stream.specs.Fetched.{SourceState};
+ghost use Rattle.wal_stream.specs.Receiving.{Receives};
+ghost use Rattle.wal_stream.specs.Sent.{HandsOutLog, promised_at};
+ghost use Rattle.wal_stream.specs.declared.outcome.Received.{Received};
 ghost use Rattle.reopened_log.specs.WasLeft.{WasLeft};
-ghost use Rattle.standby_laws.specs.History.{Closed, IsFoundSince, KeepsStandbyPromises, Lived, MayFollow, NoneTornRead, Standing};
+ghost use Rattle.standby_laws.specs.History.{Closed, IsFoundSince, KeepsStandbyPromises, Lived, MayFollow, NoneTornRead, StandbyState};
 ghost use Rattle.standby_laws.specs.Later.{FramesStayOfLog, LaterOrdersBegin};
 ghost use Rattle.standby_laws.specs.Sent.{SentFramesAreOfLog, SentFramesComeOfLog};
 
@@ -26,7 +26,7 @@ use segment_disk::Disk;
 /// is of another log.
 pub fn standbys_keep_their_promises<D: Disk>()
     ensures { (size sysid since : ℕ) (es : List Entry) (told : List (ℕ × ℕ))
-        (standing : Standing D)
+        (standing : StandbyState D)
         → Lived D.tape D.moment D.faults size sysid es since told standing
         → KeepsStandbyPromises D.tape size sysid es since told standing }
 {}
@@ -48,7 +48,7 @@ pub fn received_frames_are_lived<D: Disk>()
         (disk : D) (first last : Standby D) (before after : SourceState) (received : Received)
         → Lived D.tape D.moment D.faults size sysid es since told (Closed disk) → cap ≤ 4096
         → NoneTornRead size es (D.tape disk)
-        → StandsAtFound D.tape D.moment D.faults size sysid cap disk first
+        → StandsAtFound D.tape D.moment D.faults size cap disk first
         → IsFoundSince D.tape D.moment disk (standby_disk first) from
         → Receives D.tape D.moment D.faults before after first last received
         → HandsOutLog size sysid es hardened before after

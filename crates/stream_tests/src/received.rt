@@ -3,12 +3,11 @@
 use crate::listed::Listed;
 use crate::standbys::{disk_of, open};
 use crate::stops::{END, TwoFrames};
-use received_log::{ReceivingEnd, receive};
 use segment_disk::{Disk, MemDisk, MemSource, Pick};
 use std::alloc::Global;
 use std::process::Abort;
 use std::test::Fail;
-use wal_stream::{FRAME_SIZE, Standby};
+use wal_stream::{FRAME_SIZE, ReceivingEnd, Standby, receive};
 use wal_types::Lsn;
 
 // A crash that loses all that waits leaves the record that a standby told as hardened.

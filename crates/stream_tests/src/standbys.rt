@@ -1,8 +1,8 @@
-//! Standbys of the log of one system, on disks in memory.
+//! Standbys of one log, on disks in memory.
 
 ghost use Rattle.std.specs.Prelude.{◌≤◌};
 
-use crate::log::{SYSTEM_ID, smallest};
+use crate::log::smallest;
 use segment_disk::MemDisk;
 use std::alloc::Global;
 use std::test::Fail;
@@ -22,7 +22,7 @@ pub(crate) fn opened(alloc: Global, disk: MemDisk) -> Result<Standby<MemDisk>, M
 fn opened_upto(alloc: Global, disk: MemDisk, last: u32) -> Result<Standby<MemDisk>, MemDisk>
     requires { last ≤ 4096 }
 {
-    match Standby::open(alloc, disk, smallest(), SYSTEM_ID, last) {
+    match Standby::open(alloc, disk, smallest(), last) {
         Ok(standby) => Ok(standby),
         Err(refused) => Err(refused.disk),
     }

@@ -1,5 +1,5 @@
-//! Texts cut into parts at a separator, as lines, fields, items; and what the digits of a part spell:
-//! numbers and times in decimal digits, and hexadecimal digits.
+//! Texts cut into parts at a separator, as lines, fields, items; and what the digits of a part
+//! spell: numbers and times in decimal digits, and hexadecimal digits.
 #![tactic(auto)]
 
 mod hexadecimal;

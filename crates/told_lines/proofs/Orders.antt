@@ -7,8 +7,7 @@ use Rattle.std.proofs.lemmas.Bool.{cases_Bool, cond_both, eq-eqb, eqb-false, eqb
 use Rattle.std.proofs.lemmas.List.Elements.{All-cons, All-contains, All-head, All-nil, All-weaker, Contains-append_cases, Contains-append_left, Contains-append_right, Contains-push, Contains-push_cases, recursion_from_All}
 use Rattle.std.proofs.lemmas.List.Sorted.{All-permutation, Contains-permutation, IsPermutation-cons, IsPermutation-middle, IsPermutation-refl, IsPermutation-sym, IsPermutation-trans}
 use Rattle.std.proofs.lemmas.Map.Keys.{IsDistinct-IsPermutation}
-use Rattle.byte_position.specs.Position.{first_position}
-use Rattle.wal_page.specs.Order.{Entry, FollowsFrom, IsChained, position_behind}
+use Rattle.wal_page.specs.Order.{Entry, FollowsFrom, position_behind}
 use Rattle.wal_page.proofs.OrderLaws.{room_at-pos}
 use Rattle.told_lines.specs.Told.{IsRising, insert_by_start, sorted_by_start}
 
@@ -146,10 +145,10 @@ distinct_rising (e ∷ f ∷ es) none distinct = (
 )
 
 -- an order without a gap that has these entries is these, sorted
-pub order_is_sorted : (size : ℕ) (entries order : List Entry) → IsPermutation entries order → IsChained size order → order ≡ sorted_by_start entries
-order_is_sorted size entries order same chained =
+pub order_is_sorted : (size position : ℕ) (entries order : List Entry) → IsPermutation entries order → FollowsFrom size position order → order ≡ sorted_by_start entries
+order_is_sorted size position entries order same chained =
     let sorted = sorted_by_start entries in
-    let rising = IsRising-FollowsFrom size (first_position size) order chained in
+    let rising = IsRising-FollowsFrom size position order chained in
     let also = IsPermutation-trans order entries sorted (IsPermutation-sym entries order same) (sorted_permutes entries) in
     let distinct = IsDistinct-IsPermutation starts_with starts_flip order sorted also (rising_distinct order rising) in
     same_rising order sorted rising (distinct_rising sorted (none_earlier_sorted entries) distinct) (λ e c. Contains-permutation order sorted e also c) (λ e c. Contains-permutation sorted order e (IsPermutation-sym order sorted also) c)

@@ -5,7 +5,7 @@ use Rattle.wal_types.specs.declared.lsn.Lsn.{Lsn}
 use Rattle.wal_types.specs.declared.record.Record.{Record}
 use Rattle.record_spelling.specs.Record.{switch_record}
 use Rattle.byte_position.specs.Position.{position_of, address_of, end_address_of, first_position}
-use Rattle.wal_page.specs.Order.{Entry, position_behind, rooms_of, end_position, room_at, room_behind}
+use Rattle.wal_page.specs.Order.{Entry, position_behind, rooms_of, room_at}
 use Rattle.wal_script.specs.Asked.{AskedLine}
 use Rattle.wal_script.specs.Asked.{Asked}
 use Rattle.wal_script.specs.Asked.{Insert, Commit, Flush, CommitAsync, WriteBehind, Switch}
@@ -72,16 +72,20 @@ IsRising [] = Unit {0}
 IsRising (e ∷ []) = Unit {0}
 IsRising (e ∷ f ∷ es) = (e.start < f.start) × IsRising (f ∷ es)
 
--- the log that lines are told of: its segment size, how many bytes it has for records, the entries
--- that its opening found, the order of all its entries, which begins with those, and the disk's
--- counts of faults at the opening and at the end
+-- the log that lines are told of: its segment size, the byte position at which it is full, the one
+-- at which its order goes on, the order of what was reserved since, and the disk's counts of faults
+-- at the opening and at the end
 pub record Logged : Type 0 where
   pub size : ℕ
-  pub capacity : ℕ
-  pub found : List Entry
+  pub limit : ℕ
+  pub start : ℕ
   pub order : List Entry
   pub faults_at_open : ℕ
   pub last : ℕ
+
+-- the byte position at which the first so many entries of the order end
+abbrev pub front_end : Logged → ℕ → ℕ
+front_end logged count = logged.start + rooms_of logged.size (take count logged.order)
 
 -- a place in the log: a record's start is the address of its byte position, its end the end form of
 -- the position behind it
@@ -95,18 +99,16 @@ pub record IsFault (logged : Logged) (faults : ℕ) : Type 0 where
   pub rose : Rose logged.faults_at_open faults
   pub upto : faults ≤ logged.last
 
--- too few bytes were left for the record behind some front of the order, which has all that was
--- found, the backend's earlier entries (they end at byte position `behind`) and none of its later
--- ones
+-- too few bytes were left for the record behind some front of the order, which has the backend's
+-- earlier entries (they end at byte position `behind`) and none of its later ones
 pub record MayBeFull (logged : Logged) (pass behind : ℕ) (value : Record) (free : ℕ)
     : Type 0 where
   pub front : ℕ
   pub within : front ≤ length logged.order
-  pub has_found : length logged.found ≤ front
-  pub earlier : behind ≤ end_position logged.size (take front logged.order)
+  pub earlier : behind ≤ front_end logged front
   pub no_later : All (λ e. e.pass ≡ Some pass → e.start < behind) (take front logged.order)
-  pub left : free + rooms_of logged.size (take front logged.order) ≡ logged.capacity
-  pub short : free < room_behind logged.size (take front logged.order) value
+  pub left : free + front_end logged front ≡ logged.limit
+  pub short : free < room_at logged.size (front_end logged front) value
 
 -- why an insert or a commit, also one that is answered ahead, may be refused: a fault in its own
 -- device calls comes once its record is reserved
@@ -121,15 +123,14 @@ MayRefuseRecord logged pass behind value (Down faults) None = IsFault logged fau
 MayRefuseRecord logged pass behind value (Down faults) (Some start) =
     IsFault logged faults × (start.0 ≡ address_of logged.size (position_of logged.size start.0))
 
--- the log stood at this address, a segment's start, behind some front of the order, which has all
--- that was found, the backend's earlier entries and none of its later ones
+-- the log stood at this address, a segment's start, behind some front of the order, which has the
+-- backend's earlier entries and none of its later ones
 pub record MayStay (logged : Logged) (pass behind end : ℕ) : Type 0 where
   pub front : ℕ
   pub within : front ≤ length logged.order
-  pub has_found : length logged.found ≤ front
-  pub earlier : behind ≤ end_position logged.size (take front logged.order)
+  pub earlier : behind ≤ front_end logged front
   pub no_later : All (λ e. e.pass ≡ Some pass → e.start < behind) (take front logged.order)
-  pub end_is : end ≡ end_address_of logged.size (end_position logged.size (take front logged.order))
+  pub end_is : end ≡ end_address_of logged.size (front_end logged front)
   pub at_start : end % logged.size ≡ 0
 
 -- a log that is full for a segment switch has some bytes left, and fewer than the record's own 24:
@@ -149,7 +150,7 @@ MayRefuseFlush logged (Down faults) reserved = IsFault logged faults × (reserve
 -- entries (byte position `behind`) at least, and no further than the log goes
 pub record ReachesPage (logged : Logged) (behind upto : ℕ) : Type 0 where
   pub page : end_address_of logged.size behind / 8192 * 8192 ≤ upto
-  pub within : upto ≤ end_address_of logged.size (end_position logged.size logged.order)
+  pub within : upto ≤ end_address_of logged.size (front_end logged (length logged.order))
 
 -- what a line of a pass may be told, where its backend's earlier entries end at byte position
 -- `behind`: an insert that its record is written, a commit that it is durable, a flush that all is
@@ -181,7 +182,7 @@ FitsLine logged pass behind Flush (Wrote start end) = ⊥
 FitsLine logged pass behind Flush (Hard start end moment) = ⊥
 FitsLine logged pass behind Flush (Flushed upto moment) =
     (end_address_of logged.size behind ≤ upto.0)
-    × (upto.0 ≤ end_address_of logged.size (end_position logged.size logged.order))
+    × (upto.0 ≤ end_address_of logged.size (front_end logged (length logged.order)))
 FitsLine logged pass behind Flush (Async start end) = ⊥
 FitsLine logged pass behind Flush (Idle upto) = ⊥
 FitsLine logged pass behind Flush (Switched start end) = ⊥

@@ -3,11 +3,11 @@
 
 ghost use Rattle.std.specs.Prelude.{◌≡◌, ℕ, List};
 ghost use Rattle.std.specs.List.Sorted.{IsPermutation};
-ghost use Rattle.wal_page.specs.Order.{Entry, IsChained};
+ghost use Rattle.wal_page.specs.Order.{Entry, FollowsFrom};
 ghost use Rattle.told_lines.specs.Told.{sorted_by_start};
 
 /// A law: an order without a gap is settled by its entries. It is these, sorted by their starts.
 pub fn order_is_sorted()
-    ensures { (size : ℕ) (entries order : List Entry) → IsPermutation entries order
-        → IsChained size order → order ≡ sorted_by_start entries }
+    ensures { (size position : ℕ) (entries order : List Entry) → IsPermutation entries order
+        → FollowsFrom size position order → order ≡ sorted_by_start entries }
 {}

@@ -21,8 +21,8 @@ pub record AddsTo (old new : List ℕ) : Type 0 where
   pub whole : length new ≡ 8192
   pub words : (n : ℕ) → n < 1024 → IsZeroOr (word_of new n) (word_of old n)
 
--- a write does so to its page as it is read; a segment that is made has the pages of this size (that
--- it is new, so that nothing is lost of it, is `MakeInTurn`'s)
+-- a write does so to its page as it is read; a segment that is made has the pages of this size
+-- (that it is new, so that nothing is lost of it, is `MakeInTurn`'s)
 abbrev pub KindAdds : (size geometry : ℕ) → Option Segment → CallKind → Type 0
 KindAdds size geometry s (Create made) = geometry ≡ size
 KindAdds size geometry s (Write page bytes) =

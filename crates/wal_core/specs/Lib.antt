@@ -20,4 +20,3 @@ pub mod Steps
 pub mod Opened
 pub mod Shown
 pub mod PassLogs
-pub mod Behind

@@ -31,7 +31,8 @@ pub fn words_are_set_one_at_a_time()
     ensures lock { (setup : Setup) (words : List ℕ) (lock n : ℕ)
         → length words ≡ word_count setup → lock < 8
         → lock_word (set words (lock_number lock) n) lock ≡ n }
-    ensures other_locks { (words : List ℕ) (i n lock : ℕ) → (i < 2) ⊎ (mapping_turn_number ≤ i) → lock < 8
+    ensures other_locks { (words : List ℕ) (i n lock : ℕ)
+        → (i < 2) ⊎ (mapping_turn_number ≤ i) → lock < 8
         → lock_word (set words i n) lock ≡ lock_word words lock }
     ensures end { (setup : Setup) (words : List ℕ) (buffer n : ℕ)
         → length words ≡ word_count setup → buffer < setup.ring_pages
@@ -41,7 +42,8 @@ pub fn words_are_set_one_at_a_time()
     ensures ring { (setup : Setup) (words : List ℕ) (place n : ℕ)
         → length words ≡ word_count setup → place < setup.ring_pages * 1024
         → word_of_ring setup (set words (ends_number + setup.ring_pages + place) n) place ≡ n }
-    ensures ring_before { (setup : Setup) (words : List ℕ) (i n : ℕ) → i < ends_number + setup.ring_pages
+    ensures ring_before { (setup : Setup) (words : List ℕ) (i n : ℕ)
+        → i < ends_number + setup.ring_pages
         → word_of_ring setup (set words i n) ≡ word_of_ring setup words }
     ensures wide { (setup : Setup) (words : List ℕ) (i n : ℕ) → length words ≡ word_count setup
         → length (set words i n) ≡ word_count setup }

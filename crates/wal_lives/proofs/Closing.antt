@@ -18,9 +18,9 @@ use Rattle.wal_rule.specs.declared.pass.Pass.{Pass}
 use Rattle.wal_rule.specs.Passes.{view_of_pass}
 use Rattle.wal_rule.specs.Slotted.{GoesOnFrom, first_on, slot_disk}
 use Rattle.wal_rule.specs.Tables.{began_of_table}
-use Rattle.closed_log.specs.Closed.{IsClosedOn, WasPromised}
-use Rattle.closed_log.proofs.ClosedDisk.{sound_tape}
-use Rattle.closed_log.proofs.Promises.{of_promise, told_rightly}
+use Rattle.run_laws.specs.Closed.{IsClosedOn, WasPromised}
+use Rattle.run_laws.proofs.ClosedDisk.{sound_tape}
+use Rattle.run_laws.proofs.Promises.{of_promise, told_rightly}
 use Rattle.wal_log.specs.declared.closing.Closed.{Closed}
 use Rattle.wal_log.specs.declared.wal.Wal.{Wal}
 use Rattle.wal_log.specs.Closing.{ClosesLog}

@@ -7,12 +7,12 @@ use Rattle.segment_disk.specs.Tape.{IsUncalled, Tape, state_now}
 use Rattle.flush_core.specs.Calls.{with_calls}
 use Rattle.flush_core.specs.Settled.{HasSettled}
 use Rattle.flush_core.proofs.GrowingTapes.{with_calls-some}
-use Rattle.byte_position.specs.Position.{end_address_of}
 use Rattle.wal_page.specs.LogPlace.{new_place}
-use Rattle.wal_page.specs.Order.{Entry, end_position}
+use Rattle.wal_page.specs.Order.{Entry}
 use Rattle.wal_reader.specs.declared.found.FoundRecord.{FoundRecord}
+use Rattle.written_log.specs.FoundLog.{end_behind}
 use Rattle.written_log.specs.Written.{found_of}
-use Rattle.found_log.specs.Found.{HasBegunToSettle, IsFound}
+use Rattle.found_log.specs.Found.{HasBegunToSettle, IsDiskLog}
 use Rattle.wal_core.specs.declared.setup.Setup.{Setup}
 use Rattle.wal_core.specs.Words.{Opening, found_end}
 use Rattle.wal_rule.specs.declared.pass.Pass.{Pass}
@@ -28,10 +28,11 @@ use Rattle.machine_laws.specs.WholeOrders.{LiesBehind}
 use Rattle.machine_laws.proofs.WholeOrders.{LiesBehind-new}
 use Rattle.run_laws.specs.Assured.{TapeGoesOn}
 use Rattle.run_laws.proofs.ClosedRuns.{empty_suited}
+use Rattle.reopened_log.specs.FoundFirst.{AreFoundEntries}
 use Rattle.reopened_log.specs.Lives.{LifeEndsAt}
 use Rattle.reopened_log.specs.Reopened.{IsReopenedOn}
 use Rattle.reopened_log.specs.WasLeft.{WasLeft}
-use Rattle.reopened_log.proofs.FirstEntries.{left_logs_are_read}
+use Rattle.reopened_log.proofs.FoundPlaces.{found_entries_are_one, found_places_lie_behind}
 use Rattle.reopened_log.proofs.KeptLives.{KeepsSure, begun_keeps, failed_keeps, none_kept, reopened_keeps, settled_keeps, uncalled_keeps, with_left}
 use Rattle.reopened_log.proofs.KeptRecords.{IsSureRecord}
 use Rattle.reopened_log.proofs.SuitedDisks.{reopened_logs_are_suited}
@@ -172,39 +173,52 @@ module _ {D : Type 0} (tape : D → Option Tape) (moment faults : D → ℕ)
         ∙ with_calls-some t calls
 
     ends_as : told.end.0 ≡ found_end (opening_of_log wal)
-    ends_as = r.end_is
-        ∙ ap (λ (s : Setup). end_address_of s.segment_size (end_position s.segment_size r.es))
-        (sym setup_as)
-        ∙ ap (end_address_of its_size) (sym r.lies.position_is)
+    ends_as = sym r.goes_on_at ∙ ap found_end (sym r.opening)
 
-    is_found : IsFound setup.segment_size setup.sysid setup.cap_segments r.es r.made t
-    is_found = at_some (IsFound setup.segment_size setup.sysid setup.cap_segments r.es r.made)
-        (tape disk) t before r.read
+    is_found : IsDiskLog setup.segment_size setup.cap_segments r.records r.place r.made t
+    is_found = at_some
+        (IsDiskLog setup.segment_size setup.cap_segments r.records r.place r.made) (tape disk) t
+        before r.read
 
     module _ (found : List FoundRecord)
         (left : WasLeft (setup_of_log wal).segment_size (setup_of_log wal).sysid t found) where
-      read_as : found_of (setup_of_log wal).segment_size r.es ≡ found
-      read_as =
-          let own = subst (λ (s : Setup).
-          IsFound s.segment_size s.sysid s.cap_segments r.es r.made t) (sym setup_as) is_found in
-          left_logs_are_read its_size its_sysid t found (found_of its_size r.es) own.own.answer
-          left own.own.decodes
+      -- the place lies behind the entries of the records that were left
+      found_place : (front : List Entry)
+          × AreFoundEntries (setup_of_log wal).segment_size t front
+          × LiesBehind (opening_of_log wal) front
+          × (found_of (setup_of_log wal).segment_size front ≡ found) × (r.records ≡ found)
+      found_place = found_places_lie_behind (opening_of_log wal) setup.cap_segments r.made t found
+          r.records left r.openable.placed
+          (sym ends_as ∙ r.end_is
+          ∙ ap (λ (s : Setup). end_behind s.segment_size r.records) (sym setup_as))
+          (ap (λ (o : Opening). (o.place).prev) r.opening ∙ r.prev_is)
+          (subst (λ (o : Opening). IsDiskLog (o.setup).segment_size setup.cap_segments r.records
+          o.place r.made t) (sym r.opening) is_found)
 
-      abbrev reopened_on : IsReopenedOn (opening_of_log wal) r.es (moment disk) t
-          (record t { calls = t.calls ++ r.settled.calls.calls }) found
-      reopened_on = record {
-        left = left;
-        counted = counted_at disk t before;
-        openable = r.openable;
-        lies = r.lies;
-        found_is = read_as;
-        settled = settled_as setup.segment_size its_size
-            (ap (λ (s : Setup). s.segment_size) (sym setup_as)) told.end.0
-            (found_end (opening_of_log wal)) ends_as r.made (opening_of_log wal).made
-            (ap (λ (o : Opening). o.made) (sym r.opening)) (tape disk) t before
-            (began_of_table tape (table_of wal)) began began_as (moment disk)
-            (opening_of_log wal).moment r.settled;
-      }
+      module _ (front : List Entry)
+          (below : AreFoundEntries (setup_of_log wal).segment_size t front) where
+        same_front : found_place.0 ≡ front
+        same_front = found_entries_are_one its_size its_sysid t found found_place.0 front left
+            found_place.1 below
+
+        lies_behind : LiesBehind (opening_of_log wal) front
+        lies_behind = subst (LiesBehind (opening_of_log wal)) same_front found_place.2
+
+        abbrev reopened_on : IsReopenedOn (opening_of_log wal) front (moment disk) t
+            (record t { calls = t.calls ++ r.settled.calls.calls }) found
+        reopened_on = record {
+          left = left;
+          counted = counted_at disk t before;
+          openable = r.openable;
+          lies = lies_behind;
+          found_is = ap (found_of its_size) (sym same_front) ∙ found_place.3;
+          settled = settled_as setup.segment_size its_size
+              (ap (λ (s : Setup). s.segment_size) (sym setup_as)) told.end.0
+              (found_end (opening_of_log wal)) ends_as r.made (opening_of_log wal).made
+              (ap (λ (o : Opening). o.made) (sym r.opening)) (tape disk) t before
+              (began_of_table tape (table_of wal)) began began_as (moment disk)
+              (opening_of_log wal).moment r.settled;
+        }
 
   -- the log's own size and system id are those that are asked for
   module _ (size sysid : ℕ) (t : Tape) (setup : Setup) (disk : D) (wal : Wal D) (first : Pass)
@@ -216,6 +230,22 @@ module _ {D : Type 0} (tape : D → Option Tape) (moment faults : D → ℕ)
     own_sysid : (setup_of_log wal).sysid ≡ sysid
     own_sysid = ap (λ (o : Opening). (o.setup).sysid) r.opening ∙ handed.named
 
+    module _ (found : List FoundRecord) (left : WasLeft size sysid t found) where
+      pub place_as_asked : (front : List Entry) × AreFoundEntries size t front
+          × LiesBehind (opening_of_log wal) front × (found_of size front ≡ found)
+          × (r.records ≡ found)
+      place_as_asked = as_asked (λ m n. WasLeft m n t found → (front : List Entry)
+          × AreFoundEntries m t front × LiesBehind (opening_of_log wal) front
+          × (found_of m front ≡ found) × (r.records ≡ found)) size sysid
+          (setup_of_log wal).segment_size (setup_of_log wal).sysid own_size own_sysid
+          (found_place setup disk wal first told r t handed.before found) left
+
+      pub lies_as_asked : (front : List Entry) → AreFoundEntries size t front
+          → LiesBehind (opening_of_log wal) front
+      lies_as_asked front below = subst (LiesBehind (opening_of_log wal))
+          (found_entries_are_one size sysid t found place_as_asked.0 front left
+          place_as_asked.1 below) place_as_asked.2
+
   -- that went on
   module _ (size sysid : ℕ) (t next : Tape) (before order : List Entry)
       (hard more : List FoundRecord)
@@ -226,7 +256,7 @@ module _ {D : Type 0} (tape : D → Option Tape) (moment faults : D → ℕ)
     abbrev c_sysid : ℕ
     c_sysid = (setup_of_log life.wal).sysid
 
-    abbrev lived : IsLived tape moment faults size life.wal life.reopened.es next order more
+    abbrev lived : IsLived tape moment faults size life.wal life.front next order more
     lived = life.lived
 
     -- what was reserved, and the whole order
@@ -234,30 +264,35 @@ module _ {D : Type 0} (tape : D → Option Tape) (moment faults : D → ℕ)
     its_order = order_of tape moment faults life.wal lived.pass lived.closed lived.closes
 
     abbrev its_whole : List Entry
-    its_whole = life.reopened.es ++ its_order
+    its_whole = life.front ++ its_order
+
+    its_below : AreFoundEntries (setup_of_log life.wal).segment_size t life.front
+    its_below = subst (λ (m : ℕ). AreFoundEntries m t life.front)
+        (sym (own_size size sysid t life.setup life.disk life.wal life.first life.found
+        life.handed life.reopened)) life.below
 
     module _ (found : List FoundRecord)
         (left : WasLeft (setup_of_log life.wal).segment_size (setup_of_log life.wal).sysid t found)
         (kept : All (IsSureRecord (setup_of_log life.wal).segment_size
         (setup_of_log life.wal).sysid left.order (state_now t)) hard) where
       continued : LifeEndsAt (setup_of_log life.wal).segment_size
-          (life.reopened.es
+          (life.front
           ++ order_of tape moment faults life.wal lived.pass lived.closed lived.closes) lived.now
           lived.at next
           → All (IsPromisedDurable (setup_of_log life.wal).segment_size lived.at
-          (life.reopened.es
+          (life.front
           ++ order_of tape moment faults life.wal lived.pass lived.closed lived.closes)
           (view_of_pass lived.pass)) more
           → KeepsSure (setup_of_log life.wal).segment_size (setup_of_log life.wal).sysid next
-          (life.reopened.es
+          (life.front
           ++ order_of tape moment faults life.wal lived.pass lived.closed lived.closes)
           (hard ++ more)
       continued ends promised =
           let began = record t { calls = t.calls ++ life.reopened.settled.calls.calls } in
           let its_opening = opening_of_log life.wal in
-          let es = life.reopened.es in
+          let es = life.front in
           let on = reopened_on life.setup life.disk life.wal life.first life.found life.reopened t
-          (life.handed).before found left in
+          (life.handed).before found left es its_below in
           let is = began_as life.setup life.disk life.wal life.first life.found life.reopened t
           (life.handed).before in
           let narrow = left.has_found.may.narrow in
@@ -270,7 +305,7 @@ module _ {D : Type 0} (tape : D → Option Tape) (moment faults : D → ℕ)
           reopened_keeps its_opening es (moment life.disk) lived.at t began lived.now next found on
           its_order
           (closed_written its_opening es its_order lived.now (view_of_pass lived.pass) c
-          life.reopened.lies) goes hard kept lived.since ends.left ends.no_torn_pass more
+          on.lies) goes hard kept lived.since ends.left ends.no_torn_pass more
           (promised_firm its_opening its_order lived.now (view_of_pass lived.pass) c es lived.at more
           promised)
 
@@ -326,10 +361,12 @@ module _ {D : Type 0} (tape : D → Option Tape) (moment faults : D → ℕ)
         let began : Tape = record t { calls = t.calls ++ life.reopened.settled.calls.calls } in
         let here = subst (λ (b : Tape). LifeEndsAt s_size left.order b life.at next) began_same ends
         in
-        settled_keeps (opening_of_log life.wal) life.reopened.es (moment life.disk) life.at t began
+        let place = found_place life.setup life.disk life.wal life.first life.found life.reopened t
+        (life.handed).before found left in
+        settled_keeps (opening_of_log life.wal) place.0 (moment life.disk) life.at t began
         began next found
         (reopened_on life.setup life.disk life.wal life.first life.found life.reopened t
-        (life.handed).before found left) (
+        (life.handed).before found left place.0 place.1) (
           [],
           ap (λ (cs : List Call). Some (record began { calls = cs }))
               (sym (append-nil began.calls)),
@@ -362,7 +399,7 @@ module _ {D : Type 0} (tape : D → Option Tape) (moment faults : D → ℕ)
   uncalled_or : (setup : Setup) (old new : D) (kind : OpenFaultKind)
       → TellsReopenFault tape moment faults setup old new kind
       → IsUncalled tape moment old new
-      ⊎ HasBegunToSettle setup.segment_size setup.sysid setup.cap_segments (tape old) (tape new)
+      ⊎ HasBegunToSettle setup.segment_size setup.cap_segments (tape old) (tape new)
       (moment old) (moment new)
   uncalled_or setup old new BadSetup tells = inl (record {
     same_tape = ap tape tells.1;
@@ -393,18 +430,16 @@ module _ {D : Type 0} (tape : D → Option Tape) (moment faults : D → ℕ)
         (subst (λ (m : ℕ). LifeEndsAt size order t m next) last
         (subst (λ (d : Tape). LifeEndsAt size order d life.at next) same life.ends)) k
 
-    begun : HasBegunToSettle (life.setup).segment_size (life.setup).sysid
-        (life.setup).cap_segments (tape life.disk) (tape life.fault.disk) (moment life.disk)
-        (moment life.fault.disk) → KeepsSure size sysid next order hard
+    begun : HasBegunToSettle (life.setup).segment_size (life.setup).cap_segments (tape life.disk)
+        (tape life.fault.disk) (moment life.disk) (moment life.fault.disk) → KeepsSure size sysid next order hard
     begun settling =
         let cap = (life.setup).cap_segments in
-        let asked = as_asked (λ m n. HasBegunToSettle m n cap (tape life.disk)
-        (tape life.fault.disk) (moment life.disk) (moment life.fault.disk)) size sysid
-        (life.setup).segment_size (life.setup).sysid (life.handed).sized (life.handed).named
+        let asked = subst (λ (m : ℕ). HasBegunToSettle m cap (tape life.disk)
+        (tape life.fault.disk) (moment life.disk) (moment life.fault.disk)) (life.handed).sized
         settling in
-        let told = subst (λ (o : Option Tape). HasBegunToSettle size sysid cap (Some t) o
+        let told = subst (λ (o : Option Tape). HasBegunToSettle size cap (Some t) o
         (moment life.disk) (moment life.fault.disk)) life.after
-        (subst (λ (o : Option Tape). HasBegunToSettle size sysid cap o (tape life.fault.disk)
+        (subst (λ (o : Option Tape). HasBegunToSettle size cap o (tape life.fault.disk)
         (moment life.disk) (moment life.fault.disk)) (life.handed).before asked) in
         with_left size sysid t order hard
         (λ (o : List Entry). LifeEndsAt size o life.now life.at next

@@ -32,7 +32,9 @@ use Rattle.wal_log.specs.Opening.{IsOpened}
 use Rattle.wal_log.specs.PassLogs.{log_of_pass}
 use Rattle.wal_log.specs.Reopening.{IsReopened}
 use Rattle.wal_log_laws.specs.Growing.{HasGrown}
+use Rattle.machine_laws.specs.WholeOrders.{LiesBehind}
 use Rattle.run_laws.specs.Assured.{TapeGoesOn}
+use Rattle.reopened_log.specs.FoundFirst.{AreFoundEntries}
 use Rattle.reopened_log.proofs.Surviving.{some_tape}
 use Rattle.wal_lives.specs.History.{BeginsWal, IsHandedIn, IsLived, IsPromisedDurable, opens, order_of, starts_empty}
 use Rattle.wal_lives.specs.Reopened.{FindsCommit}
@@ -168,25 +170,32 @@ module _ {D : Type 0} (tape : D → Option Tape) (moment faults : D → ℕ)
     handed : IsHandedIn tape moment faults setup.segment_size setup.sysid behind.0 setup closed.disk
     handed = record { sized = refl; named = refl; before = behind.1 }
 
-    among : Contains (found_of setup.segment_size r.es) commit.0
-    among = All-head (Contains (found_of setup.segment_size r.es)) commit.0 []
-        ((promised_records_stay tape moment faults counts setup.segment_size setup.sysid behind.0
-        its_order (commit.0 ∷ []) (opens (starts_empty its_setup.size
+    finds : (front : List Entry) × AreFoundEntries setup.segment_size behind.0 front
+        × LiesBehind (opening_of_log again) front
+        × Contains (found_of setup.segment_size front) commit.0
+    finds =
+        let is = (promised_records_stay tape moment faults counts setup.segment_size setup.sysid
+        behind.0 its_order (commit.0 ∷ []) (opens (starts_empty its_setup.size
         (some_id setup.sysid its_setup.named) narrow empty) begins)).finds setup closed.disk again
-        next found handed r).has
+        next found handed r in (
+          is.0,
+          is.1,
+          is.2,
+          All-head (Contains (found_of setup.segment_size is.0)) commit.0 [] is.4.has,
+        )
 
-  pub finds_commit : FindsCommit (opening_of_log again) sealed
+  pub finds_commit : FindsCommit tape moment faults setup again next found sealed
   finds_commit = record {
-    order = its_order;
-    front = r.es;
-    lies = r.lies;
-    closed = behind.0;
+    wal = wal;
+    pass = pass;
+    closed = closed;
+    closes = closes;
+    reopened = r;
+    now = behind.0;
+    told = behind.1;
     commit = commit.0;
     start_is = commit.1;
     end_is = commit.2;
-    in_order = subst (λ (x : Setup). Contains (found_of x.segment_size its_order) commit.0)
-        (sym setup_again) promised.0;
-    found = subst (λ (x : Setup). NoTornPass x.segment_size
-        (pages_in x.segment_size (image_as_read (state_now behind.0))) its_order
-        → Contains (found_of x.segment_size r.es) commit.0) (sym setup_again) among;
+    in_order = promised.0;
+    found = finds;
   }

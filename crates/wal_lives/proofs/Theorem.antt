@@ -1,18 +1,17 @@
 -- Over all lives of a log what was promised to be durable is kept.
-use Rattle.std.proofs.Common.{◌≡◌, ℕ, All, List, [], ◌++◌, length, Option, IfSome, subst}
+use Rattle.std.proofs.Common.{◌≡◌, ℕ, All, List, [], ◌++◌, length, Option, IfSome, sym, ap, subst, ◌∙◌}
 use Rattle.std.specs.Prelude.{IsSome}
 use Rattle.std.proofs.lemmas.List.Elements.{All-nil}
-use Rattle.segment_disk.specs.DiskImage.{image_as_read}
 use Rattle.segment_disk.specs.Tape.{Tape, state_now}
 use Rattle.wal_page.specs.Order.{Entry}
 use Rattle.wal_reader.specs.declared.found.FoundRecord.{FoundRecord}
 use Rattle.wal_reader.specs.declared.found.Stopped.{Stopped}
-use Rattle.wal_reader.proofs.FindsLaws.{finding_is_decoding}
 use Rattle.written_log.specs.Written.{found_of}
-use Rattle.found_log.specs.Found.{IsFound, RefusesLog}
+use Rattle.written_log.proofs.LawfulLaws.{length-found_from}
+use Rattle.found_log.specs.Found.{RefusesLog}
 use Rattle.found_log.specs.declared.fault.FindFault.TheVariants as finding
 use Rattle.wal_core.specs.declared.setup.Setup.{Setup}
-use Rattle.machine_laws.specs.WholeOrders.{IsWholeOrder}
+use Rattle.machine_laws.specs.WholeOrders.{IsWholeOrder, LiesBehind}
 use Rattle.machine_laws.proofs.WholeOrders.{whole_order}
 use Rattle.wal_rule.specs.declared.pass.Pass.{Pass}
 use Rattle.wal_log.specs.declared.closing.Closed.{Closed}
@@ -22,16 +21,17 @@ use Rattle.wal_log.specs.declared.wal.Wal.{Wal}
 use Rattle.wal_log.specs.Closing.{ClosesLog}
 use Rattle.wal_log.specs.Logs.{opening_of_log}
 use Rattle.wal_log.specs.Reopening.{IsReopened, TellsReopenFault}
+use Rattle.reopened_log.specs.FoundFirst.{AreFoundEntries}
 use Rattle.reopened_log.specs.Lives.{IsFrontWith}
 use Rattle.reopened_log.specs.WasLeft.{WasLeft}
 use Rattle.reopened_log.proofs.EmptyDisks.{empty_disks_were_left}
 use Rattle.reopened_log.proofs.KeptFronts.{sure_crash, sure_reads}
 use Rattle.reopened_log.proofs.KeptLives.{KeepsSure, with_left}
 use Rattle.reopened_log.proofs.KeptRecords.{IsSureRecord}
-use Rattle.reopened_log.proofs.OwnSystem.{left_logs_are_not_foreign}
+use Rattle.reopened_log.proofs.OwnAnswers.{left_logs_are_not_foreign}
 use Rattle.wal_lives.specs.History.{WalHistory, IsHandedIn, opens, reopens, ends_reopening, fails_to_reopen, starts_empty, order_of, rests}
 use Rattle.wal_lives.specs.Lives.{KeepsPromised, PromisedRecordsStay, ThreeLivesKeepPromised}
-use Rattle.wal_lives.proofs.Lives.{at_some, begins_keeps, continues_keeps, ends_reopening_keeps, fails_to_reopen_keeps, rests_keeps}
+use Rattle.wal_lives.proofs.Lives.{at_some, begins_keeps, continues_keeps, ends_reopening_keeps, fails_to_reopen_keeps, lies_as_asked, place_as_asked, rests_keeps}
 
 module _ {D : Type 0} (tape : D → Option Tape) (moment faults : D → ℕ)
     (counts : (disk : D) → IfSome (tape disk) (λ t. moment disk ≡ length t.calls)) where
@@ -69,35 +69,43 @@ module _ {D : Type 0} (tape : D → Option Tape) (moment faults : D → ℕ)
         → IsHandedIn tape moment faults size sysid t setup disk
         → TellsReopenFault tape moment faults setup disk new (Foreign stop) → ⊥
     refused_at setup disk new stop handed tells =
-        let refuses = at_some (RefusesLog setup.segment_size setup.sysid setup.cap_segments
+        let refuses = at_some (RefusesLog setup.segment_size setup.cap_segments
         (finding.Foreign stop)) (tape disk) t handed.before tells.3 in
         left_logs_are_not_foreign size sysid setup.cap_segments t found stop left
-        (subst (λ (n : ℕ). RefusesLog size n setup.cap_segments (finding.Foreign stop) t)
-        handed.named (subst (λ (n : ℕ). RefusesLog n setup.sysid setup.cap_segments
-        (finding.Foreign stop) t) handed.sized refuses))
+        (subst (λ (n : ℕ). RefusesLog n setup.cap_segments (finding.Foreign stop) t)
+        handed.sized refuses)
 
     finds_at : (setup : Setup) (disk : D) (wal : Wal D) (first : Pass) (told : Found)
         → IsHandedIn tape moment faults size sysid t setup disk
-        → (r : IsReopened tape moment faults setup disk wal first told)
-        → IsFrontWith size left.order hard (found_of size r.es)
+        → IsReopened tape moment faults setup disk wal first told
+        → (front : List Entry) × AreFoundEntries size t front
+        × LiesBehind (opening_of_log wal) front × (told.count ≡ length front)
+        × IsFrontWith size left.order hard (found_of size front)
     finds_at setup disk wal first told handed r =
-        let is = subst (λ (n : ℕ). IsFound n setup.sysid setup.cap_segments r.es r.made t)
-        handed.sized
-        (at_some (IsFound setup.segment_size setup.sysid setup.cap_segments r.es r.made)
-        (tape disk) t handed.before r.read) in
-        sure_reads size sysid t found left hard kept (found_of size r.es)
-        ((finding_is_decoding size (image_as_read (state_now t)) size left.has_found.may.valid
-        (found_of size r.es)).1 (is.own.answer, is.own.decodes))
+        let place = place_as_asked tape moment faults counts size sysid t setup disk wal first told
+        handed r found left in
+        let front = place.0 in (
+          front,
+          place.1,
+          place.2,
+          r.count_is ∙ ap (λ (l : List FoundRecord). length l) (place.4 ∙ sym place.3)
+              ∙ length-found_from size 0 front,
+          sure_reads size sysid t found left hard kept (found_of size front) place.1.finds,
+        )
 
     goes_on_at : (setup : Setup) (disk : D) (wal : Wal D) (first pass : Pass) (told : Found)
-        (closed : Closed D) → (r : IsReopened tape moment faults setup disk wal first told)
-        → (c : ClosesLog tape moment faults wal pass closed)
+        (closed : Closed D) (front : List Entry)
+        → IsHandedIn tape moment faults size sysid t setup disk
+        → IsReopened tape moment faults setup disk wal first told
+        → AreFoundEntries size t front → (c : ClosesLog tape moment faults wal pass closed)
         → IsWholeOrder (opening_of_log wal) (order_of tape moment faults wal pass closed c)
-        (r.es ++ order_of tape moment faults wal pass closed c)
+        (front ++ order_of tape moment faults wal pass closed c)
         × All (λ e. IsSome e.pass) (order_of tape moment faults wal pass closed c)
-    goes_on_at setup disk wal first pass told closed r c =
-        let sound = (c.closes).sound in (
-          whole_order (opening_of_log wal) sound.setup_is.size r.es r.lies sound.order
+    goes_on_at setup disk wal first pass told closed front handed r below c =
+        let sound = (c.closes).sound in
+        let lies = lies_as_asked tape moment faults counts size sysid t setup disk wal first told
+        handed r found left front below in (
+          whole_order (opening_of_log wal) sound.setup_is.size front lies sound.order
               sound.reserved.chained,
           sound.reserved.owned,
         )

@@ -29,7 +29,8 @@ use Rattle.wal_log.specs.Closing.{ClosesLog}
 use Rattle.wal_log.specs.Logs.{opening_of_log, table_of}
 use Rattle.wal_log.specs.Opening.{IsOpened}
 use Rattle.wal_log.specs.Reopening.{IsReopened, RefusesReopening}
-use Rattle.closed_log.specs.Closed.{WasPromised}
+use Rattle.run_laws.specs.Closed.{WasPromised}
+use Rattle.reopened_log.specs.FoundFirst.{AreFoundEntries}
 use Rattle.reopened_log.specs.Lives.{LifeEndsAt}
 
 -- a record of the log, and by a moment it was promised to the closing pass, or to one that was
@@ -89,7 +90,10 @@ module _ {D : Type 0} (tape : D → Option Tape) (moment faults : D → ℕ) whe
     pub found : Found
     pub handed : IsHandedIn size sysid t setup disk
     pub reopened : IsReopened tape moment faults setup disk wal first found
-    pub lived : IsLived size wal reopened.es next order hard
+    -- behind the entries of the records that the reader finds there
+    pub front : List Entry
+    pub below : AreFoundEntries size t front
+    pub lived : IsLived size wal front next order hard
 
   -- such a life that was cut short while what was found was settled: the log is as it was
   pub record EndsReopening (size sysid : ℕ) (t next : Tape) (order : List Entry) : Type 0 where

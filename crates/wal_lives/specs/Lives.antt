@@ -1,7 +1,7 @@
 -- One theorem over all lives of a log that a program embeds: a record that was promised to be
 -- durable is in the log for ever, through any number of openings, crashes, kills, failed disks and
 -- reopenings.
-use Rattle.std.specs.Prelude.{◌≡◌, ℕ, ◌^◌, ◌<◌, ◌≤◌, All, List, ◌++◌, Option, IsSome, Some}
+use Rattle.std.specs.Prelude.{◌≡◌, ℕ, ◌^◌, ◌<◌, ◌≤◌, All, List, ◌++◌, length, Option, IsSome, Some}
 use Rattle.byte_position.specs.Geometry.{IsSegmentSize}
 use Rattle.record_spelling.specs.Spelling.{Assembled}
 use Rattle.wal_types.specs.declared.answers.Sealed.{Sealed}
@@ -18,7 +18,7 @@ use Rattle.written_log.specs.Torn.{NoTornPass}
 use Rattle.written_log.specs.Written.{found_of}
 use Rattle.wal_core.specs.declared.setup.Setup.{Setup}
 use Rattle.wal_core.specs.Views.{View}
-use Rattle.machine_laws.specs.WholeOrders.{IsWholeOrder}
+use Rattle.machine_laws.specs.WholeOrders.{IsWholeOrder, LiesBehind}
 use Rattle.wal_rule.specs.declared.pass.Pass.{Pass}
 use Rattle.wal_rule.specs.Passes.{view_of_pass}
 use Rattle.wal_log.specs.declared.closing.Closed.{Closed}
@@ -31,6 +31,7 @@ use Rattle.wal_log.specs.Logs.{opening_of_log, setup_of_log}
 use Rattle.wal_log.specs.PassLogs.{log_of_pass}
 use Rattle.wal_log.specs.Reopening.{IsReopened, TellsReopenFault}
 use Rattle.wal_log_laws.specs.Growing.{HasGrown}
+use Rattle.reopened_log.specs.FoundFirst.{AreFoundEntries}
 use Rattle.reopened_log.specs.Lives.{IsFrontWith}
 use Rattle.wal_lives.specs.History.{BeginsWal, ContinuesWal, WalHistory, IsHandedIn, IsPromisedDurable, order_of}
 
@@ -50,17 +51,21 @@ module _ {D : Type 0} (tape : D → Option Tape) (moment faults : D → ℕ) whe
     pub not_foreign : (setup : Setup) (disk left : D) (stop : Stopped)
         → IsHandedIn tape moment faults size sysid t setup disk
         → TellsReopenFault tape moment faults setup disk left (Foreign stop) → ⊥
-    -- where it opens the log, it finds such records,
+    -- where it opens the log, it finds such records, whose entries lie below its place,
     pub finds : (setup : Setup) (disk : D) (wal : Wal D) (first : Pass) (found : Found)
         → IsHandedIn tape moment faults size sysid t setup disk
-        → (r : IsReopened tape moment faults setup disk wal first found)
-        → IsFrontWith size order hard (found_of size r.es)
+        → IsReopened tape moment faults setup disk wal first found
+        → (front : List Entry) × AreFoundEntries size t front
+        × LiesBehind (opening_of_log wal) front × (found.count ≡ length front)
+        × IsFrontWith size order hard (found_of size front)
     -- and what is closed then goes on behind them as one log, with entries of its passes alone
     pub goes_on : (setup : Setup) (disk : D) (wal : Wal D) (first pass : Pass) (found : Found)
-        (closed : Closed D) → (r : IsReopened tape moment faults setup disk wal first found)
-        → (c : ClosesLog tape moment faults wal pass closed)
+        (closed : Closed D) (front : List Entry)
+        → IsHandedIn tape moment faults size sysid t setup disk
+        → IsReopened tape moment faults setup disk wal first found
+        → AreFoundEntries size t front → (c : ClosesLog tape moment faults wal pass closed)
         → IsWholeOrder (opening_of_log wal) (order_of tape moment faults wal pass closed c)
-        (r.es ++ order_of tape moment faults wal pass closed c)
+        (front ++ order_of tape moment faults wal pass closed c)
         × All (λ e. IsSome e.pass) (order_of tape moment faults wal pass closed c)
 
   -- this holds behind each history

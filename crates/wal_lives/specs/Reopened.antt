@@ -1,5 +1,5 @@
 -- That a commit is found where its log is reopened.
-use Rattle.std.specs.Prelude.{◌≡◌, Contains, List}
+use Rattle.std.specs.Prelude.{◌≡◌, ℕ, Contains, List, Option, Some}
 use Rattle.wal_types.specs.declared.answers.Sealed.{Sealed}
 use Rattle.segment_disk.specs.DiskImage.{image_as_read}
 use Rattle.segment_disk.specs.Tape.{Tape, state_now}
@@ -8,21 +8,39 @@ use Rattle.wal_reader.specs.declared.found.FoundRecord.{FoundRecord}
 use Rattle.wal_reader.specs.Pages.{pages_in}
 use Rattle.written_log.specs.Torn.{NoTornPass}
 use Rattle.written_log.specs.Written.{found_of}
-use Rattle.wal_core.specs.Words.{Opening}
+use Rattle.wal_core.specs.declared.setup.Setup.{Setup}
 use Rattle.machine_laws.specs.WholeOrders.{LiesBehind}
+use Rattle.wal_rule.specs.declared.pass.Pass.{Pass}
+use Rattle.wal_log.specs.declared.closing.Closed.{Closed}
+use Rattle.wal_log.specs.declared.reopening.Found.{Found}
+use Rattle.wal_log.specs.declared.wal.Wal.{Wal}
+use Rattle.wal_log.specs.Closing.{ClosesLog}
+use Rattle.wal_log.specs.Logs.{opening_of_log}
+use Rattle.wal_log.specs.Reopening.{IsReopened}
+use Rattle.reopened_log.specs.FoundFirst.{AreFoundEntries}
+use Rattle.wal_lives.specs.History.{order_of}
 
--- a log was closed with this order on a disk that had this tape then; the order has a record at the
--- place that a commit told, and so have the entries that lie below the place of a reopening, if no
--- torn record passed its CRC as the disk was read then
-pub record FindsCommit (opening : Opening) (sealed : Sealed) : Type 0 where
-  pub order : List Entry
-  pub front : List Entry
-  pub lies : LiesBehind opening front
-  pub closed : Tape
+-- a log was closed, and reopened on the disk that came back, which told this tape then; the closed
+-- order has a record at the place that a commit told. If no torn record passed its CRC as the disk
+-- was read then, the entries of the records that the reader finds there lie below the place of the
+-- reopening, and have it too
+pub record FindsCommit {D : Type 0} (tape : D → Option Tape) (moment faults : D → ℕ)
+    (setup : Setup) (again : Wal D) (first : Pass) (met : Found) (sealed : Sealed) : Type 0 where
+  pub wal : Wal D
+  pub pass : Pass
+  pub closed : Closed D
+  pub closes : ClosesLog tape moment faults wal pass closed
+  pub reopened : IsReopened tape moment faults setup closed.disk again first met
+  pub now : Tape
+  pub told : tape closed.disk ≡ Some now
   pub commit : FoundRecord
   pub start_is : commit.start.0 ≡ sealed.start.0
   pub end_is : commit.end.0 ≡ sealed.end.0
-  pub in_order : Contains (found_of (opening.setup).segment_size order) commit
-  pub found : NoTornPass (opening.setup).segment_size
-      (pages_in (opening.setup).segment_size (image_as_read (state_now closed))) order
-      → Contains (found_of (opening.setup).segment_size front) commit
+  pub in_order : Contains (found_of setup.segment_size
+      (order_of tape moment faults wal pass closed closes)) commit
+  pub found : NoTornPass setup.segment_size
+      (pages_in setup.segment_size (image_as_read (state_now now)))
+      (order_of tape moment faults wal pass closed closes)
+      → (front : List Entry) × AreFoundEntries setup.segment_size now front
+      × LiesBehind (opening_of_log again) front
+      × Contains (found_of setup.segment_size front) commit

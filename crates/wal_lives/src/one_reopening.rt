@@ -4,7 +4,6 @@
 ghost use Rattle.std.specs.Prelude.{◌≡◌, false, IfSome, IsSome};
 ghost use Rattle.record_spelling.specs.Spelling.{is_assembled_switch};
 ghost use Rattle.flush_core.specs.Pages.{HoldsNothing};
-ghost use Rattle.wal_log.specs.Logs.{opening_of_log};
 ghost use Rattle.wal_lives.specs.Reopened.{FindsCommit};
 
 use record_spelling::Body;
@@ -30,7 +29,8 @@ pub fn commit_and_reopen<D: Disk + Drop, R: Wait>(
     requires nothing { HoldsNothing (D.tape disk) }
     requires tells { IsSome (D.tape disk) }
     requires inserted { is_assembled_switch body.now ≡ false }
-    ensures { IfSome result (λ r. FindsCommit (opening_of_log r.1) r.0) }
+    ensures { IfSome result
+        (λ r. FindsCommit D.tape D.moment D.faults setup r.1 r.2 r.3 r.0) }
 {
     seats_keep_numbers();
     calls_keep_numbers();

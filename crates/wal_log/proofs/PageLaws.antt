@@ -15,7 +15,7 @@ use Rattle.wal_rule.specs.SeatedPasses.{HasView, StaysSeated, view_of}
 use Rattle.wal_rule.specs.Stepping.{Meets, Stands}
 use Rattle.word_ring.specs.Mapped.{IsOldPageUnwritten, LooksAt, MapsOn, looked_view, staged_view}
 use Rattle.word_ring.specs.Ring.{confirmed_view, end_of_page}
-use Rattle.wal_log.specs.Copying.{MapsPage, MeetsOldPage, MeetsOther, mapped_view}
+use Rattle.wal_log.specs.Copying.{MapsPage, WaitsForOldPage, MeetsOther, mapped_view}
 use Rattle.wal_log.proofs.Seated.{further_seated, seat_stays, view_is}
 
 pub maps_none : {D : Type 0} → (a : SeatedPass D) → MapsPage a a
@@ -94,7 +94,7 @@ module _ (v w : View) (confirmed written : ℕ) (is : w ≡ mapped_view confirme
 
   pub old_met : (setup : Setup) (page at told : ℕ) → (v.opening).setup ≡ setup
       → LooksAt (staged_view Taken v) at told → at < end_of_page page
-      → IsOldPageUnwritten setup at told → MeetsOldPage setup page told w
+      → IsOldPageUnwritten setup at told → WaitsForOldPage setup page told w
   old_met setup page at told own looks below old = record {
     confirmed = v.mapping.confirmed;
     written = v.writing.written;

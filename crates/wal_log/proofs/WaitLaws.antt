@@ -15,7 +15,7 @@ use Rattle.wal_rule.specs.Stepping.{Meets, Stands}
 use Rattle.wal_log.specs.declared.copying.Absent.{Absent}
 use Rattle.wal_log.specs.declared.fault.Fault.{Fault}
 use Rattle.wal_log.specs.declared.fault.Fault.TheVariants.{Disk, Down}
-use Rattle.wal_log.specs.Copying.{CopyGoesOn, MeetsMapper, MeetsOldPage, TellsAbsent}
+use Rattle.wal_log.specs.Copying.{CopyGoesOn, MeetsMapper, WaitsForOldPage, TellsAbsent}
 use Rattle.wal_log.specs.Downs.{FindsDown, KnowsNoFault, MeetsFault}
 use Rattle.wal_log.specs.PassLogs.{log_of_pass}
 use Rattle.wal_log.specs.Standing.{CopiesAlone, KeepsPass, StaysAtWork}
@@ -90,8 +90,8 @@ ring_least p = subst (λ (s : Setup). 4 ≤ s.ring_pages) (own_setup p)
     (λ (s : Stands (view_of p)). ((s.sound).setup_is).ring_low))
 
 old_page : (setup : Setup) (page turn written : ℕ) (v : View) → turn ≡ 0
-    → (MeetsMapper turn v × (written ≡ 0)) ⊎ ((turn ≡ 0) × MeetsOldPage setup page written v)
-    → MeetsOldPage setup page written v
+    → (MeetsMapper turn v × (written ≡ 0)) ⊎ ((turn ≡ 0) × WaitsForOldPage setup page written v)
+    → WaitsForOldPage setup page written v
 old_page setup page turn written v zero (inl mapper) = absurd ((mapper.0).taken zero)
 old_page setup page turn written v zero (inr old) = old.1
 

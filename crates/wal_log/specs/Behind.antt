@@ -70,8 +70,8 @@ pub record SeesTarget (flushed target : ℕ) (old new : View) : Type 0 where
       ⊎ ((page_of_end old (new.reserving).seen ≤ flushed) × (target ≡ new.async_met))
   pub reserved : target ≤ end_form (old.opening).setup (new.reserving).seen
 
--- nothing was to be flushed: a down value of 0 was met, and then neither where the end's page begins
--- nor the async address that was met is above the flushed address that was met
+-- nothing was to be flushed: a down value of 0 was met, and then neither where the end's page
+-- begins nor the async address that was met is above the flushed address that was met
 pub record FindsNothing (upto : ℕ) (old new : View) : Type 0 where
   pub looked : Meets old load_down 0
   pub sees : SeesTarget upto new.async_met (view_met_up old) new

@@ -64,7 +64,7 @@ pub record MeetsMapper (turn : ℕ) (v : View) : Type 0 where
 -- begins at that end, which lies before this one's, has a buffer whose page ends above the other:
 -- the written address lies on that page. They were met by this view, but for the highest end met
 -- and the written address loaded
-pub record MeetsOldPage (setup : Setup) (page told : ℕ) (v : View) : Type 0 where
+pub record WaitsForOldPage (setup : Setup) (page told : ℕ) (v : View) : Type 0 where
   pub confirmed : ℕ
   pub written : ℕ
   pub at : ℕ
@@ -76,7 +76,7 @@ pub record MeetsOldPage (setup : Setup) (page told : ℕ) (v : View) : Type 0 wh
 -- why a page was not mapped: the turn was taken, or the page to be replaced is not written
 abbrev pub IsInTheWay : Setup → (page turn written : ℕ) → View → Type 0
 IsInTheWay setup page turn written v = (MeetsMapper turn v × (written ≡ 0))
-    ⊎ ((turn ≡ 0) × MeetsOldPage setup page written v)
+    ⊎ ((turn ≡ 0) × WaitsForOldPage setup page written v)
 
 -- the page is not in its buffer, and could not be mapped
 pub record TellsAbsent (setup : Setup) (page : ℕ) (v : View) (absent : Absent) : Type 0 where

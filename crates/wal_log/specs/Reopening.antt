@@ -1,18 +1,19 @@
 -- What a reopening answers: a log that was found, settled, and is gone on with.
-use Rattle.std.specs.Prelude.{◌≡◌, ℕ, ◌≤◌, ◌⊎◌, List, length, Option, IfSome}
+use Rattle.std.specs.Prelude.{◌≡◌, ℕ, ◌+◌, ◌*◌, ◌<◌, ◌≤◌, ◌⊎◌, List, length, Option, IfSome}
 use Rattle.byte_position.specs.Position.{end_address_of}
+use Rattle.record_spelling.specs.Spelling.{word_at}
 use Rattle.segment_disk.specs.Cause.{Rose}
 use Rattle.segment_disk.specs.Tape.{IsUncalled, Tape}
 use Rattle.flush_core.specs.Settled.{HasNotSettled, HasSettled}
-use Rattle.wal_page.specs.Order.{Entry, end_position}
-use Rattle.found_log.specs.Found.{HasBegunToSettle, IsFound, RefusesLog}
-use Rattle.found_log.specs.Spelled.{EndsSpelled, Reaches, spelled_entries}
+use Rattle.wal_page.specs.LogPlace.{IsPlace, LogPlace, word_below}
+use Rattle.wal_reader.specs.declared.found.FoundRecord.{FoundRecord}
+use Rattle.written_log.specs.FoundLog.{end_behind, last_start_behind}
+use Rattle.found_log.specs.Found.{HasBegunToSettle, IsDiskLog, RefusesLog, place_of_log}
+use Rattle.found_log.specs.Words.{start_of_page}
 use Rattle.found_log.specs.declared.fault.FindFault.{FindFault}
 use Rattle.found_log.specs.declared.fault.FindFault.TheVariants as finding
 use Rattle.found_log.specs.declared.finding.FoundLog.{FoundLog}
 use Rattle.wal_core.specs.declared.setup.Setup.{Setup}
-use Rattle.wal_core.specs.Behind.{place_of_found}
-use Rattle.machine_laws.specs.WholeOrders.{LiesBehind}
 use Rattle.wal_core.specs.Opened.{IsOpenable, first_view}
 use Rattle.wal_core.specs.Sound.{IsSetup}
 use Rattle.wal_core.specs.Words.{Opening}
@@ -29,22 +30,22 @@ use Rattle.wal_log.specs.Logs.{IsPassOfLog, opening_of_log, table_of}
 
 -- ---- a log that was found
 
-abbrev pub entries_found : FoundLog → List Entry
-entries_found log = spelled_entries log.spelled
-
--- it may be gone on with under this setup
+-- it may be gone on with under this setup: at its place, of whose page it has the words below
 pub record IsFoundWithin (setup : Setup) (log : FoundLog) : Type 0 where
-  pub ends : EndsSpelled setup.segment_size setup.sysid log.spelled
+  pub placed : IsPlace setup.segment_size (place_of_log log)
+  pub position_is : end_address_of setup.segment_size log.position ≡ log.end.0
   pub within : log.made ≤ setup.cap_segments
-  pub reaches : Reaches setup.segment_size log.made log.spelled
+  pub reaches : log.end.0 ≤ log.made * setup.segment_size + setup.segment_size
+  pub page_is : (j : ℕ) → start_of_page log.end.0 + 8 * j < log.end.0
+      → word_at log.page.value j
+      ≡ word_below setup.segment_size (place_of_log log) (start_of_page log.end.0 + 8 * j)
 
 -- a log is opened behind it at a moment
 pub record IsOpenedBehind (setup : Setup) (log : FoundLog) (moment : ℕ) (opening : Opening)
     : Type 0 where
   pub setup_is : opening.setup ≡ setup
   pub moment_is : opening.moment ≡ moment
-  pub place_is : opening.place
-      ≡ place_of_found setup.segment_size setup.sysid (entries_found log)
+  pub place_is : opening.place ≡ place_of_log log
 
 -- why a log was not reopened that was not found
 abbrev pub unfound_kind : FindFault → OpenFaultKind
@@ -56,23 +57,25 @@ unfound_kind (finding.Foreign stop) = Foreign stop
 -- ---- a log that is gone on with
 
 module _ {D : Type 0} (tape : D → Option Tape) (moment faults : D → ℕ) where
-  -- a log that holds just the entries that were found, in the segments up to the last one made,
-  -- with its first pass: they are what the disk's log reads as, and it was settled up to their end
+  -- a log that goes on at the place where it was found to end, in the segments up to the last one
+  -- made, with its first pass: it was settled up to there. The records that were read end there,
+  -- and where the disk tells what it holds, they are its log
   pub record IsReopened (setup : Setup) (disk : D) (wal : Wal D) (pass : Pass) (found : Found)
       : Type 0 where
-    pub es : List Entry
+    pub records : List FoundRecord
+    pub place : LogPlace
     pub made : ℕ
     pub opening : opening_of_log wal
-        ≡ found_log_opening setup es made (opening_of_log wal).moment (faults disk)
+        ≡ found_log_opening setup place made (opening_of_log wal).moment (faults disk)
     pub openable : IsOpenable (opening_of_log wal)
-    pub lies : LiesBehind (opening_of_log wal) es
     pub settled : HasSettled setup.segment_size found.end.0 made (tape disk)
         (began_of_table tape (table_of wal)) (moment disk) (opening_of_log wal).moment
-    pub count_is : found.count ≡ length es
-    pub end_is : found.end.0
-        ≡ end_address_of setup.segment_size (end_position setup.segment_size es)
+    pub count_is : found.count ≡ length records
+    pub end_is : found.end.0 ≡ end_behind setup.segment_size records
+    pub goes_on_at : end_address_of setup.segment_size place.position ≡ found.end.0
+    pub prev_is : place.prev ≡ last_start_behind 0 records
     pub read : IfSome (tape disk)
-        (IsFound setup.segment_size setup.sysid setup.cap_segments es made)
+        (IsDiskLog setup.segment_size setup.cap_segments records place made)
     pub pass_is : IsPassOfLog wal pass
     pub view : view_of_pass pass ≡ first_view (opening_of_log wal)
 
@@ -80,14 +83,13 @@ module _ {D : Type 0} (tape : D → Option Tape) (moment faults : D → ℕ) whe
   pub record GoesOn (setup : Setup) (log : FoundLog) (disk : D) (wal : Wal D) (pass : Pass)
       (found : Found) : Type 0 where
     pub opening : opening_of_log wal
-        ≡ found_log_opening setup (entries_found log) log.made (opening_of_log wal).moment
+        ≡ found_log_opening setup (place_of_log log) log.made (opening_of_log wal).moment
         (faults disk)
     pub openable : IsOpenable (opening_of_log wal)
-    pub lies : LiesBehind (opening_of_log wal) (entries_found log)
-    pub settled : HasSettled setup.segment_size log.spelled.end.0 log.made (tape disk)
+    pub settled : HasSettled setup.segment_size log.end.0 log.made (tape disk)
         (began_of_table tape (table_of wal)) (moment disk) (opening_of_log wal).moment
-    pub count_is : found.count ≡ log.spelled.count
-    pub end_is : found.end ≡ log.spelled.end
+    pub count_is : found.count ≡ log.count
+    pub end_is : found.end ≡ log.end
     pub pass_is : IsPassOfLog wal pass
     pub view : view_of_pass pass ≡ first_view (opening_of_log wal)
 
@@ -97,7 +99,7 @@ module _ {D : Type 0} (tape : D → Option Tape) (moment faults : D → ℕ) whe
   LeavesUnopened setup log old new BadSetup = ⊥
   LeavesUnopened setup log old new Memory = new ≡ old
   LeavesUnopened setup log old new (Disk told) = HasNotSettled setup.segment_size
-      log.spelled.end.0 (tape old) (tape new) (moment old) (moment new)
+      log.end.0 (tape old) (tape new) (moment old) (moment new)
       × (told ≡ faults new) × Rose (faults old) (faults new)
   LeavesUnopened setup log old new NotEmpty = ⊥
   LeavesUnopened setup log old new (Beyond segment) = ⊥
@@ -112,16 +114,16 @@ module _ {D : Type 0} (tape : D → Option Tape) (moment faults : D → ℕ) whe
   TellsReopenFault setup old new (Disk told) = IsSetup setup × (told ≡ faults new)
       × Rose (faults old) (faults new)
       × (IsUncalled tape moment old new
-      ⊎ HasBegunToSettle setup.segment_size setup.sysid setup.cap_segments (tape old) (tape new)
+      ⊎ HasBegunToSettle setup.segment_size setup.cap_segments (tape old) (tape new)
       (moment old) (moment new))
   TellsReopenFault setup old new NotEmpty = ⊥
   TellsReopenFault setup old new (Beyond segment) = IsSetup setup × IsUncalled tape moment old new
       × (faults new ≡ faults old)
-      × IfSome (tape old) (RefusesLog setup.segment_size setup.sysid setup.cap_segments
+      × IfSome (tape old) (RefusesLog setup.segment_size setup.cap_segments
       (finding.Beyond segment))
   TellsReopenFault setup old new (Foreign stop) = IsSetup setup × IsUncalled tape moment old new
       × (faults new ≡ faults old)
-      × IfSome (tape old) (RefusesLog setup.segment_size setup.sysid setup.cap_segments
+      × IfSome (tape old) (RefusesLog setup.segment_size setup.cap_segments
       (finding.Foreign stop))
 
   abbrev pub RefusesReopening : Setup → D → OpenFault D → Type 0

@@ -7,8 +7,8 @@ use std::sync::Wait;
 use std::thread::Parker;
 use std::time::Duration;
 
-// The pauses before the first sleep: a millisecond or more of yields, as was measured. A sleep takes
-// some 0.11 to 0.16 (docs/PERFORMANCE.md), so it adds little to what is waited for.
+// The pauses before the first sleep: a millisecond or more of yields, as was measured. A sleep
+// takes some 0.11 to 0.16 (docs/PERFORMANCE.md), so it adds little to what is waited for.
 const PAUSES: u32 = 4000;
 
 // In microseconds.

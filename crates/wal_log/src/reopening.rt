@@ -1,24 +1,24 @@
-// A log that was left on a disk is gone on with (PostgreSQL's xlog.c, StartupXLOG). It is found, and
-// what settles it is planned, by reads alone; all memory is taken before the first counted call.
-// The plan tells at which moment the disk stands once it is settled, so the words and the table are
-// made for that moment, and the table settles the disk when it has all its memory. No counted call
-// is made from then on.
+// A log that was left on a disk is gone on with (PostgreSQL's xlog.c, StartupXLOG). It is found,
+// and what settles it is planned, by reads alone; all memory is taken before the first counted
+// call. The plan tells at which moment the disk stands once it is settled, so the words and the
+// table are made for that moment, and the table settles the disk when it has all its memory. No
+// counted call is made from then on.
 ghost use Rattle.std.specs.Prelude.{◌≡◌, ℕ, ◌<◌, IfErr, IfOk, OnOk, slice_index};
 ghost use Rattle.record_spelling.specs.Spelling.{word_at};
 ghost use Rattle.segment_disk.specs.Tape.{IsUncalled};
 ghost use Rattle.flush_core.specs.Planned.{IsPlanOf};
-ghost use Rattle.found_log.specs.Found.{FindsLog};
+ghost use Rattle.found_log.specs.Found.{FindsLog, place_of_log};
 ghost use Rattle.wal_core.specs.Opened.{AreFirstWords};
 ghost use Rattle.wal_core.specs.Sound.{IsSetup};
 ghost use Rattle.wal_core.specs.Words.{Opening};
 ghost use Rattle.wal_core.specs.declared.setup.Setup.{Setup};
 ghost use Rattle.found_log.specs.declared.finding.FoundLog.{FoundLog};
 ghost use Rattle.wal_rule.specs.Opening.{TellsResumeErr};
-ghost use Rattle.wal_log.specs.Reopening.{GoesOn, IsFoundWithin, IsOpenedBehind, IsReopened, LeavesUnopened, RefusesReopening, TellsReopenFault, entries_found, unfound_kind};
+ghost use Rattle.wal_log.specs.Reopening.{GoesOn, IsFoundWithin, IsOpenedBehind, IsReopened, LeavesUnopened, RefusesReopening, TellsReopenFault, unfound_kind};
 
 use crate::opening::{OpenFault, OpenFaultKind};
 use crate::wal::Wal;
-use byte_position::{Geometry, PAGE_SIZE};
+use byte_position::Geometry;
 use flush_core::{SettleFault, SettlePlan};
 use found_log::{FindFault, FoundLog, find};
 use machine_words::{LogEnd, LogShape, MachineWords, Word};
@@ -26,7 +26,7 @@ use segment_disk::Disk;
 use std::alloc::{AllocError, Global};
 use std::marker::Brand;
 use wal_core::Setup;
-use wal_rule::{FoundEntries, Founding, LogTable, LogWriter, Pass, PicksEntries, ResumeErr};
+use wal_rule::{Founding, LogTable, LogWriter, OrderPlace, Pass, PicksPlace, ResumeErr};
 use wal_types::Lsn;
 
 /// What a reopening found.
@@ -39,10 +39,11 @@ pub struct Found {
 }
 
 impl<D: Disk> Wal<D> {
-    /// Opens the log that is on a disk, whatever a crash left of it, and its first pass, which may
-    /// give all other numbers away. Once it has found the log, it makes durable what it read and
-    /// clears what a crash left behind the end; records go on there. On a disk without segment 1 it
-    /// begins a log that holds nothing.
+    /// Opens the log that is on a disk, whatever a crash left of it and whoever wrote it, and its
+    /// first pass, which may give all other numbers away. Once it has found the log, it makes
+    /// durable what it read and clears what a crash left behind the end; records go on there. What
+    /// lies below the end stays as it was read. On a disk without segment 1 it begins a log that
+    /// holds nothing.
     ///
     /// All memory, and each reason to refuse the log, comes before the first counted call of the
     /// disk. After a refusal the log may be reopened again, as often as it takes.
@@ -84,17 +85,17 @@ impl<D: Disk> Wal<D> {
         requires log { IsFoundWithin setup log.now }
         requires words { (opening : Opening) → IsOpenedBehind setup log.now 0 opening
             → AreFirstWords opening words.words }
-        requires plan { IsPlanOf setup.segment_size log.now.spelled.end.0 log.now.made
+        requires plan { IsPlanOf setup.segment_size log.now.end.0 log.now.made
             (D.tape disk) plan.now }
         ensures goes_on { IfOk result
             (λ r. GoesOn D.tape D.moment D.faults setup log.now disk r.0 r.1 r.2) }
         ensures refused { IfErr result
             (λ e. LeavesUnopened D.tape D.moment D.faults setup log.now disk e.disk e.kind) }
     {
-        let founding = Founding::of_found(setup, &disk, found_entries(log), log.made, plan);
+        let founding = Founding::of_found(setup, &disk, place_of(log), log.made, plan);
         words.set(Word::Moment, founding.moment);
-        let end = log.spelled.end;
-        let count = log.spelled.count;
+        let end = log.end;
+        let count = log.count;
         let writer = LogWriter::resume(disk, shape.geometry(), end.0, log.made);
         match LogTable::resume(alloc, words.as_slice(), writer, shape, &founding, plan) {
             Ok((table, seat)) => {
@@ -109,7 +110,7 @@ impl<D: Disk> Wal<D> {
 // Why a log was not opened that was found.
 fn resume_fault<D: Disk>(error: ResumeErr<D>) -> OpenFault<D>
     ensures { (setup : Setup) (log : FoundLog) (old : D)
-        → TellsResumeErr D.tape D.moment D.faults setup.segment_size log.spelled.end.0 old error
+        → TellsResumeErr D.tape D.moment D.faults setup.segment_size log.end.0 old error
         → LeavesUnopened D.tape D.moment D.faults setup log old result.disk result.kind }
 {
     match error {
@@ -134,18 +135,18 @@ fn find_planned<D: Disk>(
 ) -> Result<(FoundLog, MachineWords, SettlePlan), OpenFaultKind>
     requires setup { IsSetup setup }
     requires size { setup.segment_size ≡ geometry }
-    ensures found { IfOk result (λ r. FindsLog setup.segment_size setup.sysid setup.cap_segments
+    ensures found { IfOk result (λ r. FindsLog setup.segment_size setup.cap_segments
         (D.tape disk.old) r.0) }
     ensures words { IfOk result (λ r. (opening : Opening) → IsOpenedBehind setup r.0 0 opening
         → AreFirstWords opening r.1.words) }
-    ensures planned { IfOk result (λ r. IsPlanOf setup.segment_size r.0.spelled.end.0 r.0.made
+    ensures planned { IfOk result (λ r. IsPlanOf setup.segment_size r.0.end.0 r.0.made
         (D.tape disk.old) r.2) }
     ensures uncalled { IsUncalled D.tape D.moment disk.old disk.new }
     ensures no_fault { OnOk result (D.faults disk.new ≡ D.faults disk.old) }
     ensures refused { IfErr result
         (TellsReopenFault D.tape D.moment D.faults setup disk.old disk.new) }
 {
-    let log = match find(alloc, disk, geometry, setup.sysid, setup.cap_segments) {
+    let log = match find(alloc, disk, geometry, setup.cap_segments) {
         Ok(log) => log,
         Err(fault) => return Err(unfound_kind(fault)),
     };
@@ -180,44 +181,22 @@ fn words_behind(alloc: Global, setup: Setup, log: &FoundLog) -> Result<MachineWo
         → IfOk result (λ words. AreFirstWords opening words.words) }
 {
     let end = LogEnd {
-        position: log.spelled.position,
-        address: log.spelled.end.0,
-        last_start: log.spelled.last_start.0,
+        position: log.position,
+        address: log.end.0,
+        last_start: log.last_start.0,
     };
-    let page = bytes_of(&log.spelled.words);
-    MachineWords::resume(alloc, setup, 0, end, &page)
+    MachineWords::resume(alloc, setup, 0, end, &log.page)
 }
 
-// The bytes of a page's words.
-fn bytes_of(words: &[u64; 1024]) -> [u8; PAGE_SIZE as usize]
-    ensures { (n : ℕ) → n < 1024 → word_at result n ≡ slice_index words.now n }
+// The place at which a log goes on that was found.
+fn place_of(log: &FoundLog) -> OrderPlace
+    ensures { result.place ≡ place_of_log log.now }
 {
-    let mut bytes = [0; PAGE_SIZE as usize];
-    for n in 0..1024 {
-        put_word(&mut bytes, n, words[n]);
-    }
-    bytes
+    picked_place::<Brand>(log)
 }
 
-// Puts a page's n-th word at its place.
-fn put_word(bytes: &mut [u8; PAGE_SIZE as usize], n: usize, word: u64)
-    requires { n < 1024 }
-    ensures own { word_at bytes.new n ≡ word }
-    ensures below { (m : ℕ) → m < n → word_at bytes.new m ≡ word_at bytes.old m }
+fn picked_place<B: PicksPlace>(_log: &FoundLog) -> OrderPlace
+    ensures { result.place ≡ B.place }
 {
-    let at = 8 * n;
-    bytes[at..at + 8].copy_from_slice(&word.to_le_bytes());
-}
-
-// The entries of a log that was found.
-fn found_entries(log: &FoundLog) -> FoundEntries
-    ensures { result.entries ≡ entries_found log.now }
-{
-    picked_entries::<Brand>(log)
-}
-
-fn picked_entries<B: PicksEntries>(_log: &FoundLog) -> FoundEntries
-    ensures { result.entries ≡ B.entries }
-{
-    FoundEntries::of::<B>()
+    OrderPlace::of::<B>()
 }

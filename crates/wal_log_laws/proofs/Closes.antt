@@ -19,15 +19,15 @@ use Rattle.wal_rule.proofs.SlotTapes.{tape_on_first}
 use Rattle.wal_rule.proofs.OpeningTold.{began_suited}
 use Rattle.machine_laws.specs.WholeOrders.{LiesBehind}
 use Rattle.machine_laws.proofs.WholeOrders.{LiesBehind-new}
-use Rattle.closed_log.specs.Closed.{IsClosedOn, WasPromised}
-use Rattle.closed_log.specs.Rising.{LogsAreOfOrder}
-use Rattle.closed_log.specs.Whole.{HoldsWhole}
-use Rattle.closed_log.proofs.Closing.{told_from}
-use Rattle.closed_log.proofs.Fronts.{survive}
-use Rattle.closed_log.proofs.Promises.{within_words}
-use Rattle.closed_log.proofs.ReadWhole.{whole}
-use Rattle.closed_log.proofs.Risen.{risen}
-use Rattle.closed_log.proofs.Timeliness.{timely}
+use Rattle.run_laws.specs.Closed.{IsClosedOn, WasPromised}
+use Rattle.run_laws.specs.Rising.{LogsAreOfOrder}
+use Rattle.run_laws.specs.Whole.{HoldsWhole}
+use Rattle.run_laws.proofs.Closing.{told_from}
+use Rattle.run_laws.proofs.Fronts.{survive}
+use Rattle.run_laws.proofs.Promises.{within_words}
+use Rattle.run_laws.proofs.ReadWhole.{whole}
+use Rattle.run_laws.proofs.Risen.{risen}
+use Rattle.run_laws.proofs.Timeliness.{timely}
 use Rattle.wal_log.specs.declared.closing.Closed.{Closed}
 use Rattle.wal_log.specs.declared.wal.Wal.{Wal}
 use Rattle.wal_log.specs.Closing.{ClosesLog}

@@ -6,7 +6,7 @@ use Rattle.wal_types.specs.declared.answers.Sealed.{Sealed}
 use Rattle.wal_page.specs.Order.{Entry, finish_of}
 use Rattle.wal_core.specs.declared.setup.Setup.{Setup}
 use Rattle.wal_core.specs.Views.{FlushPromise, View}
-use Rattle.closed_log.specs.Closed.{WasPromised}
+use Rattle.run_laws.specs.Closed.{WasPromised}
 use Rattle.wal_log.specs.Committing.{IsSealed}
 use Rattle.wal_log.specs.Flushing.{IsToldHard, TellsHard}
 use Rattle.wal_log.specs.Inserting.{HasReserved}

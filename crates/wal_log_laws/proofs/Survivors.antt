@@ -16,8 +16,8 @@ use Rattle.wal_reader.specs.declared.found.FoundRecord.{FoundRecord}
 use Rattle.written_log.specs.Written.{found_entry, found_from}
 use Rattle.wal_rule.specs.declared.pass.Pass.{Pass}
 use Rattle.wal_rule.specs.Passes.{view_of_pass}
-use Rattle.closed_log.specs.Rising.{LogsAreOfOrder}
-use Rattle.closed_log.specs.Surviving.{IsFrontAsPromised}
+use Rattle.run_laws.specs.Rising.{LogsAreOfOrder}
+use Rattle.run_laws.specs.Surviving.{IsFrontAsPromised}
 use Rattle.wal_log.specs.declared.closing.Closed.{Closed}
 use Rattle.wal_log.specs.declared.wal.Wal.{Wal}
 use Rattle.wal_log.specs.Committing.{IsSealed}

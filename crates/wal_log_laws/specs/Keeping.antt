@@ -8,11 +8,11 @@ use Rattle.wal_core.specs.Words.{Opening, end_form, flushed_word}
 use Rattle.wal_core.specs.Views.{FlushPromise, View}
 use Rattle.wal_rule.specs.declared.pass.Pass.{Pass}
 use Rattle.wal_rule.specs.Passes.{view_of_pass}
-use Rattle.closed_log.specs.Closed.{IsClosedOn, WasPromised}
-use Rattle.closed_log.specs.Rising.{LogsAreOfOrder}
-use Rattle.closed_log.specs.Surviving.{LeavesFronts}
-use Rattle.closed_log.specs.Timely.{IsTimely}
-use Rattle.closed_log.specs.Whole.{HoldsWhole}
+use Rattle.run_laws.specs.Closed.{IsClosedOn, WasPromised}
+use Rattle.run_laws.specs.Rising.{LogsAreOfOrder}
+use Rattle.run_laws.specs.Surviving.{LeavesFronts}
+use Rattle.run_laws.specs.Timely.{IsTimely}
+use Rattle.run_laws.specs.Whole.{HoldsWhole}
 use Rattle.wal_log.specs.declared.closing.Closed.{Closed}
 use Rattle.wal_log.specs.declared.wal.Wal.{Wal}
 use Rattle.wal_log.specs.Closing.{ClosesLog}

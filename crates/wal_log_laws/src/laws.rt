@@ -15,7 +15,7 @@ ghost use Rattle.wal_core.specs.Words.{Opening};
 ghost use Rattle.wal_rule.specs.declared.pass.Pass.{Pass};
 ghost use Rattle.wal_rule.specs.Passes.{view_of_pass};
 ghost use Rattle.wal_core.specs.Moves.{after_join, after_split};
-ghost use Rattle.closed_log.specs.Closed.{WasPromised};
+ghost use Rattle.run_laws.specs.Closed.{WasPromised};
 ghost use Rattle.wal_log.specs.Behind.{AnswersBehind};
 ghost use Rattle.wal_log.specs.Committing.{AnswersCommit, IsSealed};
 ghost use Rattle.wal_log.specs.Flights.{AnswersTryBegin};

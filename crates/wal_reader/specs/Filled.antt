@@ -13,7 +13,13 @@ use Rattle.wal_reader.specs.declared.standing.Step.TheVariants as steps
 -- a record that was found, and carries this
 abbrev pub found_with : Record → FoundHead → FoundRecord
 found_with value head =
-    record { start = head.start; end = head.end; prev = head.prev; total = head.total; value = value }
+    record {
+      start = head.start;
+      end = head.end;
+      prev = head.prev;
+      total = head.total;
+      value = value;
+    }
 
 -- the same with the place behind it, or why none was found
 abbrev pub read_with : {E : Type 0} → Record → Result (FoundHead × RecordPlace) E

@@ -33,7 +33,7 @@ pub struct Reader {
     ready: Option<PageCursor>,
     ghost on_way: { IsOnWay standing } by { IsOnWay-prop standing },
     ghost fit: { AreFor geometry buffers } by { AreFor-prop geometry buffers },
-    ghost at_next: { IsReadyIn standing buffers ready } by { IsReadyIn-prop standing buffers ready },
+    ghost ahead: { IsReadyIn standing buffers ready } by { IsReadyIn-prop standing buffers ready },
 }
 
 impl Reader {

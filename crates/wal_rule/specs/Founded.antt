@@ -1,24 +1,22 @@
 -- What is fixed when a table is made, of a log that holds nothing or of one that was found. Where
 -- something was found, the disk is settled behind that: so what is fixed names the disk as it was
 -- handed in, and the moment at which the log is opened, behind the settling.
-use Rattle.std.specs.Prelude.{ℕ, List, [], Option}
+use Rattle.std.specs.Prelude.{ℕ, Option}
 use Rattle.segment_disk.specs.Tape.{Tape}
 use Rattle.flush_core.specs.Planned.{settled_tape}
-use Rattle.wal_page.specs.Order.{Entry}
+use Rattle.wal_page.specs.LogPlace.{LogPlace, new_place}
 use Rattle.wal_core.specs.declared.setup.Setup.{Setup}
-use Rattle.wal_core.specs.Behind.{place_of_found}
 use Rattle.wal_core.specs.Views.{Plain}
 use Rattle.wal_core.specs.Words.{Opening, found_end}
 use Rattle.wal_rule.specs.declared.seats.Founding.{Founding}
 use Rattle.wal_rule.specs.Slotted.{resting_plain}
 
--- what is fixed of a log that goes on behind these entries, which were found in segments from 1 up
--- to the last made
-abbrev pub found_log_opening : Setup → List Entry → (made moment faults : ℕ) → Opening
-found_log_opening setup found made moment faults =
+-- what is fixed of a log that goes on at this place, in segments from 1 up to the last made
+abbrev pub found_log_opening : Setup → LogPlace → (made moment faults : ℕ) → Opening
+found_log_opening setup place made moment faults =
     record {
       setup = setup;
-      place = place_of_found setup.segment_size setup.sysid found;
+      place = place;
       made = made;
       moment = moment;
       faults = faults;
@@ -26,10 +24,11 @@ found_log_opening setup found made moment faults =
 
 -- .. and of one that holds nothing
 abbrev pub empty_log_opening : Setup → (moment faults : ℕ) → Opening
-empty_log_opening setup moment faults = found_log_opening setup [] 0 moment faults
+empty_log_opening setup moment faults =
+    found_log_opening setup (new_place setup.segment_size) 0 moment faults
 
 abbrev pub founded_opening : {D : Type 0} → Founding D → Opening
-founded_opening founding = found_log_opening founding.setup (founding.found).entries
+founded_opening founding = found_log_opening founding.setup (founding.place).place
     founding.made founding.moment founding.faults
 
 -- the disk as it was handed in

@@ -9,7 +9,7 @@ ghost use Rattle.flush_core.specs.Planned.{call_count};
 ghost use Rattle.wal_rule.specs.Founded.{disk_of_founding, empty_log_opening, found_log_opening, founded_opening};
 ghost use Rattle.wal_core.specs.Views.{View};
 
-use crate::found::FoundEntries;
+use crate::place::OrderPlace;
 use flush_core::SettlePlan;
 use segment_disk::Disk;
 use std::marker::{Model, PhantomData};
@@ -34,13 +34,13 @@ impl Model for PassView {
     ghost also_owns = { λ _. ftrue };
 }
 
-/// What is fixed of a table: how its log was set up, the entries that were found in it and the last
-/// segment that was made of it; its disk as it was handed in, with its count of faults; and the
-/// disk's moment when the log is opened, which for one that was found is behind the settling.
+/// What is fixed of a table: how its log was set up, the place at which its order begins and the
+/// last segment that was made of it; its disk as it was handed in, with its count of faults; and
+/// the disk's moment when the log is opened, which for one that was found is behind the settling.
 #[derive(Drop)]
 pub struct Founding<D> {
     pub setup: Setup,
-    pub found: FoundEntries,
+    pub place: OrderPlace,
     /// 0 where there was no segment.
     pub made: u64,
     pub moment: u64,
@@ -55,19 +55,20 @@ impl<D: Disk> Founding<D> {
             ≡ empty_log_opening setup (D.moment disk.now) (D.faults disk.now) }
         ensures disk { disk_of_founding result ≡ disk.now }
     {
-        Founding::at(setup, disk, FoundEntries::none(), 0, disk.moment())
+        Founding::at(setup, disk, OrderPlace::of_new_log(setup), 0, disk.moment())
     }
 
     /// What is to be fixed of a table for a log that was found on this disk, in segments from 1 up
-    /// to `made`, and is opened once it was settled by the plan. It makes no device call.
+    /// to `made`, and goes on at this place once it was settled by the plan. It makes no device
+    /// call.
     pub fn of_found(
         setup: Setup,
         disk: &D,
-        found: FoundEntries,
+        place: OrderPlace,
         made: u64,
         plan: &SettlePlan,
     ) -> Founding<D>
-        ensures opening { founded_opening result ≡ found_log_opening setup found.entries made
+        ensures opening { founded_opening result ≡ found_log_opening setup place.place made
             result.moment (D.faults disk.now) }
         // The moment behind the planned calls, where there is one.
         ensures moment { D.moment disk.now + call_count plan.now < 2 ^ 64
@@ -75,17 +76,17 @@ impl<D: Disk> Founding<D> {
         ensures disk { disk_of_founding result ≡ disk.now }
     {
         let moment = plan.moment_behind(disk.moment());
-        Founding::at(setup, disk, found, made, moment)
+        Founding::at(setup, disk, place, made, moment)
     }
 
-    fn at(setup: Setup, disk: &D, found: FoundEntries, made: u64, moment: u64) -> Founding<D>
+    fn at(setup: Setup, disk: &D, place: OrderPlace, made: u64, moment: u64) -> Founding<D>
         ensures opening { founded_opening result
-            ≡ found_log_opening setup found.entries made moment (D.faults disk.now) }
+            ≡ found_log_opening setup place.place made moment (D.faults disk.now) }
         ensures disk { disk_of_founding result ≡ disk.now }
     {
         Founding {
             setup,
-            found,
+            place,
             made,
             moment,
             faults: disk.faults(),

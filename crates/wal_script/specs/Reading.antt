@@ -80,8 +80,8 @@ abbrev pub JudgesBody : Result Assembled LineError → Result Record ScriptFault
 JudgesBody (Ok body) meaning = (value : Record) × (meaning ≡ Ok value) × IsBodyOf value body
 JudgesBody (Err error) meaning = FailsAs error meaning
 
--- a line that inserts the record that fields mean joins those before; their fault is what they mean,
--- and leaves them as they were
+-- a line that inserts the record that fields mean joins those before; their fault is what they
+-- mean, and leaves them as they were
 abbrev pub InsertGives : {X : Type 0} → ℕ → List Line → List Line → Result X LineError
     → Result Record ScriptFault → Type 0
 InsertGives number old new (Ok done) meaning =

@@ -3,3 +3,12 @@ pub mod Standby
 pub mod Opened
 pub mod Following
 pub mod FollowedLog
+pub mod Fetched
+pub mod Answered
+pub mod Receiving
+pub mod Steps
+pub mod Sent
+pub mod SentFrames
+pub mod Synced
+pub mod Sending
+pub mod Putting

@@ -32,8 +32,8 @@ impl Bytes {
         }
     }
 
-    /// Holds other bytes from now on, in the room that it has where they fit there. Behind a want of
-    /// memory it may hold none.
+    /// Holds other bytes from now on, in the room that it has where they fit there. Behind a want
+    /// of memory it may hold none.
     pub fn put(&mut self, bytes: &[u8]) -> Result<(), AllocError>
         ensures { OnOk result (self.new ≡ bytes.now) }
     {

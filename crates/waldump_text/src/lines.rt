@@ -25,7 +25,8 @@ pub fn line<O: Sink>(r: &Listed, out: &mut O) -> Result<(), SinkFault>
 }
 
 /// Puts a record's line into a sink by way of a buffer, which is left empty, with the time of a
-/// commit where times are asked for. A call of its own, so that a quiet listing pays nothing for it.
+/// commit where times are asked for. A call of its own, so that a quiet listing pays nothing for
+/// it.
 #[inline(never)]
 pub(crate) fn put_line<O: Sink>(
     buffer: &mut LineBuffer,

@@ -22,7 +22,7 @@ use Rattle.wal_reader.specs.declared.found.Answer.{Answer}
 use Rattle.wal_reader.specs.declared.found.FoundRecord.{FoundRecord}
 use Rattle.wal_reader.specs.Pages.{pages_in}
 use Rattle.wal_reader.specs.Decodes.{Decodes, ReadsFrom, beginning}
-use Rattle.written_log.specs.FoundLog.{FoundLogsStandInImages, HasAllPages, HoldsFound, end_behind, last_start_behind}
+use Rattle.written_log.specs.FoundLog.{FoundLogsStandInImages, HasAllPages, HoldsFirstEntries, end_behind, last_start_behind}
 use Rattle.written_log.specs.Torn.{NoTornPass}
 use Rattle.written_log.specs.Written.{found_from, found_of}
 use Rattle.written_log.proofs.FoundEntries.{IsOwn}
@@ -157,7 +157,7 @@ module _ (size sysid : ℕ) (es : List Entry) (valid : IsSegmentSize size) (know
           let first = written_order_comes_first size sysid pages (take front.count es) written others told reads in
           (first.0, first.1 ∙ ap (λ (l : List FoundRecord). l ++ first.0) (sym front.found_is))
 
-    pub holds_found : HasAllPages size image → HoldsFound size sysid image es found
+    pub holds_found : HasAllPages size image → HoldsFirstEntries size sysid image es found
     holds_found whole =
         let end_is = end_of_front size es front.count found valid chained front.found_is in
         record {

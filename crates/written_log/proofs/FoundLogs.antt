@@ -26,7 +26,7 @@ use Rattle.flush_core.specs.Settled.{IsAmong, IsAsRead}
 use Rattle.flush_core.specs.SettledLog.{AreOnly, IsZeroOrLogWord, ReadsAsLog}
 use Rattle.wal_reader.specs.declared.found.FoundRecord.{FoundRecord}
 use Rattle.wal_reader.specs.Pages.{pages_in}
-use Rattle.written_log.specs.FoundLog.{FoundLogsReadAsLog, HasAllPages, HasFound, IsEndPage, ReadsAsFound, end_behind, last_start_behind}
+use Rattle.written_log.specs.FoundLog.{FoundLogsReadAsLog, HasAllPages, ReadsUntorn, IsEndPage, ReadsFirstEntries, end_behind, last_start_behind}
 use Rattle.written_log.specs.SettledLog.{MayHoldLog}
 use Rattle.written_log.proofs.FoundEntries.{page_by_segment}
 use Rattle.written_log.proofs.FoundImages.{IsMarked, chained_front, end_of_front, front, marked_has_page, own_marked, own_word, last_start_behind-found}
@@ -46,7 +46,7 @@ some_segment : (segment at : ℕ) (s : Option Segment) → IsSomeAnd (image_as_r
 some_segment segment at None has none = has
 some_segment segment at (Some s) has none = absurd cc
 
-module _ (size sysid count : ℕ) (es : List Entry) (state : DiskState) (found : List FoundRecord) (has : HasFound size sysid count es state found) where
+module _ (size sysid count : ℕ) (es : List Entry) (state : DiskState) (found : List FoundRecord) (has : ReadsUntorn size sysid count es state found) where
   abbrev pub may : MayHoldLog size sysid count es state
   may = has.may
 
@@ -203,7 +203,7 @@ module _ (size sysid count : ℕ) (es : List Entry) (state : DiskState) (found :
       eight_out : (a n : ℕ) → a * (8192 * n) ≡ 8 * (a * (1024 * n))
       eight_out a n = omega arith
 
-  pub reads_as_found : ReadsAsFound size sysid count es state found
+  pub reads_as_found : ReadsFirstEntries size sysid count es state found
   reads_as_found = record {
     among = among;
     within = read_front.within;

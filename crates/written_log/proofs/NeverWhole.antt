@@ -38,7 +38,7 @@ use Rattle.wal_reader.specs.declared.found.Answer.{Answer}
 use Rattle.wal_reader.specs.declared.found.FoundRecord.{FoundRecord}
 use Rattle.wal_reader.specs.Pages.{pages_in}
 use Rattle.wal_reader.specs.Decodes.{Decodes}
-use Rattle.written_log.specs.FoundLog.{HasFound, end_behind}
+use Rattle.written_log.specs.FoundLog.{ReadsUntorn, end_behind}
 use Rattle.written_log.specs.SettledFound.{AreNeverWhole, IsReadOrLost, LossesNeverMakeNextWhole, MayOnlyLose, NextIsNeverWhole, UnsyncedLogsDecodeToFronts}
 use Rattle.written_log.specs.Torn.{NoTornPass}
 use Rattle.written_log.specs.Written.{found_entry, found_from, found_of}
@@ -146,7 +146,7 @@ front_ends_below size valid m n es less =
     let both = rooms_of-append size (take m longer) (drop m longer) in
     end_address_of-mono size valid (end_position size (take m es)) (end_position size longer) (omega (arith, same, parts, both))
 
-module _ (size sysid count : ℕ) (es : List Entry) (state : DiskState) (found : List FoundRecord) (has : HasFound size sysid count es state found) where
+module _ (size sysid count : ℕ) (es : List Entry) (state : DiskState) (found : List FoundRecord) (has : ReadsUntorn size sysid count es state found) where
   abbrev firsts : ℕ
   firsts = first_count size sysid count es state found has
 

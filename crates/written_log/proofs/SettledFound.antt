@@ -27,7 +27,7 @@ use Rattle.wal_reader.specs.declared.found.Answer.TheVariants.{End}
 use Rattle.wal_reader.specs.declared.found.FoundRecord.{FoundRecord}
 use Rattle.wal_reader.specs.Pages.{pages_in}
 use Rattle.wal_reader.specs.Decodes.{Decodes}
-use Rattle.written_log.specs.FoundLog.{HasAllPages, HasFound, end_behind}
+use Rattle.written_log.specs.FoundLog.{HasAllPages, ReadsUntorn, end_behind}
 use Rattle.written_log.specs.SettledFound.{CrashedDisksMayHoldLog, CrashedLogsAreFoundAgain, NothingWaits, QuietLogsDecodeToFound, SettledLogsDecodeToFound, SyncedLogsDecodeToFound}
 use Rattle.written_log.specs.Torn.{NoTornPass}
 use Rattle.written_log.specs.Written.{found_of}
@@ -119,7 +119,7 @@ module _ (size sysid count end : ℕ) (es : List Entry) (before : DiskState) (va
 
 -- ---- what an image decodes to
 
-module _ (size sysid count : ℕ) (es : List Entry) (before : DiskState) (found : List FoundRecord) (has : HasFound size sysid count es before found) (only : AreOnly count before) (image : DiskImage) where
+module _ (size sysid count : ℕ) (es : List Entry) (before : DiskState) (found : List FoundRecord) (has : ReadsUntorn size sysid count es before found) (only : AreOnly count before) (image : DiskImage) where
   abbrev found_end : ℕ
   found_end = end_behind size found
 
@@ -177,7 +177,7 @@ quiet_logs_decode_to_found size sysid count moment m es before found tape image 
 -- ---- from the end of the first syncs on
 
 -- an image that has below the end nothing but what was read, and above it that or zeros
-pub read_images_decode_to_found : (size sysid count : ℕ) (es : List Entry) (before : DiskState) (found : List FoundRecord) (has : HasFound size sysid count es before found) → AreOnly count before → (image : DiskImage) → DiskImageFits size (IsAmong count) (IsOldOrZero size before (end_behind size found)) image → DiskImageFits size (IsAmong count) (IsReadOrZero size before count (end_behind size found)) image
+pub read_images_decode_to_found : (size sysid count : ℕ) (es : List Entry) (before : DiskState) (found : List FoundRecord) (has : ReadsUntorn size sysid count es before found) → AreOnly count before → (image : DiskImage) → DiskImageFits size (IsAmong count) (IsOldOrZero size before (end_behind size found)) image → DiskImageFits size (IsAmong count) (IsReadOrZero size before count (end_behind size found)) image
     → IsLawful size sysid image es 0 → NoTornPass size (pages_in size image) es → (told : List FoundRecord) (answer : Answer) → Decodes size (pages_in size image) size None told answer → told ≡ found
 read_images_decode_to_found size sysid count es before found has only image old reads lawful none_torn told answer decodes =
     let end = end_behind size found in
@@ -191,7 +191,7 @@ synced_logs_decode_to_found size sysid count since moment m es before found tape
 
 -- ---- behind all calls
 
-module _ (size sysid count : ℕ) (es : List Entry) (before : DiskState) (found : List FoundRecord) (has : HasFound size sysid count es before found) (only : AreOnly count before) (image : DiskImage) (old : DiskImageFits size (IsAmong count) (IsOldOrZero size before (end_behind size found)) image) (settled : DiskImageFits size (IsAmong count) (IsSettledWord size before count (end_behind size found)) image) where
+module _ (size sysid count : ℕ) (es : List Entry) (before : DiskState) (found : List FoundRecord) (has : ReadsUntorn size sysid count es before found) (only : AreOnly count before) (image : DiskImage) (old : DiskImageFits size (IsAmong count) (IsOldOrZero size before (end_behind size found)) image) (settled : DiskImageFits size (IsAmong count) (IsSettledWord size before count (end_behind size found)) image) where
   abbrev entries : List Entry
   entries = found_entries size sysid count es before found has
 

@@ -36,7 +36,7 @@ HasAllPages size image = (segment : ℕ) → IfSome (image segment) (λ i. i.pag
 
 -- records are those of an order's first entries, and up to their end an image has all that the
 -- order has
-pub record HoldsFound (size sysid : ℕ) (image : DiskImage) (es : List Entry)
+pub record HoldsFirstEntries (size sysid : ℕ) (image : DiskImage) (es : List Entry)
     (found : List FoundRecord) : Type 0 where
   pub count : ℕ
   pub within : count ≤ length es
@@ -53,13 +53,13 @@ FoundLogsStandInImages =
     → HasAllPages size image → IsLawful size sysid image es 0
     → NoTornPass size (pages_in size image) es → (found : List FoundRecord) (answer : Answer)
     → Decodes size (pages_in size image) size None found answer
-    → HoldsFound size sysid image es found
+    → HoldsFirstEntries size sysid image es found
 
 -- ---- disks
 
 -- a log was read on a disk that may hold words of an order and nothing else: these records were
 -- found, and no torn one passes its CRC there
-pub record HasFound (size sysid count : ℕ) (es : List Entry) (state : DiskState)
+pub record ReadsUntorn (size sysid count : ℕ) (es : List Entry) (state : DiskState)
     (found : List FoundRecord) : Type 0 where
   pub may : MayHoldLog size sysid count es state
   pub none_torn : NoTornPass size (pages_in size (image_as_read state)) es
@@ -77,7 +77,7 @@ IsEndPage size sysid es end (Some page) =
 -- what was found are an order's first entries, and up to their end the disk reads as their log,
 -- which the order's begins with; the end lies in the segments that are there, if there are no
 -- others
-pub record ReadsAsFound (size sysid count : ℕ) (es : List Entry) (state : DiskState)
+pub record ReadsFirstEntries (size sysid count : ℕ) (es : List Entry) (state : DiskState)
     (found : List FoundRecord) : Type 0 where
   pub among : ℕ
   pub within : among ≤ length es
@@ -94,4 +94,5 @@ pub record ReadsAsFound (size sysid count : ℕ) (es : List Entry) (state : Disk
 abbrev pub FoundLogsReadAsLog : Type 0
 FoundLogsReadAsLog =
     (size sysid count : ℕ) (es : List Entry) (state : DiskState) (found : List FoundRecord)
-    → HasFound size sysid count es state found → ReadsAsFound size sysid count es state found
+    → ReadsUntorn size sysid count es state found
+    → ReadsFirstEntries size sysid count es state found

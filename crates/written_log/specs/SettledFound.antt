@@ -14,7 +14,7 @@ use Rattle.wal_reader.specs.declared.found.Answer.TheVariants.{End}
 use Rattle.wal_reader.specs.declared.found.FoundRecord.{FoundRecord}
 use Rattle.wal_reader.specs.Pages.{pages_in}
 use Rattle.wal_reader.specs.Decodes.{Decodes}
-use Rattle.written_log.specs.FoundLog.{HasFound, end_behind}
+use Rattle.written_log.specs.FoundLog.{ReadsUntorn, end_behind}
 use Rattle.written_log.specs.Torn.{NoTornPass}
 
 -- ---- what waits for a sync when a log is found
@@ -44,7 +44,7 @@ MayOnlyLose size count state = StateAssures size (IsAmong count) (IsReadOrLost s
 abbrev pub LossesNeverMakeNextWhole : Type 0
 LossesNeverMakeNextWhole =
     (size sysid count : ℕ) (es : List Entry) (state : DiskState) (found : List FoundRecord)
-    → HasFound size sysid count es state found → AreOnly count state
+    → ReadsUntorn size sysid count es state found → AreOnly count state
     → MayOnlyLose size count state → NextIsNeverWhole size sysid es found state
 
 -- no write waits, as on a disk that a crash left
@@ -58,7 +58,7 @@ abbrev pub UnsyncedLogsDecodeToFronts : Type 0
 UnsyncedLogsDecodeToFronts =
     (size sysid count moment m : ℕ) (es : List Entry) (before : DiskState)
     (found : List FoundRecord) (tape : Tape) (image : DiskImage)
-    → HasFound size sysid count es before found → AreOnly count before
+    → ReadsUntorn size sysid count es before found → AreOnly count before
     → NextIsNeverWhole size sysid es found before
     → KeepsOld size before count (end_behind size found) moment tape
     → moment ≤ m → LeftAt tape m image → NoTornPass size (pages_in size image) es
@@ -71,7 +71,7 @@ abbrev pub QuietLogsDecodeToFound : Type 0
 QuietLogsDecodeToFound =
     (size sysid count moment m : ℕ) (es : List Entry) (before : DiskState)
     (found : List FoundRecord) (tape : Tape) (image : DiskImage)
-    → HasFound size sysid count es before found → AreOnly count before → NothingWaits before
+    → ReadsUntorn size sysid count es before found → AreOnly count before → NothingWaits before
     → KeepsOld size before count (end_behind size found) moment tape
     → moment ≤ m → LeftAt tape m image → NoTornPass size (pages_in size image) es
     → (told : List FoundRecord) (answer : Answer)
@@ -82,7 +82,7 @@ abbrev pub SyncedLogsDecodeToFound : Type 0
 SyncedLogsDecodeToFound =
     (size sysid count since moment m : ℕ) (es : List Entry) (before : DiskState)
     (found : List FoundRecord) (tape : Tape) (image : DiskImage)
-    → HasFound size sysid count es before found → AreOnly count before
+    → ReadsUntorn size sysid count es before found → AreOnly count before
     → KeepsOld size before count (end_behind size found) since tape
     → KeepsRead size before count (end_behind size found) moment tape
     → since ≤ m → moment ≤ m → LeftAt tape m image → NoTornPass size (pages_in size image) es
@@ -95,7 +95,7 @@ abbrev pub SettledLogsDecodeToFound : Type 0
 SettledLogsDecodeToFound =
     (size sysid count since moment m : ℕ) (es : List Entry) (before : DiskState)
     (found : List FoundRecord) (tape : Tape) (image : DiskImage)
-    → HasFound size sysid count es before found → AreOnly count before
+    → ReadsUntorn size sysid count es before found → AreOnly count before
     → KeepsOld size before count (end_behind size found) since tape
     → StaysSettled size before count (end_behind size found) moment tape
     → since ≤ m → moment ≤ m → LeftAt tape m image
@@ -118,10 +118,10 @@ CrashedDisksMayHoldLog =
 abbrev pub CrashedLogsAreFoundAgain : Type 0
 CrashedLogsAreFoundAgain =
     (size sysid count moment m : ℕ) (es : List Entry) (before state : DiskState)
-    (found : List FoundRecord) (tape : Tape) → HasFound size sysid count es before found
+    (found : List FoundRecord) (tape : Tape) → ReadsUntorn size sysid count es before found
     → AreOnly count before → KeepsOld size before count (end_behind size found) moment tape
     → moment ≤ m → NothingWaits state → LeftAt tape m (image_as_read state)
     → NoTornPass size (pages_in size (image_as_read state)) es
     → (told : List FoundRecord) (answer : Answer)
     → Decodes size (pages_in size (image_as_read state)) size None told answer
-    → HasFound size sysid count es state told × AreOnly count state
+    → ReadsUntorn size sysid count es state told × AreOnly count state

@@ -9,6 +9,7 @@ ghost use Rattle.segment_disk.specs.DiskImage.{word_of};
 ghost use Rattle.flush_core.specs.Settled.{IsAmong};
 ghost use Rattle.flush_core.specs.Pages.{PutPages};
 ghost use Rattle.flush_core.specs.Writer.{HoldsLogPages, is_unsynced, last_made};
+ghost use Rattle.wal_reader.specs.Pages.{IsPage};
 ghost use Rattle.wal_stream.specs.Frame.{SentPage};
 ghost use Rattle.wal_stream.specs.Standby.{AgreeUpto, AnswersFrame, Brings, DifferFirstAt, HardensNot, HasHardenedLog, HasResumed, own_page, standby_disk, standby_end, standby_fault};
 
@@ -35,6 +36,7 @@ impl<D: Disk> Standby<D> {
         ensures end { standby_end result ≡ end.0 }
         ensures made { last_made result.writer ≡ made }
         ensures page { own_page result ≡ page.value }
+        ensures whole { IsPage (own_page result) }
         ensures synced { is_unsynced result.writer ≡ false }
         ensures up { standby_fault result ≡ None }
         ensures size { result.geometry ≡ geometry }
@@ -44,6 +46,7 @@ impl<D: Disk> Standby<D> {
             → HoldsLogPages geometry end.0 made (D.tape disk) pages
             → HasResumed D.tape D.moment disk end.0 pages result }
     {
+        look_at(&page);
         Standby {
             writer: Writer::resume(disk, geometry, end, made),
             geometry,
@@ -127,6 +130,13 @@ impl<D: Disk> Standby<D> {
         }
         Some(sent)
     }
+}
+
+// Looks at a page, which has 8,192 bytes by its type: whoever hands it on knows that then.
+fn look_at(page: &[u8; 8192])
+    ensures { IsPage page.now }
+{
+    let _first = page[..8].first();
 }
 
 // Whether a segment is one of those from 1 to the last.

@@ -27,10 +27,6 @@ play_opened-requires-clause-end g c = λ κs lives.
     reopened_end g.D.Disk.tape g.D.Disk.moment g.D.Disk.faults c.args.disk c.in-Ok.log
     c.in-Ok.first c.in-Ok.found c.args.options.now.run ready.0 opened c.calls_are_counted.ensures
 
-pub play_opened-requires-clause-behind : goal.play_opened-requires-clause-behind
-play_opened-requires-clause-behind g c = λ κs lives.
-    (c.in-Ok.ensures.reopened.es, c.in-Ok.ensures.reopened.lies)
-
 pub play_opened-requires-clause-counted : goal.play_opened-requires-clause-counted
 play_opened-requires-clause-counted g c = λ κs lives.
     let ready = c.requires.prepared in

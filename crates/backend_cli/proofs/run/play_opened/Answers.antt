@@ -39,7 +39,7 @@ conclude-requires-clause-few g c =
     let played = c.play_backends-played.ensures.played ready.0 (ready.1).lines in
     let narrow : (setup_of_log c.args.opened.log).sysid < 2 ^ 64 =
     omega (arith, ap (λ (s : Setup). s.sysid) c.requires.setup) in
-    few_reserved _ _ _ _ _ _ _ (c.requires.behind).1 refl refl narrow c.requires.counted ready.0 _ _ played
+    few_reserved _ _ _ _ _ _ refl refl narrow c.requires.counted ready.0 _ _ played
 
 pub conclude-requires-clause-ends : goal.conclude-requires-clause-ends
 conclude-requires-clause-ends g c =
@@ -50,7 +50,7 @@ conclude-requires-clause-ends g c =
     omega (arith, ap (λ (s : Setup). s.sysid) c.requires.setup) in (
       _,
       _,
-      ends_behind _ _ _ _ _ _ _ (c.requires.behind).1 refl refl narrow c.requires.counted ready.0 _ _
+      ends_behind _ _ _ _ _ _ refl refl narrow c.requires.counted ready.0 _ _
           played _ size_is _ c.requires.end,
     )
 
@@ -86,7 +86,7 @@ returns g c = λ script ready.
       closed = c.play_backends-played.result.closed;
       played = played;
       concluded = λ taken faults text puts. c.conclude.ensures.concluded _ _ taken faults text
-          (ends_behind _ _ _ _ _ _ _ (c.requires.behind).1 refl refl narrow c.requires.counted script _
+          (ends_behind _ _ _ _ _ _ refl refl narrow c.requires.counted script _
           _ played _ size_is _ c.requires.end) puts;
       disk_is = c.conclude.ensures.disk;
       lists_are = c.conclude.ensures.told;

@@ -7,7 +7,7 @@ use Rattle.backend_cli.specs.Outside.{outside_of}
 use Rattle.backend_cli.specs.Run.{PlayHolds}
 use Rattle.backend_cli.specs.declared.outcome.Outcome.{Outcome}
 use Rattle.backend_cli.specs.declared.outcome.Outcome.TheVariants.{OutOfMemory}
-use Rattle.backend_cli.proofs.RunOpened.{began_counted, begun_behind, begun_end, opened_plays}
+use Rattle.backend_cli.proofs.RunOpened.{began_counted, begun_end, opened_plays}
 use Rattle.backend_cli.proofs.RunEnds.{ended_for_want}
 use Rattle.backend_cli.proofs.RunUnopened.{same_without_memory, unopened_holds}
 use Rattle.backend_cli.proofs.run.run_prepared.Goals as goal
@@ -25,13 +25,6 @@ play_opened-requires-clause-end g c = λ κs lives.
     c.args.options.now.geometry
     (ap (λ (s : Setup). s.segment_size) c.run_setup-setup.ensures.of_room) c.segment_size.result
     c.segment_size.ensures.value
-
-pub play_opened-requires-clause-behind : goal.play_opened-requires-clause-behind
-play_opened-requires-clause-behind g c = λ κs lives. (
-  [],
-  begun_behind g.D.Disk.tape g.D.Disk.moment g.D.Disk.faults c.run_setup-setup.result c.args.disk
-      c.in-Ok.log c.in-Ok.first c.in-Ok.ensures.opened c.run_setup-setup.ensures.can_be,
-)
 
 pub play_opened-requires-clause-counted : goal.play_opened-requires-clause-counted
 play_opened-requires-clause-counted g c = λ κs lives.

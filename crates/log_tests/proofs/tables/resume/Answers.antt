@@ -1,14 +1,12 @@
 -- The words, the writer and the plan are those of the log that the table is of.
-use Rattle.std.proofs.Common.{◌≡◌, ℕ, ◌+◌, ◌<◌, ◌^◌, List, [], Option, ◌∙◌, ap, sym, subst, refl, arith}
+use Rattle.std.proofs.Common.{◌≡◌, ℕ, ◌+◌, ◌<◌, ◌^◌, Option, ◌∙◌, ap, sym, subst, refl, arith}
 use Rattle.byte_position.specs.Geometry.{IsSegmentSize}
 use Rattle.segment_disk.specs.declared.memory.disk.MemDisk.{MemDisk}
 use Rattle.segment_disk.specs.MemDisk.{faults_of, moment_of, tape_of}
 use Rattle.segment_disk.specs.Tape.{Tape}
 use Rattle.flush_core.specs.declared.planning.SettlePlan.{SettlePlan}
 use Rattle.flush_core.specs.Planned.{IsPlanOf, call_count}
-use Rattle.wal_page.specs.LogPlace.{new_place}
-use Rattle.wal_page.specs.Order.{Entry}
-use Rattle.wal_core.specs.Behind.{place_of_found}
+use Rattle.wal_page.specs.LogPlace.{LogPlace, new_place}
 use Rattle.wal_core.specs.Words.{Opening, found_end}
 use Rattle.wal_core.specs.declared.setup.Setup.{Setup}
 use Rattle.wal_core.proofs.NothingFound.{nothing_ends, nothing_opens}
@@ -25,17 +23,16 @@ ends_at o size valid same fresh =
     nothing_ends o (subst (λ (n : ℕ). IsSegmentSize n) (sym same) valid) fresh ∙ same
 
 -- .. and it goes on where a new one begins, by its setup or by its own
-new_as : (o : Opening) (setup : Setup) (es : List Entry) (made moment faults : ℕ)
-    → o ≡ found_log_opening setup es made moment faults → es ≡ []
-    → o.place ≡ new_place setup.segment_size
-new_as o setup es made moment faults is none =
-    ap (λ (p : Opening). p.place) is ∙ ap (place_of_found setup.segment_size setup.sysid) none
+new_as : (o : Opening) (setup : Setup) (place : LogPlace) (made moment faults : ℕ)
+    → o ≡ found_log_opening setup place made moment faults
+    → place ≡ new_place setup.segment_size → o.place ≡ new_place setup.segment_size
+new_as o setup place made moment faults is fresh = ap (λ (p : Opening). p.place) is ∙ fresh
 
-new_there : (o : Opening) (setup : Setup) (es : List Entry) (made moment faults : ℕ)
-    → o ≡ found_log_opening setup es made moment faults → es ≡ []
-    → o.place ≡ new_place (o.setup).segment_size
-new_there o setup es made moment faults is none =
-    new_as o setup es made moment faults is none
+new_there : (o : Opening) (setup : Setup) (place : LogPlace) (made moment faults : ℕ)
+    → o ≡ found_log_opening setup place made moment faults
+    → place ≡ new_place setup.segment_size → o.place ≡ new_place (o.setup).segment_size
+new_there o setup place made moment faults is fresh =
+    new_as o setup place made moment faults is fresh
     ∙ sym (ap (λ (p : Opening). new_place (p.setup).segment_size) is)
 
 plan_of : (size end made other_size other_end count : ℕ) (t other : Option Tape)
@@ -71,7 +68,7 @@ resume-requires-clause-openable c =
       passes_low = omega arith;
       passes_high = omega arith;
     }))
-    (new_there _ _ _ _ _ _ opening c.none.ensures)
+    (new_there _ _ _ _ _ _ opening c.first_place.ensures)
     (omega (
       arith,
       few,
@@ -86,7 +83,7 @@ resume-requires-clause-words c =
     subst (λ ws. AreFirstWords opening ws) (sym c.as_slice.ensures)
     (c.in_ok-words.ensures.first opening
     (ap (λ (o : Opening). o.setup) c.of_found-founding.ensures.opening) refl
-    (new_as _ _ _ _ _ _ c.of_found-founding.ensures.opening c.none.ensures))
+    (new_as _ _ _ _ _ _ c.of_found-founding.ensures.opening c.first_place.ensures))
 
 pub resume-requires-clause-writer : goal.resume-requires-clause-writer
 resume-requires-clause-writer c =
@@ -96,7 +93,7 @@ resume-requires-clause-writer c =
     let same_size = ap (λ (o : Opening). (o.setup).segment_size) opening in
     let disk = c.of_found-founding.ensures.disk in
     let end = ends_at (founded_opening c.of_found-founding.result) _ refl same_size
-    (new_there _ _ _ _ _ _ opening c.none.ensures) in
+    (new_there _ _ _ _ _ _ opening c.first_place.ensures) in
     record {
       plain = c.resume-writer.ensures.plain ∙ rests _ _ _ _ _ _ (sym disk) (sym end)
           (sym (ap (λ (o : Opening). o.made) opening));
@@ -114,7 +111,7 @@ resume-requires-clause-plan c =
     ∙ sym c.geometry.ensures in
     let same_size = ap (λ (o : Opening). (o.setup).segment_size) opening in
     let end = ends_at (founded_opening c.of_found-founding.result) _ refl same_size
-    (new_there _ _ _ _ _ _ opening c.none.ensures) in
+    (new_there _ _ _ _ _ _ opening c.first_place.ensures) in
     plan_of _ _ _ _ _ _ _ _ _ (same_size ∙ size) end
     (ap (λ (o : Opening). o.made) opening ∙ c.count-made.ensures _ _ _ _ planned.2)
     (ap (λ (d : MemDisk). tape_of d) c.resume-writer.ensures.disk) planned.2

@@ -1,5 +1,4 @@
-use Rattle.reopened_log.proofs.OwnAnswers.{left_logs_are_own}
-use Rattle.reopened_log.proofs.OwnSystem.{left_logs_are_not_foreign}
+use Rattle.reopened_log.proofs.OwnAnswers.{left_logs_are_not_foreign, left_logs_are_own}
 use Rattle.reopened_log.proofs.laws.left_logs_are_own.Goals as goal
 
 pub returns-clause-own : goal.returns-clause-own

@@ -1,5 +1,8 @@
-use Rattle.run_laws.proofs.ClosedRuns.{run_assures}
+use Rattle.run_laws.proofs.ClosedRuns.{run_assures, run_assures_behind}
 use Rattle.run_laws.proofs.closed.closed_runs_assure.Goals as goal
 
-pub returns : goal.returns
-returns g c = record { assure = run_assures }
+pub returns-clause-assure : goal.returns-clause-assure
+returns-clause-assure g c = run_assures
+
+pub returns-clause-behind : goal.returns-clause-behind
+returns-clause-behind g c = run_assures_behind

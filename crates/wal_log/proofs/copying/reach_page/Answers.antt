@@ -5,7 +5,7 @@ use Rattle.wal_core.specs.Views.{View}
 use Rattle.wal_rule.specs.SeatedPasses.{setup_of, view_of}
 use Rattle.wal_rule.specs.Stepping.{Meets}
 use Rattle.word_ring.specs.Mapped.{looked_view}
-use Rattle.wal_log.specs.Copying.{MeetsOldPage, MeetsOther}
+use Rattle.wal_log.specs.Copying.{WaitsForOldPage, MeetsOther}
 use Rattle.wal_log.proofs.CopyLaws.{written_low}
 use Rattle.wal_log.proofs.PageLaws.{maps_none, old_met, other_met}
 use Rattle.wal_log.proofs.Seated.{own_setup, same_setup, view_is}
@@ -58,7 +58,7 @@ returns-in-Unwritten-clause-ends g c =
           (setup_of c.loop-end.seated) c.args.page met.0 met.3 met.1.1));
       why = inr (
         refl,
-        subst (λ (s : Setup). MeetsOldPage s c.args.page told (view_of c.try_map.new.seated))
+        subst (λ (s : Setup). WaitsForOldPage s c.args.page told (view_of c.try_map.new.seated))
             (same_setup c.args.seated.now c.confirm.new.seated (met.2.same_table ∙ still))
             (old_met m (view_of c.try_map.new.seated) (max m.mapping.confirmed old.0) told old.3
             (setup_of c.confirm.new.seated) c.args.page old.0 told

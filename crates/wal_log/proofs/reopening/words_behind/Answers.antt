@@ -1,5 +1,5 @@
-use Rattle.std.proofs.Common.{List, ℕ, ap, ◌∙◌}
-use Rattle.std.specs.Prelude.{slice_index}
+use Rattle.std.proofs.Common.{List, ℕ, subst, sym}
+use Rattle.machine_words.specs.FirstWords.{IsLastPage}
 use Rattle.wal_log.proofs.Reopens.{ends_there, last_page_there, placed_there}
 use Rattle.wal_log.proofs.reopening.words_behind.Goals as goal
 
@@ -11,5 +11,6 @@ returns-clause-words c = λ opening behind.
     let valid = c.requires.setup in
     c.resume.ensures.first opening behind.setup_is behind.moment_is
     (placed_there setup valid log found 0 opening behind)
-    (ends_there setup valid log found 0 opening behind) (last_page_there setup valid log found 0 opening behind c.bytes_of-page.result
-    (λ n less. c.bytes_of-page.ensures n less ∙ ap (λ (ws : List ℕ). slice_index ws n) c.deref.ensures))
+    (ends_there setup valid log found 0 opening behind)
+    (subst (λ (page : List ℕ). IsLastPage opening page) (sym c.deref.ensures)
+    (last_page_there setup valid log found 0 opening behind))

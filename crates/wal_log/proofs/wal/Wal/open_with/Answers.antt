@@ -1,5 +1,5 @@
 use Rattle.std.specs.Prelude.{IfSome}
-use Rattle.std.proofs.Common.{◌≡◌, ℕ, List, None, refl, sym, ap, ◌∙◌, subst, arith}
+use Rattle.std.proofs.Common.{◌≡◌, ℕ, List, None, sym, ap, ◌∙◌, subst, arith}
 use Rattle.segment_disk.specs.Tape.{Tape, page_of_segment, state_now}
 use Rattle.wal_page.specs.LogPlace.{new_place}
 use Rattle.wal_core.proofs.NothingFound.{nothing_opens}

@@ -68,7 +68,7 @@ next_given-requires-clause-ready g c =
     let self = c.args.self.now in
     elim c.match-self.branch [
       | in-NotBegun w ↦ rw w.from-is tt
-      | in-At w ↦ (let here = subst (λ (standing : Standing). IsReadyIn standing self.buffers self.ready) w.in-At.is self.at_next in
+      | in-At w ↦ (let here = subst (λ (standing : Standing). IsReadyIn standing self.buffers self.ready) w.in-At.is self.ahead in
           rw w.from-is (ready_in w.in-At.at self.buffers c.in-Some.buffers c.set_up.new.buffers self.ready here c.set_up.ensures.same c.in-Some.is))
     ]
 

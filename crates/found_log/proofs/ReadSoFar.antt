@@ -1,0 +1,143 @@
+-- A reader whose records are read one after another, and where they end.
+use Rattle.std.proofs.Common.{◌≡◌, ℕ, ◌+◌, ◌*◌, ◌<◌, ◌≤◌, ◌⊎◌, List, [], ◌∷◌, ◌++◌, Option, None, Result, inr, refl, sym, ap, subst, ◌∙◌, arith}
+use Rattle.std.specs.Prelude.{IfSome}
+use Rattle.std.proofs.lemmas.List.{length-append}
+use Rattle.byte_position.specs.Geometry.{IsSegmentSize}
+use Rattle.byte_position.specs.Position.{first_position}
+use Rattle.segment_disk.specs.Tape.{Tape}
+use Rattle.wal_types.specs.declared.lsn.Lsn.{Lsn}
+use Rattle.wal_page.proofs.WordPositions.{end_address_of-first_position, first_position-whole}
+use Rattle.wal_reader.specs.Cache.{log_of}
+use Rattle.wal_reader.specs.Decodes.{Decodes}
+use Rattle.wal_reader.specs.LogReader.{StandsBehindRecord, reader_state}
+use Rattle.wal_reader.specs.Standings.{IsOnWay}
+use Rattle.wal_reader.specs.declared.found.DamageKind.TheVariants.{Missing}
+use Rattle.wal_reader.specs.declared.found.FoundRecord.{FoundRecord}
+use Rattle.wal_reader.specs.declared.found.Stopped.TheVariants.{Damaged}
+use Rattle.wal_reader.specs.declared.log_reader.Reader.{Reader}
+use Rattle.wal_reader.specs.declared.standing.ReadErr.{ReadErr}
+use Rattle.wal_reader.specs.declared.standing.Standing.{Standing}
+use Rattle.wal_reader.specs.declared.standing.Standing.TheVariants.{NotBegun, At, Stopped}
+use Rattle.wal_reader.specs.declared.standing.Step.{Step}
+use Rattle.written_log.specs.FoundLog.{end_behind, last_start_behind}
+use Rattle.flush_core.proofs.SettleCalls.{lifted}
+use Rattle.found_log.specs.declared.fault.FindFault.{FindFault}
+use Rattle.found_log.specs.declared.fault.FindFault.TheVariants.{Foreign}
+use Rattle.found_log.specs.declared.reading.RecordsEnd.{RecordsEnd}
+use Rattle.found_log.specs.Found.{EndsWell, judged}
+use Rattle.found_log.specs.Reading.{EndsRecords, IsReadLog, IsUnread, MayEndAt}
+use Rattle.found_log.proofs.ReadLaws.{GaveSo, IsAll, ReadsOne, Steps, ended_as, gave_all, gave_more, gave_on, gave_refused, refused_as, step_to}
+
+-- ---- where records end
+
+end_behind_push : (end : ℕ) (records : List FoundRecord) (f : FoundRecord)
+    → end_behind end (records ++ f ∷ []) ≡ f.end.0
+end_behind_push end [] f = refl
+end_behind_push end (r ∷ records) f = end_behind_push r.end.0 records f
+
+last_start_behind_push : (start : ℕ) (records : List FoundRecord) (f : FoundRecord)
+    → last_start_behind start (records ++ f ∷ []) ≡ f.start.0
+last_start_behind_push start [] f = refl
+last_start_behind_push start (r ∷ records) f = last_start_behind_push r.start.0 records f
+
+-- with a record more
+abbrev pub IsEndWith : FoundRecord → RecordsEnd → RecordsEnd → Type 0
+IsEndWith f old new = (new.count ≡ old.count + 1) × (new.end ≡ f.end) × (new.last_start ≡ f.start)
+
+module _ (size made : ℕ) where
+  -- where none is
+  pub may_end_first : IsSegmentSize size → MayEndAt size made size
+  may_end_first valid = record {
+    position = first_position size;
+    whole = first_position-whole size valid;
+    is_end = end_address_of-first_position size valid;
+    from = omega arith;
+    upto = omega arith;
+  }
+
+  -- behind a record that a reader gave
+  pub may_end_behind : (standing : Standing) (f : FoundRecord) → IsOnWay standing
+      → StandsBehindRecord size f standing → size ≤ f.end.0 → f.end.0 ≤ made * size + size
+      → MayEndAt size made f.end.0
+  may_end_behind NotBegun f on behind from upto = absurd behind
+  may_end_behind (At at) f on behind from upto = record {
+    position = at.position;
+    whole = on.0;
+    is_end = behind.0;
+    from = from;
+    upto = upto;
+  }
+  may_end_behind (Stopped stop) f on behind from upto = absurd behind
+
+  pub ends_with_more : (records : List FoundRecord) (old new : RecordsEnd) (f : FoundRecord)
+      → EndsRecords size made records old → MayEndAt size made f.end.0 → IsEndWith f old new
+      → EndsRecords size made (records ++ f ∷ []) new
+  ends_with_more records old new f ends may so = record {
+    count_is = omega (arith, so.0, ends.count_is, length-append records (f ∷ []));
+    end_is = ap (λ (l : Lsn). l.0) so.1 ∙ sym (end_behind_push size records f);
+    last_start_is = ap (λ (l : Lsn). l.0) so.2 ∙ sym (last_start_behind_push 0 records f);
+    may_end = subst (MayEndAt size made) (sym (ap (λ (l : Lsn). l.0) so.1)) may;
+  }
+
+-- ---- what was read
+
+-- records that were given are these
+abbrev pub AreRead : List FoundRecord → List FoundRecord → Type 0
+AreRead records given = given ≡ records
+
+ends_well : (size : ℕ) (records : List FoundRecord) (t : Tape) → IsAll size (AreRead records) t
+    → EndsWell size records t
+ends_well size records t all = record {
+  answer = all.answer;
+  decodes = subst (λ (fs : List FoundRecord). Decodes size (log_of t size) size None fs all.answer)
+      all.holds all.decodes;
+  is_own = all.is_own;
+}
+
+-- a record ends before segment 1, or behind the segments that are there
+abbrev pub IsOutside : ℕ → ℕ → FoundRecord → Type 0
+IsOutside size made f = (f.end.0 < size) ⊎ (made * size + size < f.end.0)
+
+module _ (size made : ℕ) (tape : Option Tape) (reader next : Reader)
+    (sized : (reader_state reader).size ≡ size) (records : List FoundRecord)
+    (gave : GaveSo tape size reader (AreRead records)) where
+  -- a record more is read
+  pub read_more : (f : FoundRecord) → Steps tape reader next (step_to f)
+      → GaveSo tape size next (AreRead (records ++ f ∷ []))
+  read_more f steps =
+      gave_more size (AreRead records) reader next sized (AreRead (records ++ f ∷ [])) f
+      (λ given before. ap (λ (gs : List FoundRecord). gs ++ f ∷ []) before) tape gave steps
+
+  -- .. which ends outside of the segments that are there
+  pub read_outside : (f : FoundRecord) (fault : FindFault) → IsSegmentSize size
+      → (reader_state next).size ≡ size → Steps tape reader next (step_to f)
+      → (fault ≡ Foreign (Damaged f.start Missing)) × IsOutside size made f
+      → IfSome tape (IsUnread size made fault)
+  read_outside f fault valid next_sized steps refused =
+      lifted tape (ReadsOne size (AreRead records) f) (IsUnread size made fault)
+      (λ (t : Tape) one. subst (λ (fault : FindFault). IsUnread size made fault t) (sym refused.0)
+      (inr (record {
+        before = one.before;
+        last = f;
+        others = one.others;
+        answer = one.answer;
+        decodes = one.decodes;
+        outside = refused.1;
+      }))) (gave_on size (AreRead records) reader next sized f valid next_sized tape gave steps)
+
+  -- all are read
+  pub read_all : (end : RecordsEnd) → EndsRecords size made records end
+      → (step : Result Step ReadErr) → Steps tape reader next step → judged step ≡ ended_as
+      → IsReadLog size made tape end
+  read_all end ends step steps said = record {
+    records = records;
+    ends = ends;
+    tells = lifted tape (IsAll size (AreRead records)) (EndsWell size records)
+        (ends_well size records) (gave_all size (AreRead records) reader next sized tape step gave
+        steps said);
+  }
+
+  pub read_refused : (step : Result Step ReadErr) (fault : FindFault) → Steps tape reader next step
+      → judged step ≡ refused_as fault → IfSome tape (IsUnread size made fault)
+  read_refused step fault steps said =
+      gave_refused size (AreRead records) reader next sized made tape step fault gave steps said

@@ -1,4 +1,0 @@
-pub mod FetchLaws
-pub mod TakeLaws
-pub mod HardenLaws
-pub mod SentLaws

@@ -1,5 +1,0 @@
-pub mod Fetched
-pub mod Answered
-pub mod Receiving
-pub mod Steps
-pub mod Sent

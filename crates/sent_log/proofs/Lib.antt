@@ -1,6 +1,0 @@
-mod ListLaws
-mod AlikeLaws
-mod DurableLaws
-mod SyncLaws
-mod PutLaws
-mod SendLaws

@@ -1,4 +1,0 @@
-pub mod SentFrames
-pub mod Synced
-pub mod Sending
-pub mod Putting
