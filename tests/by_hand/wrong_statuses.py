@@ -32,8 +32,10 @@ def checked(copy):
 
 
 def refusals(said):
-    """The goals of the topmost call that stay open."""
-    return sorted(set(re.findall(rf"\b{CALL}\.((?:returns|ensures)[\w-]*)", said)))
+    """The goals that stay open of what the topmost call has to return, if that call is not proved."""
+    if not re.search(rf"^fn .*\b{CALL}: not proved$", said, re.MULTILINE):
+        return []
+    return sorted(set(re.findall(r"`(?:[\w.]+\.)?((?:returns|ensures)[\w-]*)`", said)))
 
 
 def copied(folder, built):
