@@ -1,7 +1,7 @@
 #!/usr/bin/env python3
 """Measures the commits a second of one log that threads share, hard ones and ones that are answered ahead of the disk.
 
-Builds crates/bench_commits (`rt run`, which proves it first) and runs it with 1, 2, 4, 8 and 16 backends, over files in a
+Builds crates/bench_log (`rt run`, which proves it first) and runs it with 1, 2, 4, 8 and 16 backends, over files in a
 fresh folder for each run, and in memory. All backends of a run together make about as many commits, each of a record of 34
 bytes; of those answered ahead ten times as many, since they take less. Beside these one more thread flushes behind, again
 and again, until all are durable, so that its last flush is in the time. The time is the program's own: the first segment
@@ -22,8 +22,8 @@ import sys
 import tempfile
 
 TOP = os.path.dirname(os.path.dirname(os.path.abspath(__file__)))
-CRATE = os.path.join(TOP, "crates", "bench_commits")
-PROGRAM = os.path.join(CRATE, "out", "bench_commits")
+CRATE = os.path.join(TOP, "crates", "bench_log")
+PROGRAM = os.path.join(CRATE, "out", "bench_log")
 BACKENDS = (1, 2, 4, 8, 16)
 # Each kind of commit, and how many times as many are made.
 KINDS = (("hard", 1), ("async", 10))
@@ -31,7 +31,7 @@ KINDS = (("hard", 1), ("async", 10))
 
 def build():
     if not os.access(PROGRAM, os.X_OK):
-        subprocess.run(["rt", "run", "--", "1", "1", "memory", "hard"], cwd=CRATE, check=True)
+        subprocess.run(["rt", "run", "--", "1", "1", "memory", "commits", "hard"], cwd=CRATE, check=True)
 
 
 def processor_seconds():
@@ -44,7 +44,7 @@ def measure(backends, commits, place, kind):
     """The commits a second of a run in which each backend makes so many, and the processors' microseconds for each."""
     before = processor_seconds()
     with tempfile.TemporaryDirectory() as folder:
-        words = [PROGRAM, str(backends), str(commits), place, kind, "timed"]
+        words = [PROGRAM, str(backends), str(commits), place, "commits", kind, "timed"]
         done = subprocess.run(words, cwd=folder, capture_output=True, text=True)
     told = re.fullmatch(r"commits (\d+)\nmicroseconds (\d+)\n", done.stdout)
     if done.returncode or not told or int(told[1]) != backends * commits:

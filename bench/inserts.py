@@ -1,7 +1,7 @@
 #!/usr/bin/env python3
 """Measures the inserts a second of one log that threads share.
 
-Builds crates/bench_inserts (`rt run`, which proves it first) and runs it with 1, 2, 4 and 8 backends, which insert records
+Builds crates/bench_log (`rt run`, which proves it first) and runs it with 1, 2, 4 and 8 backends, which insert records
 with 8, 100, 1,000 and 8,000 bytes of main data (34, 126, 1,029 and 8,029 bytes each), over files in a fresh folder for each
 run, and in memory. Each backend inserts one record again and again, which was assembled before; all of a run together insert
 about as many bytes. The time is the program's own: the first segment is made before it, it reads no script, and nothing is
@@ -21,8 +21,8 @@ import sys
 import tempfile
 
 TOP = os.path.dirname(os.path.dirname(os.path.abspath(__file__)))
-CRATE = os.path.join(TOP, "crates", "bench_inserts")
-PROGRAM = os.path.join(CRATE, "out", "bench_inserts")
+CRATE = os.path.join(TOP, "crates", "bench_log")
+PROGRAM = os.path.join(CRATE, "out", "bench_log")
 BACKENDS = (1, 2, 4, 8)
 # The bytes of main data, and what such a record takes up.
 SIZES = {8: 40, 100: 128, 1000: 1032, 8000: 8032}
@@ -30,7 +30,7 @@ SIZES = {8: 40, 100: 128, 1000: 1032, 8000: 8032}
 
 def build():
     if not os.access(PROGRAM, os.X_OK):
-        subprocess.run(["rt", "run", "--", "1", "1", "8", "memory"], cwd=CRATE, check=True)
+        subprocess.run(["rt", "run", "--", "1", "1", "memory", "inserts", "8"], cwd=CRATE, check=True)
 
 
 def told(words, wrapped=()):
@@ -44,7 +44,7 @@ def told(words, wrapped=()):
 
 def rate(backends, inserts, size, place):
     """The inserts a second of a run in which each backend makes so many."""
-    printed, _ = told([str(backends), str(inserts), str(size), place, "timed"])
+    printed, _ = told([str(backends), str(inserts), place, "inserts", str(size), "timed"])
     found = re.fullmatch(r"inserts (\d+)\nmicroseconds (\d+)\n", printed)
     if not found or int(found[1]) != backends * inserts:
         sys.exit(f"{backends} backends of {inserts} inserts printed {printed!r}")
@@ -54,7 +54,7 @@ def rate(backends, inserts, size, place):
 def instructions(inserts, size):
     """The instructions of a run of one backend in memory."""
     counted = ["valgrind", "--tool=callgrind", "--callgrind-out-file=/dev/null"]
-    _, beside = told(["1", str(inserts), str(size), "memory"], counted)
+    _, beside = told(["1", str(inserts), "memory", "inserts", str(size)], counted)
     return int(re.search(r"Collected : (\d+)", beside)[1])
 
 

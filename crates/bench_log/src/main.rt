@@ -1,13 +1,15 @@
-//! Threads insert side by side in one log, for their inserts a second to be measured
-//! (bench/inserts.py).
+//! Threads commit or insert side by side on one log, for what they do in a second to be measured
+//! (bench/commits.py, bench/inserts.py).
 #![tactic(auto)]
 
 mod asked;
+#[cfg(test)]
+mod done;
 mod log;
 mod trouble;
 
 use asked::{Medium, Options};
-use log::measured;
+use log::{Measurement, measured};
 use segment_disk::MemDisk;
 use segment_files::{Access, FileDisk};
 use std::process;
@@ -23,7 +25,7 @@ fn main(rt: HostRuntime) -> ExitCode {
     match run(&rt, rt) {
         Ok(()) => ExitCode::SUCCESS,
         Err(trouble) => {
-            let _ = eprintln!(rt; "bench_inserts: {trouble}");
+            let _ = eprintln!(rt; "bench_log: {trouble}");
             ExitCode::from(1)
         }
     }
@@ -33,23 +35,30 @@ fn run<R: Threads + Wait + Sync>(threads: &R, rt: HostRuntime) -> Result<(), Tro
     let asked = Options::of_words(rt)?;
     let alloc = rt.alloc();
     let measured = match asked.place {
-        Medium::Memory => {
-            let (segments, calls) = (asked.segments(), asked.calls());
-            let disk = MemDisk::new(alloc, segments, calls, Vec::new(alloc), Vec::new(alloc))?;
-            measured(threads, rt, alloc, disk, asked)?
-        }
+        Medium::Memory => measured_in_memory(threads, rt, asked)?,
         Medium::Files => {
             let disk = FileDisk::open(rt, alloc, FOLDER, process::id(rt.process()), Access::Write)?;
             measured(threads, rt, alloc, disk, asked)?
         }
     };
-    println!(rt; "inserts {}", measured.inserts)?;
+    println!(rt; "{} {}", asked.work.name(), measured.done)?;
     if asked.timed {
         println!(rt; "microseconds {}", measured.time.as_micros())?;
     }
-    if measured.inserts == asked.all() {
+    if measured.done == asked.all() {
         Ok(())
     } else {
         Err(Trouble::Refused)
     }
+}
+
+fn measured_in_memory<R: Threads + Wait + Sync>(
+    threads: &R,
+    rt: HostRuntime,
+    asked: Options,
+) -> Result<Measurement, Trouble> {
+    let alloc = rt.alloc();
+    let (segments, calls) = (asked.segments(), asked.calls());
+    let disk = MemDisk::new(alloc, segments, calls, Vec::new(alloc), Vec::new(alloc))?;
+    measured(threads, rt, alloc, disk, asked)
 }

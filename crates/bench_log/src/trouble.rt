@@ -7,13 +7,13 @@ use thiserror::Error;
 
 #[derive(Clone, Copy, Debug, PartialEq, Eq, Error)]
 pub enum Trouble {
-    #[error("usage: bench_inserts BACKENDS INSERTS BYTES memory|files [timed]")]
+    #[error("usage: BACKENDS TIMES memory|files (commits hard|async | inserts BYTES) [timed]")]
     Usage,
     #[error("out of memory")]
     Memory,
     #[error("no log was opened")]
     Open,
-    #[error("an insert was refused")]
+    #[error("a commit or an insert was refused")]
     Refused,
     #[error("the standard output or the clock failed")]
     Stream,
