@@ -120,7 +120,8 @@ pub data Lived {D : Type 0} (tape : D → Option Tape) (moment faults : D → �
       → tape disk ≡ Some left
       → Lived tape moment faults size sysid es (moment disk)
       (told_since (moment disk) (told_by at told)) (Closed disk)
-  is_killed : (since : ℕ) (told : List (ℕ × ℕ)) (standing : StandbyState D) (at : ℕ) (t stopped : Tape)
+  is_killed : (since : ℕ) (told : List (ℕ × ℕ)) (standing : StandbyState D) (at : ℕ)
+      (t stopped : Tape)
       (disk : D) → Lived tape moment faults size sysid es since told standing
       → tape (disk_standing standing) ≡ Some t → since ≤ at → StopsAt t at stopped
       → tape disk ≡ Some stopped
