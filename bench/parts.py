@@ -25,14 +25,14 @@ PARTS = (
     ("memory", r"malloc|\bfree$|_int_free|unlink_chunk|arena|rattle_alloc|rattle_dealloc|realloc"
      r"|Vec::drop|\bbytes::"),
     ("copies and clearing by the C library", r"memmove|memcpy|memset"),
-    ("the script's text", r"\bwal_script::|\btext_parts::"),
-    ("assembling", r"record_spelling::(body::Body::assemble|assembly|blocks|refusing)"),
+    ("the script's text", r"\brun_script::|\bcli_text::"),
+    ("assembling", r"wal_spelling::(body::Body::assemble|assembly|blocks|refusing)"),
     ("the insert", r"wal_log::(inserting|copying)|\breserve_lock::|\binsert_locks::|word_ring::copying"
-     r"|\bwal_page::|\brecord_spelling::"),
-    ("pages mapped and written", r"wal_log::|page_writing::|word_ring::|flush_core::"),
+     r"|\bwal_page::|\bwal_spelling::"),
+    ("pages mapped and written", r"wal_log::|word_ring::|flush_core::"),
     ("the listing's text", r"\bwaldump_text::|\bwal_types::"),
     ("reading records", r"\bwal_reader::|\bbyte_position::"),
-    ("decoding", r"\brecord_decode::"),
+    ("decoding", r"\bwal_record::"),
 )
 COMMANDS = {"run": ["run"], "dump": ["dump"], "dump --quiet": ["dump", "--quiet"]}
 SEGMENT = ["--seg", "1048576"]

@@ -1,10 +1,10 @@
 #!/usr/bin/env python3
 """Counts the instructions of a turn of the machine of many backends.
 
-Runs crates/bench_turns (after `rt run` in its folder built it), which plays ten million turns of eight backends: inserts of
+Runs `bench_log turns` (after `rt run` in crates/bench_log built it), which plays ten million turns of eight backends: inserts of
 40-byte records, and each fiftieth line a commit. Instructions are counted by valgrind's callgrind, which the machine's load
 does not disturb. Printed are those of the whole program for each turn, those of its own code alone (the compiler puts the
-turns into `main`; making the lines, memory and the copies of whole pages by the disk stand apart), and the functions that
+turns into one function; making the lines, memory and the copies of whole pages by the disk stand apart), and the functions that
 take most.
 Usage: bench/turns.py
 """
@@ -15,15 +15,15 @@ import sys
 import tempfile
 
 TOP = os.path.dirname(os.path.dirname(os.path.abspath(__file__)))
-PROGRAM = os.path.join(TOP, "crates", "bench_turns", "out", "bench_turns")
+PROGRAM = os.path.join(TOP, "crates", "bench_log", "out", "bench_log")
 
 
 def main():
     if not os.access(PROGRAM, os.X_OK):
-        sys.exit("build the program first: rt run in crates/bench_turns")
+        sys.exit("build the program first: rt run in crates/bench_log")
     with tempfile.TemporaryDirectory() as folder:
         counts = os.path.join(folder, "callgrind")
-        words = ["valgrind", "--tool=callgrind", f"--callgrind-out-file={counts}", PROGRAM, "kinds"]
+        words = ["valgrind", "--tool=callgrind", f"--callgrind-out-file={counts}", PROGRAM, "turns", "kinds"]
         done = subprocess.run(words, capture_output=True, text=True)
         if done.returncode:
             sys.exit(f"{' '.join(words)}: status {done.returncode}: {done.stderr}")

@@ -5,9 +5,9 @@
     tests/by_hand/wrong_definitions.py WORD..   tries those with one of these words in their name
 
 An edit in must-fail/ changes the code of the crate in which it stands, and what a step may rest on
-is a definition of wal_core, of which the laws stand in machine_laws. So these are tried by hand,
+is a definition of machine_state, of which the laws stand in machine_laws. So these are tried by hand,
 outside `rt ci`: in a copy of the repository one definition at a time is weakened, by a term that
-has the same shape and always holds, and wal_core must still check, and machine_laws must not. A
+has the same shape and always holds, and machine_state must still check, and machine_laws must not. A
 first check of the copy proves what lies below, in some minutes; each edit takes one more. Prints a
 line for each, and its status is 1 if one was not refused.
 """
@@ -19,12 +19,12 @@ import tempfile
 
 TOP = pathlib.Path(__file__).resolve().parents[2]
 STEPS, MOVES = "Steps.antt", "Moves.antt"
-# the name of each, the file of wal_core's specs, the text that stands once in it, and what it becomes
+# the name of each, the file of machine_state's specs, the text that stands once in it, and what it becomes
 WRONG = [
     ("a page is given up before it is written", STEPS,
      "(at + 8192 ≤ written + (setup_of).ring_pages * 8192)", "(at + 0 ≤ at + written)"),
     ("a lock is given back with words left", STEPS,
-     "→ c.copied ≡ words_owned (setup_of).segment_size c.entry)", "→ c.copied ≡ c.copied)"),
+     "→ c.copied ≡ words_owned (setup_of).seg_size c.entry)", "→ c.copied ≡ c.copied)"),
     ("a lock tells more than is copied", STEPS,
      "(upto < most_told (setup_of)", "(upto < 8 + most_told (setup_of)"),
     ("a lock without an entry tells more than was seen", STEPS,
@@ -38,16 +38,16 @@ WRONG = [
     ("a write goes past what is known to be copied", STEPS,
      "pub copied : upto ≤ l.known\n", "pub copied : upto ≤ upto\n"),
     ("a segment is made before all below it is written", STEPS,
-     "pub behind : segment * setup.segment_size ≤ (l.writer).written\n",
+     "pub behind : segment * setup.seg_size ≤ (l.writer).written\n",
      "pub behind : segment * 0 ≤ (l.writer).written\n"),
     ("a word is copied to a page that was not met", STEPS,
-     "pub met : address_of_word setup.segment_size c.entry c.copied < confirmed",
-     "pub met : address_of_word setup.segment_size c.entry c.copied\n"
-     "      < confirmed + 1 + address_of_word setup.segment_size c.entry c.copied"),
+     "pub met : address_of_word setup.seg_size c.entry c.copied < confirmed",
+     "pub met : address_of_word setup.seg_size c.entry c.copied\n"
+     "      < confirmed + 1 + address_of_word setup.seg_size c.entry c.copied"),
     ("an entry is reserved past the log's end", STEPS,
-     "(at + room_at (setup_of).segment_size at value ≤ log_limit setup_of)",
-     "(at + room_at (setup_of).segment_size at value\n"
-     "      ≤ at + room_at (setup_of).segment_size at value)"),
+     "(at + room_at (setup_of).seg_size at value ≤ log_limit setup_of)",
+     "(at + room_at (setup_of).seg_size at value\n"
+     "      ≤ at + room_at (setup_of).seg_size at value)"),
     ("an answer goes past what is reserved", STEPS,
      "(upto ≤ end_form setup_of (v.reserving).seen)", "(upto ≤ upto + (v.reserving).seen)"),
     ("a switch is reserved under seven locks", STEPS,
@@ -63,7 +63,7 @@ WRONG = [
      "× ((v.writing).down_met ≡ (v.writing).down_met)\n"
      "      × ((v.writing).down_set ≡ 0))"),
     ("a pass stays off a segment's start", STEPS,
-     "× (end_form setup_of at % (setup_of).segment_size ≡ 0)",
+     "× (end_form setup_of at % (setup_of).seg_size ≡ 0)",
      "× (end_form setup_of at ≡ end_form setup_of at)"),
     ("a failed writer is taken unawares", MOVES,
      "max (v.writing).down_met (fault_number writer.fault);",
@@ -92,20 +92,20 @@ def main():
         if not checked(copy, "machine_laws")[0]:
             sys.exit("machine_laws is not proved as it stands")
         for name, file, old, new in wrong:
-            path = copy / "crates" / "wal_core" / "specs" / file
+            path = copy / "crates" / "machine_state" / "specs" / file
             text = path.read_text()
             if text.count(old) != 1:
                 print(f"{name}: its text does not stand once in {file}")
                 failed += 1
                 continue
             path.write_text(text.replace(old, new))
-            sound, _ = checked(copy, "wal_core")
+            sound, _ = checked(copy, "machine_state")
             proved, said = checked(copy, "machine_laws") if sound else (False, "")
             path.write_text(text)
             where = re.search(r"proofs/(\w+)\.antt:\d+:\d+: error: `(\w+)", said)
             if not sound or proved or not where:
                 failed += 1
-            print(f"{name}: " + ("wal_core does not check" if not sound else "NOT REFUSED" if proved
+            print(f"{name}: " + ("machine_state does not check" if not sound else "NOT REFUSED" if proved
                                  else f"refused by {where[2]} of {where[1]}" if where else "refused, for no law"))
     print(f"{len(wrong) - failed} passed, {failed} failed")
     sys.exit(failed != 0)

@@ -1,11 +1,11 @@
 -- Counts over the backends that a loop has gone over, and their bounds.
 use Rattle.std.proofs.Common.{◌≡◌, ℕ, zero, suc, ◌+◌, ◌<◌, ◌≤◌, List, [], ◌∷◌, get_or, length, take, ap, sym, arith}
-use Rattle.told_lines.specs.declared.told.Told.{Told}
-use Rattle.told_lines.specs.declared.told.Told.TheVariants.{Wrote, Hard, Flushed, Async, Idle, Switched, Stayed, Refused}
-use Rattle.told_lines.specs.Counts.{all_commits_of, commits_of, is_hard, is_reserved, reserved_count}
+use Rattle.run_laws.specs.declared.told.Told.{Told}
+use Rattle.run_laws.specs.declared.told.Told.TheVariants.{Wrote, Hard, Flushed, Async, Idle, Switched, Stayed, Refused}
+use Rattle.run_laws.specs.Counts.{all_commits_of, commits_of, is_hard, is_reserved, reserved_count}
 use Rattle.run_laws.specs.Counted.{all_reserved_count}
-use Rattle.backend_lanes.specs.Backends.{lists_of}
-use Rattle.backend_lanes.specs.declared.backend.AnsweredLines.{AnsweredLines}
+use Rattle.run_backends.specs.Backends.{lists_of}
+use Rattle.run_backends.specs.declared.backend.AnsweredLines.{AnsweredLines}
 
 is_hard-le : (answer : Told) → is_hard answer ≤ is_reserved answer
 is_hard-le (Wrote start end) = omega arith

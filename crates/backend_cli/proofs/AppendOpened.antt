@@ -20,13 +20,13 @@ use Rattle.wal_reader.specs.Finds.{FindsRecords}
 use Rattle.wal_reader.proofs.FindsLaws.{finding_is_decoding}
 use Rattle.waldump_text.specs.Put.{Puts, joined}
 use Rattle.waldump_text.specs.declared.putting.SinkFault.{SinkFault}
-use Rattle.written_log.specs.FoundLog.{end_behind}
-use Rattle.written_log.specs.Written.{found_of}
-use Rattle.written_log.proofs.LawfulLaws.{length-found_from}
+use Rattle.written_log_laws.specs.FoundLog.{end_behind}
+use Rattle.written_log_laws.specs.Written.{found_of}
+use Rattle.written_log_laws.proofs.LawfulLaws.{length-found_from}
 use Rattle.found_log.specs.Found.{IsDiskLog}
-use Rattle.wal_core.specs.Opened.{IsOpenable}
-use Rattle.wal_core.specs.Sound.{IsSetup}
-use Rattle.wal_core.specs.Words.{Opening, found_end, found_position}
+use Rattle.machine_state.specs.Opened.{IsOpenable}
+use Rattle.machine_state.specs.Sound.{IsSetup}
+use Rattle.machine_state.specs.Words.{Opening, found_end, found_position}
 use Rattle.machine_laws.specs.WholeOrders.{LiesBehind}
 use Rattle.wal_rule.specs.Founded.{found_log_opening}
 use Rattle.wal_rule.specs.Tables.{began_of_table}
@@ -35,25 +35,25 @@ use Rattle.wal_log.specs.Logs.{opening_of_log, table_of}
 use Rattle.wal_log.specs.Reopening.{IsReopened}
 use Rattle.wal_log.specs.declared.reopening.Found.{Found}
 use Rattle.wal_log.specs.declared.wal.Wal.{Wal}
-use Rattle.wal_script.specs.Asked.{AskedLine}
-use Rattle.told_lines.specs.Crash.{IsFrontWithTold}
-use Rattle.told_lines.specs.Told.{entries_from, order_from}
-use Rattle.told_lines.specs.declared.told.Told.{Told}
-use Rattle.told_lines.proofs.Orders.{sorted_permutes}
+use Rattle.run_script.specs.Asked.{AskedLine}
+use Rattle.run_laws.specs.Crash.{IsFrontWithTold}
+use Rattle.run_laws.specs.Told.{entries_from, order_from}
+use Rattle.run_laws.specs.declared.told.Told.{Told}
+use Rattle.run_laws.proofs.Orders.{sorted_permutes}
 use Rattle.run_laws.specs.Ended.{logged_at_end}
 use Rattle.run_laws.specs.Assured.{AssuresBehind, HoldsSuited, RunAssures, TapeGoesOn}
-use Rattle.reopened_log.specs.FoundFirst.{AreFoundEntries}
-use Rattle.reopened_log.specs.Reopened.{IsReopenedOn}
-use Rattle.reopened_log.specs.WasLeft.{WasLeft}
-use Rattle.reopened_log.proofs.FoundPlaces.{found_entries_are_one, found_places_lie_behind}
-use Rattle.reopened_log.proofs.StoppedCrashes.{settled_logs_keep_what_was_found}
-use Rattle.reopened_log.specs.AnyLogs.{HoldsSegments}
-use Rattle.reopened_log.proofs.AnyLogs.{found_logs_are_suited}
-use Rattle.reopened_log.proofs.SuitedDisks.{reopened_logs_are_suited}
-use Rattle.reopened_log.proofs.Surviving.{reopened_logs_survive_crashes}
-use Rattle.backend_lanes.specs.Backends.{lists_of}
-use Rattle.command_words.specs.declared.commands.RunOptions.{RunOptions}
-use Rattle.command_words.specs.declared.commands.ScriptRunOptions.{ScriptRunOptions}
+use Rattle.reopened_log_laws.specs.FoundFirst.{AreFoundEntries}
+use Rattle.reopened_log_laws.specs.Reopened.{IsReopenedOn}
+use Rattle.reopened_log_laws.specs.WasLeft.{WasLeft}
+use Rattle.reopened_log_laws.proofs.FoundPlaces.{found_entries_are_one, found_places_lie_behind}
+use Rattle.reopened_log_laws.proofs.StoppedCrashes.{settled_logs_keep_what_was_found}
+use Rattle.reopened_log_laws.specs.AnyLogs.{HoldsSegments}
+use Rattle.reopened_log_laws.proofs.AnyLogs.{found_logs_are_suited}
+use Rattle.reopened_log_laws.proofs.SuitedDisks.{reopened_logs_are_suited}
+use Rattle.reopened_log_laws.proofs.Surviving.{reopened_logs_survive_crashes}
+use Rattle.run_backends.specs.Backends.{lists_of}
+use Rattle.cli_words.specs.declared.commands.RunOptions.{RunOptions}
+use Rattle.cli_words.specs.declared.commands.ScriptRunOptions.{ScriptRunOptions}
 use Rattle.backend_cli.specs.Appending.{AppendHeadline, AppendHolds, CrashSinceHanded, HoldsAppended, MayGoOn, WasLeftSo}
 use Rattle.backend_cli.specs.Concluding.{HasPlayedOut, IsConcluded}
 use Rattle.backend_cli.specs.Outside.{SourceView, Took, outside_of}

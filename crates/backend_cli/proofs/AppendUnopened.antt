@@ -10,17 +10,17 @@ use Rattle.wal_reader.specs.declared.found.FoundRecord.{FoundRecord}
 use Rattle.wal_reader.specs.Decodes.{Decodes}
 use Rattle.wal_reader.specs.Pages.{pages_in}
 use Rattle.wal_reader.proofs.FindsLaws.{finding_is_decoding}
-use Rattle.written_log.specs.Torn.{NoTornPass}
+use Rattle.written_log_laws.specs.Torn.{NoTornPass}
 use Rattle.found_log.specs.Found.{HasBegunToSettle, RefusesLog}
 use Rattle.found_log.specs.declared.fault.FindFault.TheVariants as finding
-use Rattle.wal_core.specs.Sound.{IsSetup}
+use Rattle.machine_state.specs.Sound.{IsSetup}
 use Rattle.wal_log.specs.Reopening.{TellsReopenFault}
 use Rattle.wal_log.specs.declared.opening.OpenFaultKind.{OpenFaultKind}
 use Rattle.wal_log.specs.declared.opening.OpenFaultKind.TheVariants as kinds
-use Rattle.wal_script.specs.Asked.{AskedLine}
-use Rattle.command_words.specs.declared.commands.ScriptRunOptions.{ScriptRunOptions}
-use Rattle.reopened_log.specs.WasLeft.{WasLeft}
-use Rattle.reopened_log.proofs.StoppedCrashes.{stopped_settlings_survive_crashes}
+use Rattle.run_script.specs.Asked.{AskedLine}
+use Rattle.cli_words.specs.declared.commands.ScriptRunOptions.{ScriptRunOptions}
+use Rattle.reopened_log_laws.specs.WasLeft.{WasLeft}
+use Rattle.reopened_log_laws.proofs.StoppedCrashes.{stopped_settlings_survive_crashes}
 use Rattle.backend_cli.specs.Appending.{AppendHolds, CrashSinceHanded, PrintsNothing, StopsSettling}
 use Rattle.backend_cli.specs.Outcome.{outcome_unopened}
 use Rattle.backend_cli.specs.Outside.{IsUntouched, Outside, SourceView, outside_of}

@@ -1,9 +1,9 @@
 -- The printed lines of the backends that are left.
 use Rattle.std.proofs.Common.{◌≡◌, ℕ, zero, suc, ◌+◌, ◌<◌, List, [], ◌∷◌, ◌++◌, length, map, drop, slice_get, slice_index_or, Some, sym, ap, ap₂, ◌∙◌, arith}
-use Rattle.wal_turns.specs.Doing.{Backend, Machine}
-use Rattle.wal_turns.specs.Standing.{HasBackend}
-use Rattle.machine_core.proofs.Lists.{below_got}
-use Rattle.machine_core.specs.declared.machine.Core.{Core}
+use Rattle.machine_turns.specs.Doing.{Backend, Machine}
+use Rattle.machine_turns.specs.Standing.{HasBackend}
+use Rattle.wal_core.proofs.Lists.{below_got}
+use Rattle.wal_core.specs.declared.machine.Core.{Core}
 use Rattle.backend_cli.specs.ReplayBegun.{PlaysBackends}
 use Rattle.backend_cli.specs.Replaying.{backend_line, backend_lines}
 

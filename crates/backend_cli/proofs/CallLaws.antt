@@ -1,16 +1,16 @@
 -- The headlines, of the call.
 use Rattle.std.proofs.Common.{◌≡◌, ℕ, List, [], ◌∷◌, Option, Ok, Result, inl, inr, refl, sym, ap, subst, ◌∙◌}
 use Rattle.std.proofs.lemmas.List.{append_cancel_left}
-use Rattle.wal_script.specs.Asked.{AskedLine}
-use Rattle.wal_script.specs.Run.{run_meaning}
-use Rattle.wal_script.specs.declared.line.Refusal.{Refusal}
-use Rattle.wal_script.specs.Generated.{generated_script}
-use Rattle.told_lines.specs.declared.told.Told.{Told}
-use Rattle.command_words.specs.declared.commands.GenOptions.{GenOptions}
-use Rattle.command_words.specs.declared.commands.ScriptRunOptions.{ScriptRunOptions}
-use Rattle.command_words.specs.declared.commands.Command.TheVariants.{Run, Append, Gen, Replay, Dump, Redo, Send, Receive}
-use Rattle.command_line.specs.declared.asking.Request.{Request}
-use Rattle.command_line.specs.declared.asking.Request.TheVariants.{Command, Help, Version, Nothing}
+use Rattle.run_script.specs.Asked.{AskedLine}
+use Rattle.run_script.specs.Run.{run_meaning}
+use Rattle.run_script.specs.declared.line.Refusal.{Refusal}
+use Rattle.run_script.specs.Generated.{generated_script}
+use Rattle.run_laws.specs.declared.told.Told.{Told}
+use Rattle.cli_words.specs.declared.commands.GenOptions.{GenOptions}
+use Rattle.cli_words.specs.declared.commands.ScriptRunOptions.{ScriptRunOptions}
+use Rattle.cli_words.specs.declared.commands.Command.TheVariants.{Run, Append, Gen, Replay, Dump, Redo, Send, Receive}
+use Rattle.cli_line.specs.declared.asking.Request.{Request}
+use Rattle.cli_line.specs.declared.asking.Request.TheVariants.{Command, Help, Version, Nothing}
 use Rattle.backend_cli.specs.Appending.{AppendHeadline, AppendHolds}
 use Rattle.backend_cli.specs.Asked.{AsksAppend, AsksBackends}
 use Rattle.backend_cli.specs.Headline.{Headline}

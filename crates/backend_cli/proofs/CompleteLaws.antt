@@ -10,22 +10,22 @@ use Rattle.segment_disk.specs.Tape.{Tape}
 use Rattle.flush_core.specs.Pages.{HoldsNothing}
 use Rattle.wal_page.specs.Order.{Entry, room_at, rooms_of}
 use Rattle.wal_page.proofs.OrderLaws.{rooms_of_cons}
-use Rattle.wal_core.specs.Words.{Opening, found_position, log_limit}
+use Rattle.machine_state.specs.Words.{Opening, found_position, log_limit}
 use Rattle.wal_rule.specs.Founded.{empty_log_opening}
 use Rattle.wal_reader.specs.declared.found.FoundRecord.{FoundRecord}
-use Rattle.written_log.specs.Written.{found_entry, found_from}
+use Rattle.written_log_laws.specs.Written.{found_entry, found_from}
 use Rattle.found_log.specs.Found.{RefusesLog, first_page}
 use Rattle.found_log.specs.declared.fault.FindFault.TheVariants as finding
-use Rattle.reopened_log.specs.WasLeft.{WasLeft}
-use Rattle.reopened_log.proofs.OwnAnswers.{left_logs_are_not_foreign}
-use Rattle.wal_script.specs.Asked.{AskedLine}
-use Rattle.wal_script.specs.Run.{run_meaning}
-use Rattle.wal_script.specs.declared.line.Refusal.{Refusal}
-use Rattle.told_lines.specs.declared.told.Told.{Told}
-use Rattle.told_lines.specs.Rooms.{all_rooms_asked, capacity_of}
-use Rattle.wal_script.specs.Generated.{generated_script}
-use Rattle.command_words.specs.declared.commands.RunOptions.{RunOptions}
-use Rattle.command_words.specs.declared.commands.ScriptRunOptions.{ScriptRunOptions}
+use Rattle.reopened_log_laws.specs.WasLeft.{WasLeft}
+use Rattle.reopened_log_laws.proofs.OwnAnswers.{left_logs_are_not_foreign}
+use Rattle.run_script.specs.Asked.{AskedLine}
+use Rattle.run_script.specs.Run.{run_meaning}
+use Rattle.run_script.specs.declared.line.Refusal.{Refusal}
+use Rattle.run_laws.specs.declared.told.Told.{Told}
+use Rattle.run_laws.specs.Rooms.{all_rooms_asked, capacity_of}
+use Rattle.run_script.specs.Generated.{generated_script}
+use Rattle.cli_words.specs.declared.commands.RunOptions.{RunOptions}
+use Rattle.cli_words.specs.declared.commands.ScriptRunOptions.{ScriptRunOptions}
 use Rattle.backend_cli.specs.Appending.{EndsUnappended, HoldsAppended, MayGoOn}
 use Rattle.backend_cli.specs.Complete.{AppendsAreComplete, LogHasRoom, IsComplete, MadeRunsAreComplete, MeansThese, NoFault, NothingFailed, RunsAreComplete, rooms_found}
 use Rattle.backend_cli.specs.Outside.{Outside, SourceView}
@@ -96,7 +96,7 @@ if_told P told t is holds = subst (λ (o : Option Tape). IfSome o P) is holds
 module _ (opening : Opening) (held : Type 0) (outside : Outside) (script : List (List AskedLine))
     (told : List Told) (others : List (List Told)) (fine : NothingFailed outside)
     (room : log_limit opening.setup
-    < found_position opening + all_rooms_asked (opening.setup).segment_size script → ⊥) where
+    < found_position opening + all_rooms_asked (opening.setup).seg_size script → ⊥) where
   opened_complete : (outcome : Outcome)
       → HoldsSince opening held outside outcome script (told ∷ others)
       → IsComplete (told ∷ others) outcome

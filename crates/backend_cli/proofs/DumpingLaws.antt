@@ -6,10 +6,10 @@ use Rattle.wal_reader.specs.declared.standing.ReadErr.TheVariants.{Memory, Disk,
 use Rattle.waldump_text.specs.declared.dumping.DumpErr.{DumpErr}
 use Rattle.waldump_text.specs.declared.dumping.DumpErr.TheVariants.{Read, Sink}
 use Rattle.waldump_text.specs.Dump.{HasDumpCause, IsDump}
-use Rattle.command_words.specs.declared.commands.DumpOptions.{DumpOptions}
+use Rattle.cli_words.specs.declared.commands.DumpOptions.{DumpOptions}
 use Rattle.backend_cli.specs.Outside.{Outside}
 use Rattle.backend_cli.specs.declared.outcome.Outcome.{Outcome}
-use Rattle.told_lines.specs.declared.told.Told.{Told}
+use Rattle.run_laws.specs.declared.told.Told.{Told}
 use Rattle.backend_cli.specs.Dumping.{DumpHolds, ListsDisk, ListingEnds, all, all_before, by_disk, by_sink, ended, front_for_disk, front_for_memory, front_for_sink, outcome_of, stopped, without_memory}
 
 lists_on : (asked : DumpOptions) (outside : Outside) (result : Result ℕ DumpErr) (t : Tape) → IsDump asked.geometry asked.filter outside.taken_before outside.taken_after result t → ListsDisk asked outside (outcome_of result) t

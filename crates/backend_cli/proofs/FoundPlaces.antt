@@ -3,17 +3,17 @@ use Rattle.std.proofs.Common.{◌≡◌, List, length, IfSome, Option, Some, sub
 use Rattle.segment_disk.specs.Tape.{Tape}
 use Rattle.wal_page.specs.Order.{Entry}
 use Rattle.wal_reader.specs.declared.found.FoundRecord.{FoundRecord}
-use Rattle.written_log.specs.Written.{found_of}
+use Rattle.written_log_laws.specs.Written.{found_of}
 use Rattle.found_log.specs.Found.{IsDiskLog}
-use Rattle.wal_core.specs.Words.{Opening}
+use Rattle.machine_state.specs.Words.{Opening}
 use Rattle.machine_laws.specs.WholeOrders.{LiesBehind}
 use Rattle.wal_rule.specs.Founded.{found_log_opening}
-use Rattle.wal_script.specs.Asked.{AskedLine}
-use Rattle.told_lines.specs.declared.told.Told.{Told}
-use Rattle.reopened_log.specs.FoundFirst.{AreFoundEntries}
-use Rattle.reopened_log.specs.WasLeft.{WasLeft}
-use Rattle.reopened_log.proofs.FoundPlaces.{found_places_lie_behind}
-use Rattle.command_words.specs.declared.commands.RunOptions.{RunOptions}
+use Rattle.run_script.specs.Asked.{AskedLine}
+use Rattle.run_laws.specs.declared.told.Told.{Told}
+use Rattle.reopened_log_laws.specs.FoundFirst.{AreFoundEntries}
+use Rattle.reopened_log_laws.specs.WasLeft.{WasLeft}
+use Rattle.reopened_log_laws.proofs.FoundPlaces.{found_places_lie_behind}
+use Rattle.cli_words.specs.declared.commands.RunOptions.{RunOptions}
 use Rattle.backend_cli.specs.Appending.{HoldsAppended}
 use Rattle.backend_cli.specs.Outside.{Outside}
 use Rattle.backend_cli.specs.Setups.{run_setup, system_id}
@@ -22,8 +22,8 @@ use Rattle.backend_cli.specs.declared.outcome.Outcome.{Outcome}
 -- it lies behind the entries of the records that were left, which are those that were read
 abbrev pub LiesBehindLeft : Opening → Tape → (found records : List FoundRecord) → Type 0
 LiesBehindLeft opening t found records =
-    (front : List Entry) × AreFoundEntries (opening.setup).segment_size t front
-    × LiesBehind opening front × (found_of (opening.setup).segment_size front ≡ found)
+    (front : List Entry) × AreFoundEntries (opening.setup).seg_size t front
+    × LiesBehind opening front × (found_of (opening.setup).seg_size front ≡ found)
     × (records ≡ found)
 
 module _ (options : RunOptions) (outside : Outside) (outcome : Outcome)

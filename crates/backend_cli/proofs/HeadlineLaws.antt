@@ -10,12 +10,12 @@ use Rattle.byte_position.specs.Position.{first_position}
 use Rattle.wal_page.specs.Order.{IsChained}
 use Rattle.wal_reader.specs.declared.found.FoundRecord.{FoundRecord}
 use Rattle.wal_reader.proofs.FindsLaws.{finding_is_decoding}
-use Rattle.wal_script.specs.Asked.{Asked, AskedLine, Commit, CommitAsync, Flush, Insert, Switch, WriteBehind}
-use Rattle.told_lines.specs.declared.told.Told.{Told}
-use Rattle.told_lines.specs.declared.told.Told.TheVariants.{Wrote, Hard, Flushed, Async, Idle, Switched, Stayed, Refused}
-use Rattle.told_lines.specs.Crash.{IsFrontWithTold, SurvivesCrashes}
-use Rattle.told_lines.specs.Told.{FitsLine, Logged, RiseInLineOrder, TellsAll, TellsFrom, behind_or, entries_from, entry_of, order_from}
-use Rattle.told_lines.proofs.Orders.{sorted_permutes}
+use Rattle.run_script.specs.Asked.{Asked, AskedLine, Commit, CommitAsync, Flush, Insert, Switch, WriteBehind}
+use Rattle.run_laws.specs.declared.told.Told.{Told}
+use Rattle.run_laws.specs.declared.told.Told.TheVariants.{Wrote, Hard, Flushed, Async, Idle, Switched, Stayed, Refused}
+use Rattle.run_laws.specs.Crash.{IsFrontWithTold, SurvivesCrashes}
+use Rattle.run_laws.specs.Told.{FitsLine, Logged, RiseInLineOrder, TellsAll, TellsFrom, behind_or, entries_from, entry_of, order_from}
+use Rattle.run_laws.proofs.Orders.{sorted_permutes}
 use Rattle.backend_cli.specs.Headline.{FoundAfterCrash, Headline, NamesOwnPlace}
 
 -- ---- receipts

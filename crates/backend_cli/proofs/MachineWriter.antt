@@ -7,18 +7,18 @@ use Rattle.segment_disk.specs.Picks.{IsPicked, choice_of}
 use Rattle.segment_disk.specs.Tape.{DiskState, Tape, state_now}
 use Rattle.segment_disk.specs.declared.memory.disk.MemDisk.{MemDisk}
 use Rattle.segment_disk.specs.declared.memory.pick.Pick.{Pick}
-use Rattle.wal_core.specs.Locked.{HasWriteTurn, IsWriteTurn, StandsTo}
-use Rattle.wal_core.specs.Suited.{tape_from}
-use Rattle.wal_core.specs.Views.{HasAt, Hold, Idle, Turned, Out, Plain, View, writer_of}
-use Rattle.wal_core.specs.Words.{write_turn}
-use Rattle.wal_core.proofs.Lists.{part_at, view_from}
-use Rattle.wal_turns.specs.Doing.{Machine}
-use Rattle.wal_turns.specs.Standing.{IsRunning}
-use Rattle.machine_core.specs.Cores.{HasWriter, core_of}
-use Rattle.machine_core.specs.Playing.{PlaysMachine}
-use Rattle.machine_core.specs.declared.machine.Core.{Core}
-use Rattle.machine_core.proofs.Cores.{writer_is_core's}
-use Rattle.command_words.specs.declared.commands.CrashPick.{CrashPick}
+use Rattle.machine_state.specs.Locked.{HasWriteTurn, IsWriteTurn, StandsTo}
+use Rattle.machine_state.specs.Suited.{tape_from}
+use Rattle.machine_state.specs.Views.{HasAt, Hold, Idle, Turned, Out, Plain, View, writer_of}
+use Rattle.machine_state.specs.Words.{write_turn}
+use Rattle.machine_state.proofs.Lists.{part_at, view_from}
+use Rattle.machine_turns.specs.Doing.{Machine}
+use Rattle.machine_turns.specs.Standing.{IsRunning}
+use Rattle.wal_core.specs.Cores.{HasWriter, core_of}
+use Rattle.wal_core.specs.Playing.{PlaysMachine}
+use Rattle.wal_core.specs.declared.machine.Core.{Core}
+use Rattle.wal_core.proofs.Cores.{writer_is_core's}
+use Rattle.cli_words.specs.declared.commands.CrashPick.{CrashPick}
 use Rattle.backend_cli.specs.Replaying.{IsCrashed, pick_of}
 
 module _ (m : Machine) (writer : Plain) (turns : IsWriteTurn (write_turn (m.state).words) (m.state).home writer (map writer_of (m.state).views)) where

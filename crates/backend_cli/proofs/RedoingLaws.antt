@@ -7,10 +7,10 @@ use Rattle.waldump_text.specs.declared.dumping.DumpErr.{DumpErr}
 use Rattle.waldump_text.specs.declared.dumping.DumpErr.TheVariants.{Read, Sink}
 use Rattle.waldump_text.specs.Dump.{HasDumpCause}
 use Rattle.wal_redo.specs.RedoListing.{IsRedoListing}
-use Rattle.command_words.specs.declared.commands.RedoOptions.{RedoOptions}
+use Rattle.cli_words.specs.declared.commands.RedoOptions.{RedoOptions}
 use Rattle.backend_cli.specs.Outside.{Outside}
 use Rattle.backend_cli.specs.declared.outcome.Outcome.{Outcome}
-use Rattle.told_lines.specs.declared.told.Told.{Told}
+use Rattle.run_laws.specs.declared.told.Told.{Told}
 use Rattle.backend_cli.specs.Dumping.{outcome_of}
 use Rattle.backend_cli.specs.Redoing.{RedoHolds, RedoesDisk, all, front_for_sink, none_for_disk, none_for_memory, none_for_stop}
 use Rattle.backend_cli.proofs.DumpingLaws.{ends_as}

@@ -3,31 +3,31 @@ use Rattle.std.proofs.Common.{◌≡◌, inl, inr, ℕ, ◌<◌, ◌≤◌, IfOk
 use Rattle.std.specs.declared.alloc.Global.{Global}
 use Rattle.segment_disk.specs.Stream.{with_behind}
 use Rattle.segment_disk.specs.Tape.{DiskState, Tape, empty_state}
-use Rattle.listing_filter.specs.Keeping.{everything_from}
-use Rattle.listing_filter.specs.declared.Filter.{Filter}
+use Rattle.waldump_filter.specs.Keeping.{everything_from}
+use Rattle.waldump_filter.specs.declared.Filter.{Filter}
 use Rattle.waldump_text.specs.Dump.{IsDump}
 use Rattle.waldump_text.specs.Put.{Puts}
 use Rattle.waldump_text.specs.declared.dumping.DumpErr.{DumpErr}
 use Rattle.waldump_text.specs.declared.dumping.DumpErr.TheVariants.{Sink}
 use Rattle.waldump_text.specs.declared.putting.SinkFault.{SinkFault}
-use Rattle.command_words.specs.declared.commands.ReplayOptions.{ReplayOptions}
-use Rattle.wal_core.specs.declared.setup.Setup.{Setup}
-use Rattle.wal_core.specs.Opened.{AreFirstWords, IsFirstWriter}
-use Rattle.wal_turns.specs.Begun.{first_machine}
-use Rattle.wal_turns.specs.Doing.{Ask, Machine}
-use Rattle.wal_turns.specs.Turned.{machine_behind}
-use Rattle.machine_core.specs.Cores.{HasBegun, IsPlayed, core_of, first_opening, machine_begun}
-use Rattle.machine_core.specs.Lines.{AreScriptsFor}
-use Rattle.machine_core.specs.Playing.{PlaysMachine}
-use Rattle.machine_core.specs.declared.machine.Core.{Core}
+use Rattle.cli_words.specs.declared.commands.ReplayOptions.{ReplayOptions}
+use Rattle.machine_state.specs.declared.setup.Setup.{Setup}
+use Rattle.machine_state.specs.Opened.{AreFirstWords, IsFirstWriter}
+use Rattle.machine_turns.specs.Begun.{first_machine}
+use Rattle.machine_turns.specs.Doing.{Ask, Machine}
+use Rattle.machine_turns.specs.Turned.{machine_behind}
+use Rattle.wal_core.specs.Cores.{HasBegun, IsPlayed, core_of, first_opening, machine_begun}
+use Rattle.wal_core.specs.Lines.{AreScriptsFor}
+use Rattle.wal_core.specs.Playing.{PlaysMachine}
+use Rattle.wal_core.specs.declared.machine.Core.{Core}
 use Rattle.machine_turns.specs.declared.script.PlainLine.{PlainLine as MachineLine}
-use Rattle.wal_script.specs.declared.line.Line.{Line}
-use Rattle.wal_script.specs.Asked.{AskedLine}
-use Rattle.wal_script.specs.Replay.{ReplayMeaning, most_backends}
-use Rattle.wal_script.specs.ReplayReading.{AreBackendsOf}
-use Rattle.wal_script.specs.declared.line.Refusal.{Refusal}
-use Rattle.wal_script.specs.declared.replay.Replay.{Replay}
-use Rattle.wal_script.proofs.ReplayLaws.{some_backends_are_there}
+use Rattle.run_script.specs.declared.line.Line.{Line}
+use Rattle.run_script.specs.Asked.{AskedLine}
+use Rattle.run_script.specs.Replay.{ReplayMeaning, most_backends}
+use Rattle.run_script.specs.ReplayReading.{AreBackendsOf}
+use Rattle.run_script.specs.declared.line.Refusal.{Refusal}
+use Rattle.run_script.specs.declared.replay.Replay.{Replay}
+use Rattle.run_script.proofs.ReplayLaws.{some_backends_are_there}
 use Rattle.backend_cli.specs.Outside.{SourceView}
 use Rattle.backend_cli.specs.declared.replay.ReplayBegun.{ReplayBegun}
 use Rattle.backend_cli.specs.ReplayBegun.{DoesMeaning, IsReplayBegun, PlaysBackends}

@@ -1,14 +1,14 @@
 -- A replay's lines as lines of the machine, and how many there are.
 use Rattle.std.proofs.Common.{◌≡◌, ℕ, suc, List, [], ◌∷◌, length, map, Vec, refl, ap, ap₂}
 use Rattle.std.specs.declared.alloc.Global.{Global}
-use Rattle.wal_script.specs.declared.line.Action.{Action}
-use Rattle.wal_script.specs.declared.line.Action.TheVariants as actions
-use Rattle.wal_script.specs.declared.line.Line.{Line}
-use Rattle.wal_script.specs.Asked.{Asked, AskedLine, Commit, CommitAsync, Flush, Insert, Switch, WriteBehind}
-use Rattle.wal_script.specs.Bodies.{AreLinesOf, IsActionOf}
-use Rattle.wal_script.specs.ReplayReading.{AreBackendsOf}
-use Rattle.wal_turns.specs.Begun.{first_backend}
-use Rattle.machine_core.specs.Lines.{AreLinesFor, AreScriptsFor, IsLineFor}
+use Rattle.run_script.specs.declared.line.Action.{Action}
+use Rattle.run_script.specs.declared.line.Action.TheVariants as actions
+use Rattle.run_script.specs.declared.line.Line.{Line}
+use Rattle.run_script.specs.Asked.{Asked, AskedLine, Commit, CommitAsync, Flush, Insert, Switch, WriteBehind}
+use Rattle.run_script.specs.Bodies.{AreLinesOf, IsActionOf}
+use Rattle.run_script.specs.ReplayReading.{AreBackendsOf}
+use Rattle.machine_turns.specs.Begun.{first_backend}
+use Rattle.wal_core.specs.Lines.{AreLinesFor, AreScriptsFor, IsLineFor}
 use Rattle.machine_turns.specs.declared.script.PlainLine.{PlainLine as MachineLine}
 use Rattle.backend_cli.specs.ReplayBegun.{machine_line_of, machine_lines_of}
 use Rattle.backend_cli.specs.Replaying.{ask_of, asks_of}

@@ -3,18 +3,18 @@ use Rattle.std.proofs.Common.{◌≡◌, ℕ, suc, ◌<◌, ◌≤◌, All, List
 use Rattle.std.specs.Prelude.{IfOk, vec_len}
 use Rattle.std.proofs.lemmas.List.Elements.{All-cons, All-nil}
 use Rattle.std.specs.declared.alloc.Global.{Global}
-use Rattle.wal_script.specs.Asked.{AskedLine}
-use Rattle.wal_script.specs.Replay.{most_backends}
-use Rattle.wal_script.specs.ReplayReading.{AreBackendsOf}
-use Rattle.wal_script.specs.declared.line.Line.{Line}
-use Rattle.wal_script.specs.declared.line.Refusal.{Refusal}
-use Rattle.wal_script.proofs.RunLaws.{runs_have_some_backends}
-use Rattle.wal_core.specs.declared.setup.Setup.{Setup}
-use Rattle.command_words.specs.declared.commands.RunOptions.{RunOptions}
-use Rattle.command_words.specs.declared.commands.ScriptRunOptions.{ScriptRunOptions}
-use Rattle.backend_lanes.specs.Backends.{HaveToldEach, IsRoomFor, lists_of, scripts_of}
-use Rattle.backend_lanes.specs.declared.backend.AnsweredLines.{AnsweredLines}
-use Rattle.backend_lanes.specs.declared.playing.Room.{Room}
+use Rattle.run_script.specs.Asked.{AskedLine}
+use Rattle.run_script.specs.Replay.{most_backends}
+use Rattle.run_script.specs.ReplayReading.{AreBackendsOf}
+use Rattle.run_script.specs.declared.line.Line.{Line}
+use Rattle.run_script.specs.declared.line.Refusal.{Refusal}
+use Rattle.run_script.proofs.RunLaws.{runs_have_some_backends}
+use Rattle.machine_state.specs.declared.setup.Setup.{Setup}
+use Rattle.cli_words.specs.declared.commands.RunOptions.{RunOptions}
+use Rattle.cli_words.specs.declared.commands.ScriptRunOptions.{ScriptRunOptions}
+use Rattle.run_backends.specs.Backends.{HaveToldEach, IsRoomFor, lists_of, scripts_of}
+use Rattle.run_backends.specs.declared.backend.AnsweredLines.{AnsweredLines}
+use Rattle.run_backends.specs.declared.playing.Room.{Room}
 use Rattle.backend_cli.specs.Outside.{Outside, SourceView}
 use Rattle.backend_cli.specs.Prepared.{IsPreparedFor}
 use Rattle.backend_cli.specs.Printing.{HasAnswers}

@@ -6,14 +6,14 @@ use Rattle.segment_disk.specs.Cause.{Rose, RoseByOne}
 use Rattle.wal_rule.specs.Slotted.{as_machine_has}
 use Rattle.waldump_text.specs.Put.{Puts}
 use Rattle.waldump_text.specs.declared.putting.SinkFault.{SinkFault}
-use Rattle.told_lines.specs.Told.{IsFullAnswer, IsRefused, SomeTold}
-use Rattle.told_lines.specs.declared.told.Told.{Told}
+use Rattle.run_laws.specs.Told.{IsFullAnswer, IsRefused, SomeTold}
+use Rattle.run_laws.specs.declared.told.Told.{Told}
 use Rattle.segment_disk.specs.Tape.{Tape}
 use Rattle.wal_log.specs.declared.wal.Wal.{Wal}
-use Rattle.wal_script.specs.Asked.{AskedLine}
-use Rattle.backend_lanes.specs.Backends.{lists_of}
-use Rattle.backend_lanes.specs.declared.backend.AnsweredLines.{AnsweredLines}
-use Rattle.command_words.specs.declared.commands.RunOptions.{RunOptions}
+use Rattle.run_script.specs.Asked.{AskedLine}
+use Rattle.run_backends.specs.Backends.{lists_of}
+use Rattle.run_backends.specs.declared.backend.AnsweredLines.{AnsweredLines}
+use Rattle.cli_words.specs.declared.commands.RunOptions.{RunOptions}
 use Rattle.backend_cli.specs.Concluding.{Concludes, HasPlayedOut, IsConcluded}
 use Rattle.backend_cli.specs.Outside.{Outside, Took}
 use Rattle.backend_cli.specs.Printing.{Summarizes, printed_text}

@@ -6,7 +6,7 @@ use Rattle.segment_disk.specs.declared.disk.Call.{Call}
 use Rattle.segment_disk.specs.Tape.{Tape}
 use Rattle.wal_page.specs.Order.{Entry, rooms_of}
 use Rattle.wal_page.proofs.OrderLaws.{room_at-pos, rooms_of_cons}
-use Rattle.wal_core.specs.Words.{Opening, found_end, found_position}
+use Rattle.machine_state.specs.Words.{Opening, found_end, found_position}
 use Rattle.machine_laws.specs.WholeOrders.{LiesBehind}
 use Rattle.wal_rule.specs.Closing.{ClosesWith}
 use Rattle.wal_rule.specs.Passes.{view_of_pass}
@@ -15,18 +15,18 @@ use Rattle.wal_rule.specs.Tables.{began_of_table}
 use Rattle.wal_log.specs.Logs.{opening_of_log, table_of}
 use Rattle.wal_log.specs.declared.closing.Closed.{Closed}
 use Rattle.wal_log.specs.declared.wal.Wal.{Wal}
-use Rattle.wal_script.specs.Asked.{AskedLine}
-use Rattle.told_lines.specs.Told.{order_from}
-use Rattle.told_lines.specs.declared.told.Told.{Told}
-use Rattle.told_lines.specs.Whole.{IsWhole}
+use Rattle.run_script.specs.Asked.{AskedLine}
+use Rattle.run_laws.specs.Told.{order_from}
+use Rattle.run_laws.specs.declared.told.Told.{Told}
+use Rattle.run_laws.specs.WholeOrders.{IsWhole}
 use Rattle.run_laws.specs.Counted.{all_reserved_count}
 use Rattle.run_laws.specs.Ended.{HasTakenIn}
 use Rattle.run_laws.specs.Assured.{AssuresBehind, HoldsSuited, RunAssures, TapeGoesOn, order_told}
 use Rattle.run_laws.specs.ClosedRuns.{HasFlushedAll, IsRunClosed}
 use Rattle.run_laws.proofs.ClosedRuns.{bytes_told, counted_down, counted_up, flushed_whole, records_counted, rooms_within, run_assures, run_assures_behind}
-use Rattle.backend_lanes.specs.Backends.{lists_of}
-use Rattle.backend_lanes.specs.Playing.{HasPlayed}
-use Rattle.backend_lanes.specs.declared.backend.AnsweredLines.{AnsweredLines}
+use Rattle.run_backends.specs.Backends.{lists_of}
+use Rattle.run_backends.specs.Playing.{HasPlayed}
+use Rattle.run_backends.specs.declared.backend.AnsweredLines.{AnsweredLines}
 use Rattle.backend_cli.specs.Concluding.{IsConcluded}
 use Rattle.backend_cli.specs.Outside.{Outside, SourceView, outside_of}
 use Rattle.backend_cli.specs.Printing.{EndsBehind, printed_text}
@@ -60,7 +60,7 @@ module _ {D : Type 0} (tape : D → Option Tape) (moment faults : D → ℕ) (wa
     (script : List (List AskedLine)) (backends : List AnsweredLines) (closed : Closed D)
     (played : HasPlayed tape moment faults wal script backends closed) where
   abbrev size : ℕ
-  size = (opening.setup).segment_size
+  size = (opening.setup).seg_size
 
   abbrev lists : List (List Told)
   lists = lists_of backends
@@ -85,7 +85,7 @@ module _ {D : Type 0} (tape : D → Option Tape) (moment faults : D → ℕ) (wa
       opening_is played.taken
 
   flushed : HasFlushedAll size lists (view_of_pass played.pass)
-  flushed = subst (λ (o : Opening). HasFlushedAll (o.setup).segment_size (lists_of backends)
+  flushed = subst (λ (o : Opening). HasFlushedAll (o.setup).seg_size (lists_of backends)
       (view_of_pass played.pass)) opening_is played.flushed
 
   run_closed : IsRunClosed tape moment faults began opening (view_of_pass played.pass)
@@ -113,7 +113,7 @@ module _ {D : Type 0} (tape : D → Option Tape) (moment faults : D → ℕ) (wa
   pub end_told : closed.end.0
       ≡ end_address_of size (found_position opening + rooms_of size reserved)
   end_told =
-      let size_is = ap (λ (o : Opening). (o.setup).segment_size) opening_is in
+      let size_is = ap (λ (o : Opening). (o.setup).seg_size) opening_is in
       let position = (played.closes).position in
       let position_is = bytes_told tape moment faults began opening (view_of_pass played.pass)
       (played.closes).writer position script lists run_closed in
@@ -157,8 +157,8 @@ module _ {D : Type 0} (tape : D → Option Tape) (moment faults : D → ℕ) (wa
       → IsWhole size (tape closed.disk) (order_told front size script lists)
   whole front lies = subst (λ (d : D). faults d ≡ opening.faults → opening.faults < 2 ^ 64 - 1
       → HoldsSuited opening began
-      → IsWhole (opening.setup).segment_size (tape d)
-      (order_told front (opening.setup).segment_size script (lists_of backends)))
+      → IsWhole (opening.setup).seg_size (tape d)
+      (order_told front (opening.setup).seg_size script (lists_of backends)))
       (played.closes).disk_is (λ same low suited.
       flushed_whole tape moment faults began opening (view_of_pass played.pass)
       (played.closes).writer (played.closes).position script lists run_closed flushed same low
@@ -225,8 +225,8 @@ module _ {D : Type 0} (tape : D → Option Tape) (moment faults : D → ℕ) (wa
     holds_behind front lies =
         let behind = assured_behind front lies in
         let whole_then = subst (λ (n : ℕ). faults closed.disk ≡ n → n < 2 ^ 64 - 1
-        → HoldsSuited opening began → IsWhole (opening.setup).segment_size (tape closed.disk)
-        (order_told front (opening.setup).segment_size script (lists_of backends))) faults_then
+        → HoldsSuited opening began → IsWhole (opening.setup).seg_size (tape closed.disk)
+        (order_told front (opening.setup).seg_size script (lists_of backends))) faults_then
         (whole front lies) in
         record {
           words = λ (h : held). behind.words (suited h);

@@ -6,10 +6,10 @@ use Rattle.byte_position.specs.Position.{first_position}
 use Rattle.segment_disk.specs.Tape.{Tape}
 use Rattle.flush_core.specs.Pages.{HoldsNothing}
 use Rattle.wal_page.specs.Order.{rooms_of}
-use Rattle.wal_core.specs.Sound.{IsSetup}
-use Rattle.wal_core.specs.Words.{Opening, found_end, found_position}
-use Rattle.wal_core.specs.declared.setup.Setup.{Setup}
-use Rattle.wal_core.proofs.NothingFound.{nothing_ends}
+use Rattle.machine_state.specs.Sound.{IsSetup}
+use Rattle.machine_state.specs.Words.{Opening, found_end, found_position}
+use Rattle.machine_state.specs.declared.setup.Setup.{Setup}
+use Rattle.machine_state.proofs.NothingFound.{nothing_ends}
 use Rattle.machine_laws.specs.WholeOrders.{LiesBehind}
 use Rattle.machine_laws.proofs.WholeOrders.{LiesBehind-new}
 use Rattle.wal_rule.specs.Founded.{empty_log_opening}
@@ -18,15 +18,15 @@ use Rattle.wal_rule.specs.declared.pass.Pass.{Pass}
 use Rattle.wal_log.specs.Logs.{opening_of_log, table_of}
 use Rattle.wal_log.specs.Opening.{IsOpened}
 use Rattle.wal_log.specs.declared.wal.Wal.{Wal}
-use Rattle.wal_script.specs.Asked.{AskedLine}
+use Rattle.run_script.specs.Asked.{AskedLine}
 use Rattle.waldump_text.proofs.SinkLaws.{with_behind-nil}
-use Rattle.told_lines.specs.Told.{order_from}
-use Rattle.told_lines.specs.declared.told.Told.{Told}
+use Rattle.run_laws.specs.Told.{order_from}
+use Rattle.run_laws.specs.declared.told.Told.{Told}
 use Rattle.run_laws.specs.Ended.{logged_at_end}
 use Rattle.run_laws.specs.Assured.{HoldsSuited}
 use Rattle.run_laws.proofs.ClosedRuns.{empty_suited}
-use Rattle.backend_lanes.specs.Backends.{lists_of}
-use Rattle.command_words.specs.declared.commands.RunOptions.{RunOptions}
+use Rattle.run_backends.specs.Backends.{lists_of}
+use Rattle.cli_words.specs.declared.commands.RunOptions.{RunOptions}
 use Rattle.backend_cli.specs.Concluding.{HasPlayedOut, IsConcluded}
 use Rattle.backend_cli.specs.Outside.{SourceView, Took, outside_of}
 use Rattle.backend_cli.specs.Printing.{printed_text}
@@ -43,7 +43,7 @@ use Rattle.backend_cli.proofs.RunTexts.{text_is}
 module _ {D : Type 0} (tape : D → Option Tape) (moment faults : D → ℕ) (setup : Setup) (disk : D)
     (wal : Wal D) (first : Pass) (opened : IsOpened tape moment faults setup disk wal first) where
   -- the log starts where segment 1 does
-  pub begun_end : IsSetup setup → (size : ℕ) → setup.segment_size ≡ size → (end : ℕ) → end ≡ size
+  pub begun_end : IsSetup setup → (size : ℕ) → setup.seg_size ≡ size → (end : ℕ) → end ≡ size
       → end ≡ found_end (opening_of_log wal)
   begun_end can_be size size_is end is =
       is ∙ sym size_is
@@ -71,7 +71,7 @@ module _ {D : Type 0} (tape : D → Option Tape) (moment faults : D → ℕ) (se
           ∙ ap (λ (s : Setup). empty_log_opening s (moment disk) (faults disk)) setup_is
 
       valid : IsSegmentSize options.geometry
-      valid = subst (λ (s : Setup). IsSegmentSize s.segment_size) setup_is can_be.size
+      valid = subst (λ (s : Setup). IsSegmentSize s.seg_size) setup_is can_be.size
 
       -- nothing lies below its place
       lies : LiesBehind opening []

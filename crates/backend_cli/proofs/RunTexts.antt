@@ -8,15 +8,15 @@ use Rattle.byte_position.specs.Position.{first_position}
 use Rattle.byte_position.proofs.Division.{usable_bytes_bounds}
 use Rattle.byte_position.proofs.Segments.{first_position-usable}
 use Rattle.wal_page.specs.Order.{Entry, rooms_of}
-use Rattle.wal_script.specs.Asked.{AskedLine}
-use Rattle.wal_script.specs.Bodies.{AreLinesOf}
-use Rattle.wal_script.specs.declared.line.Line.{Line}
+use Rattle.run_script.specs.Asked.{AskedLine}
+use Rattle.run_script.specs.Bodies.{AreLinesOf}
+use Rattle.run_script.specs.declared.line.Line.{Line}
 use Rattle.waldump_text.specs.Put.{joined}
-use Rattle.told_lines.specs.declared.told.Told.{Told}
-use Rattle.told_lines.specs.Counts.{all_commits_of}
+use Rattle.run_laws.specs.declared.told.Told.{Told}
+use Rattle.run_laws.specs.Counts.{all_commits_of}
 use Rattle.run_laws.specs.Counted.{all_reserved_count}
-use Rattle.backend_lanes.specs.Backends.{HaveToldEach, lists_of}
-use Rattle.backend_lanes.specs.declared.backend.AnsweredLines.{AnsweredLines}
+use Rattle.run_backends.specs.Backends.{HaveToldEach, lists_of}
+use Rattle.run_backends.specs.declared.backend.AnsweredLines.{AnsweredLines}
 use Rattle.backend_cli.specs.declared.printing.Summary.{Summary}
 use Rattle.backend_cli.specs.Printing.{Summarizes, printed_text, summary_line, told_lines, told_lines_upward}
 use Rattle.backend_cli.specs.Texts.{run_text, segments_upto, summary_text, told_line, told_lines_from, told_lines_of}

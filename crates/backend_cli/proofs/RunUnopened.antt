@@ -1,19 +1,19 @@
 -- What a run has to show whose log was not opened.
 use Rattle.std.proofs.Common.{◌≡◌, ℕ, List, [], ◌∷◌, Option, Ok, refl, ap}
 use Rattle.segment_disk.specs.Tape.{IsUncalled, Tape}
-use Rattle.wal_core.specs.Sound.{IsSetup}
-use Rattle.wal_core.specs.declared.setup.Setup.{Setup}
+use Rattle.machine_state.specs.Sound.{IsSetup}
+use Rattle.machine_state.specs.declared.setup.Setup.{Setup}
 use Rattle.wal_log.specs.Opening.{TellsOpenFault}
 use Rattle.wal_log.specs.declared.opening.OpenFaultKind.{OpenFaultKind}
 use Rattle.wal_log.specs.declared.opening.OpenFaultKind.TheVariants as kinds
-use Rattle.wal_script.specs.Asked.{AskedLine}
-use Rattle.command_words.specs.declared.commands.RunOptions.{RunOptions}
-use Rattle.command_words.specs.declared.commands.ScriptRunOptions.{ScriptRunOptions}
+use Rattle.run_script.specs.Asked.{AskedLine}
+use Rattle.cli_words.specs.declared.commands.RunOptions.{RunOptions}
+use Rattle.cli_words.specs.declared.commands.ScriptRunOptions.{ScriptRunOptions}
 use Rattle.backend_cli.specs.Outcome.{outcome_unopened}
 use Rattle.backend_cli.specs.Outside.{IsUntouched, Outside, SourceView, outside_of}
 use Rattle.backend_cli.specs.Reading.{ScriptMeans}
 use Rattle.backend_cli.specs.Run.{PlayHolds, RunHolds}
-use Rattle.told_lines.specs.declared.told.Told.{Told}
+use Rattle.run_laws.specs.declared.told.Told.{Told}
 use Rattle.backend_cli.specs.declared.outcome.Outcome.{Outcome}
 use Rattle.backend_cli.specs.declared.outcome.Outcome.TheVariants.{Diverged, TooManyFrames, Done, OutOfMemory, Usage, SourceFault, ScriptRefused, NotEmpty, BeyondCap, DiskFault, Stopped, LogFull, SinkFault}
 

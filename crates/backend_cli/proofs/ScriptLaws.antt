@@ -1,12 +1,12 @@
 -- What a script means, read from a source: no more of it is needed than a byte beyond the limit.
 use Rattle.std.proofs.Common.{◌≡◌, ℕ, ◌+◌, ◌<◌, inl, inr, false, List, [], length, take, Err, Option, Some, None, refl, count_by, ltb, sym, ap, ◌∙◌, arith, lt-ltb, take_all, take-take, length-take-le, if◌then◌else◌, ◌==◌}
 use Rattle.std.proofs.lemmas.Bool.{cond-true, cases_lt}
-use Rattle.wal_script.specs.declared.line.Refusal.{Refusal}
-use Rattle.wal_script.specs.declared.line.ScriptFault.TheVariants as faults
-use Rattle.wal_script.specs.Text.{lines_of}
-use Rattle.wal_script.specs.Meaning.{script_limit}
-use Rattle.wal_script.specs.Replay.{backends_from}
-use Rattle.wal_script.specs.Run.{backends_meaning, last_line, lines_alone, run_meaning, with_any_log_writer}
+use Rattle.run_script.specs.declared.line.Refusal.{Refusal}
+use Rattle.run_script.specs.declared.line.ScriptFault.TheVariants as faults
+use Rattle.run_script.specs.Text.{lines_of}
+use Rattle.run_script.specs.Meaning.{script_limit}
+use Rattle.run_script.specs.Replay.{backends_from}
+use Rattle.run_script.specs.Run.{backends_meaning, last_line, lines_alone, run_meaning, with_any_log_writer}
 
 -- what is judged by a limit, and beyond it by what stands within, is judged by a front that goes on one byte beyond it
 limited_front : {X : Type 0} (limit : ℕ) (bytes : List ℕ) (refusal meaning : List ℕ → X)

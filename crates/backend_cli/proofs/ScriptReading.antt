@@ -1,12 +1,12 @@
 -- What a script that was read from a source means.
 use Rattle.std.proofs.Common.{◌≡◌, ℕ, ◌+◌, List, Option, Some, None, Result, IfSome, sym, ap, ◌∙◌}
-use Rattle.wal_script.specs.Asked.{AskedLine}
-use Rattle.wal_script.specs.declared.line.Refusal.{Refusal}
-use Rattle.wal_script.specs.declared.parser.ParseError.{ParseError}
-use Rattle.wal_script.specs.declared.parser.ParseError.TheVariants as errors
-use Rattle.wal_script.specs.Meaning.{script_limit}
-use Rattle.wal_script.specs.Run.{run_meaning}
-use Rattle.wal_script.specs.Reading.{RefusesScript}
+use Rattle.run_script.specs.Asked.{AskedLine}
+use Rattle.run_script.specs.declared.line.Refusal.{Refusal}
+use Rattle.run_script.specs.declared.parser.ParseError.{ParseError}
+use Rattle.run_script.specs.declared.parser.ParseError.TheVariants as errors
+use Rattle.run_script.specs.Meaning.{script_limit}
+use Rattle.run_script.specs.Run.{run_meaning}
+use Rattle.run_script.specs.Reading.{RefusesScript}
 use Rattle.backend_cli.specs.Outcome.{outcome_unparsed}
 use Rattle.backend_cli.specs.Outside.{SourceView}
 use Rattle.backend_cli.specs.Prepared.{IsUnpreparedBy}

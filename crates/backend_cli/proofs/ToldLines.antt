@@ -9,10 +9,10 @@ use Rattle.std.specs.Iterator.Adapters.{zip_first, zip_second}
 use Rattle.std.specs.Slice.Iter.{iter_rest}
 use Rattle.std.specs.declared.iter.Zip.{Zip}
 use Rattle.std.specs.declared.slice.Iter.{Iter}
-use Rattle.wal_script.specs.declared.line.Line.{Line}
-use Rattle.told_lines.specs.declared.told.Told.{Told}
+use Rattle.run_script.specs.declared.line.Line.{Line}
+use Rattle.run_laws.specs.declared.told.Told.{Told}
 use Rattle.backend_cli.specs.Texts.{told_line}
-use Rattle.backend_lanes.specs.declared.backend.AnsweredLines.{AnsweredLines}
+use Rattle.run_backends.specs.declared.backend.AnsweredLines.{AnsweredLines}
 use Rattle.backend_cli.specs.Printing.{told_lines, told_lines_upward}
 
 -- the line of the first of them stands in front

@@ -4,15 +4,15 @@ use Rattle.std.proofs.lemmas.List.{drop_more}
 use Rattle.std.proofs.lemmas.List.Concat.{flat_map-cons}
 use mathlib.Core.Option.{none, some}
 use lib.ListN.{get_elem?}
-use Rattle.wal_script.specs.declared.item.Item.{Item}
-use Rattle.wal_script.specs.Turns.{backends_in_turn}
-use Rattle.wal_core.specs.Views.{View}
-use Rattle.wal_core.specs.Words.{down_word}
-use Rattle.wal_core.specs.Moves.{is_done}
-use Rattle.wal_core.specs.Steps.{view_behind, word_of_step}
-use Rattle.wal_turns.specs.Doing.{Ask, Backend, Machine}
-use Rattle.wal_turns.proofs.Poses.{bool_cases}
-use Rattle.wal_turns.specs.Turned.{Next, goes_on, answers, TurnMade, Waits, can_step, event_named, fallen, looks_down, moved_on, next_of, outcome, word_waited, turned, turned_for, turned_of, machine_behind, with_answer, with_next}
+use Rattle.run_script.specs.declared.item.Item.{Item}
+use Rattle.run_script.specs.Turns.{backends_in_turn}
+use Rattle.machine_state.specs.Views.{View}
+use Rattle.machine_state.specs.Words.{down_word}
+use Rattle.machine_state.specs.Moves.{is_done}
+use Rattle.machine_state.specs.Steps.{view_behind, word_of_step}
+use Rattle.machine_turns.specs.Doing.{Ask, Backend, Machine}
+use Rattle.machine_turns.proofs.Poses.{bool_cases}
+use Rattle.machine_turns.specs.Turned.{Next, goes_on, answers, TurnMade, Waits, can_step, event_named, fallen, looks_down, moved_on, next_of, outcome, word_waited, turned, turned_for, turned_of, machine_behind, with_answer, with_next}
 
 pub behind_append : (m : Machine) (xs ys : List ℕ) → machine_behind m (xs ++ ys) ≡ machine_behind (machine_behind m xs) ys
 behind_append m [] ys = refl

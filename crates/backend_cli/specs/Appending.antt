@@ -14,24 +14,24 @@ use Rattle.wal_reader.specs.declared.found.FoundRecord.{FoundRecord}
 use Rattle.wal_reader.specs.Cache.{log_of}
 use Rattle.wal_reader.specs.Finds.{FindsRecords}
 use Rattle.wal_reader.specs.Pages.{pages_in}
-use Rattle.written_log.specs.FoundLog.{end_behind, last_start_behind}
-use Rattle.written_log.specs.Torn.{NoTornPass}
-use Rattle.written_log.specs.Written.{found_of}
+use Rattle.written_log_laws.specs.FoundLog.{end_behind, last_start_behind}
+use Rattle.written_log_laws.specs.Torn.{NoTornPass}
+use Rattle.written_log_laws.specs.Written.{found_of}
 use Rattle.found_log.specs.Found.{HasBegunToSettle, IsDiskLog, RefusesLog}
 use Rattle.found_log.specs.declared.fault.FindFault.TheVariants as finding
-use Rattle.wal_core.specs.Opened.{IsOpenable}
+use Rattle.machine_state.specs.Opened.{IsOpenable}
 use Rattle.machine_laws.specs.WholeOrders.{LiesBehind}
 use Rattle.wal_rule.specs.Founded.{found_log_opening}
-use Rattle.wal_script.specs.Asked.{AskedLine}
-use Rattle.told_lines.specs.declared.told.Told.{Told}
-use Rattle.told_lines.specs.Crash.{IsFrontWithTold}
-use Rattle.told_lines.specs.Told.{RiseInLineOrder, entries_from, order_from}
+use Rattle.run_script.specs.Asked.{AskedLine}
+use Rattle.run_laws.specs.declared.told.Told.{Told}
+use Rattle.run_laws.specs.Crash.{IsFrontWithTold}
+use Rattle.run_laws.specs.Told.{RiseInLineOrder, entries_from, order_from}
 use Rattle.run_laws.specs.Assured.{TapeGoesOn}
-use Rattle.reopened_log.specs.AnyLogs.{HoldsSegments}
-use Rattle.reopened_log.specs.FoundFirst.{AreFoundEntries}
-use Rattle.reopened_log.specs.WasLeft.{WasLeft}
-use Rattle.command_words.specs.declared.commands.RunOptions.{RunOptions}
-use Rattle.command_words.specs.declared.commands.ScriptRunOptions.{ScriptRunOptions}
+use Rattle.reopened_log_laws.specs.AnyLogs.{HoldsSegments}
+use Rattle.reopened_log_laws.specs.FoundFirst.{AreFoundEntries}
+use Rattle.reopened_log_laws.specs.WasLeft.{WasLeft}
+use Rattle.cli_words.specs.declared.commands.RunOptions.{RunOptions}
+use Rattle.cli_words.specs.declared.commands.ScriptRunOptions.{ScriptRunOptions}
 use Rattle.backend_cli.specs.declared.outcome.Outcome.{Outcome}
 use Rattle.backend_cli.specs.declared.outcome.Outcome.TheVariants.{OutOfMemory, SourceFault, ScriptRefused, BeyondCap, DiskFault, Stopped}
 use Rattle.backend_cli.specs.Headline.{NamesOwnPlace}
@@ -174,7 +174,7 @@ pub record HoldsAppended (outside : Outside) (options : RunOptions) (outcome : O
       outside.tape_before outside.tape_after
   -- the log goes on at this place, behind the records that were found; the words below it are those
   -- that were read. It was opened, so there was no reason to refuse it: the segment behind the last
-  -- one allowed was not there, and what stands behind the records this program may have left
+  -- one allowed was not there, and the log stops as a crash of this program may let one stop
   pub place : LogPlace
   pub ends_there : end_address_of options.geometry place.position
       ≡ end_behind options.geometry headline.found

@@ -1,10 +1,10 @@
 -- What the words of a command line ask the backends of a run to do.
 use Rattle.std.specs.Prelude.{◌≡◌, ℕ, List, Ok}
-use Rattle.wal_script.specs.Asked.{AskedLine}
-use Rattle.wal_script.specs.Generated.{generated_script}
-use Rattle.command_words.specs.declared.commands.Command.TheVariants.{Run, Append, Gen, Replay, Dump, Redo, Send, Receive}
-use Rattle.command_line.specs.declared.asking.Request.{Request}
-use Rattle.command_line.specs.declared.asking.Request.TheVariants.{Command, Help, Version, Nothing}
+use Rattle.run_script.specs.Asked.{AskedLine}
+use Rattle.run_script.specs.Generated.{generated_script}
+use Rattle.cli_words.specs.declared.commands.Command.TheVariants.{Run, Append, Gen, Replay, Dump, Redo, Send, Receive}
+use Rattle.cli_line.specs.declared.asking.Request.{Request}
+use Rattle.cli_line.specs.declared.asking.Request.TheVariants.{Command, Help, Version, Nothing}
 use Rattle.backend_cli.specs.Outside.{SourceView}
 use Rattle.backend_cli.specs.Reading.{ScriptMeans}
 

@@ -6,16 +6,16 @@ use Rattle.segment_disk.specs.Tape.{Tape}
 use Rattle.wal_page.specs.Order.{room_at}
 use Rattle.wal_reader.specs.declared.found.FoundRecord.{FoundRecord}
 use Rattle.found_log.specs.Found.{first_page}
-use Rattle.reopened_log.specs.WasLeft.{WasLeft}
-use Rattle.wal_script.specs.Asked.{AskedLine}
-use Rattle.wal_script.specs.declared.line.Refusal.{Refusal}
-use Rattle.told_lines.specs.declared.told.Told.{Told}
-use Rattle.told_lines.specs.Rooms.{all_rooms_asked, capacity_of}
-use Rattle.told_lines.specs.Told.{IsRefused, SomeTold}
-use Rattle.wal_script.specs.Generated.{generated_script}
-use Rattle.command_words.specs.declared.commands.GenOptions.{GenOptions}
-use Rattle.command_words.specs.declared.commands.RunOptions.{RunOptions}
-use Rattle.command_words.specs.declared.commands.ScriptRunOptions.{ScriptRunOptions}
+use Rattle.reopened_log_laws.specs.WasLeft.{WasLeft}
+use Rattle.run_script.specs.Asked.{AskedLine}
+use Rattle.run_script.specs.declared.line.Refusal.{Refusal}
+use Rattle.run_laws.specs.declared.told.Told.{Told}
+use Rattle.run_laws.specs.Rooms.{all_rooms_asked, capacity_of}
+use Rattle.run_laws.specs.Told.{IsRefused, SomeTold}
+use Rattle.run_script.specs.Generated.{generated_script}
+use Rattle.cli_words.specs.declared.commands.GenOptions.{GenOptions}
+use Rattle.cli_words.specs.declared.commands.RunOptions.{RunOptions}
+use Rattle.cli_words.specs.declared.commands.ScriptRunOptions.{ScriptRunOptions}
 use Rattle.backend_cli.specs.declared.outcome.Outcome.{Outcome}
 use Rattle.backend_cli.specs.declared.outcome.Outcome.TheVariants.{BeyondCap, Done, OutOfMemory}
 use Rattle.backend_cli.specs.Appending.{AppendHolds}

@@ -2,19 +2,19 @@
 use Rattle.std.specs.Prelude.{◌≡◌, ℕ, ◌⊎◌, Bool, not, is_ok, List, ◌++◌, Option, Some, None, Result, if◌then◌else◌}
 use Rattle.segment_disk.specs.Tape.{Tape}
 use Rattle.wal_page.specs.Order.{rooms_of}
-use Rattle.wal_core.specs.Words.{found_position}
+use Rattle.machine_state.specs.Words.{found_position}
 use Rattle.wal_log.specs.Logs.{opening_of_log}
 use Rattle.wal_log.specs.declared.closing.Closed.{Closed}
 use Rattle.wal_log.specs.declared.wal.Wal.{Wal}
-use Rattle.wal_script.specs.Asked.{AskedLine}
+use Rattle.run_script.specs.Asked.{AskedLine}
 use Rattle.waldump_text.specs.Put.{Puts}
 use Rattle.waldump_text.specs.declared.putting.SinkFault.{SinkFault}
-use Rattle.told_lines.specs.declared.told.Told.{Told}
-use Rattle.told_lines.specs.Told.{IsFullAnswer, SomeTold, order_from}
-use Rattle.backend_lanes.specs.Backends.{lists_of}
-use Rattle.backend_lanes.specs.Playing.{HasPlayed}
-use Rattle.backend_lanes.specs.declared.backend.AnsweredLines.{AnsweredLines}
-use Rattle.command_words.specs.declared.commands.RunOptions.{RunOptions}
+use Rattle.run_laws.specs.declared.told.Told.{Told}
+use Rattle.run_laws.specs.Told.{IsFullAnswer, SomeTold, order_from}
+use Rattle.run_backends.specs.Backends.{lists_of}
+use Rattle.run_backends.specs.Playing.{HasPlayed}
+use Rattle.run_backends.specs.declared.backend.AnsweredLines.{AnsweredLines}
+use Rattle.cli_words.specs.declared.commands.RunOptions.{RunOptions}
 use Rattle.backend_cli.specs.declared.outcome.Outcome.{Outcome}
 use Rattle.backend_cli.specs.declared.outcome.Outcome.TheVariants.{Done, DiskFault, LogFull, SinkFault as SinkFailed}
 use Rattle.backend_cli.specs.declared.printing.Summary.{Summary}

@@ -1,27 +1,27 @@
 -- The headline: what a run that opened its log leaves behind, however the steps of its backends
 -- interleaved.
 --
--- `size` is the size of a segment in bytes. `script` has each backend's lines, `told` what each
--- line was told. `opening` is the disk's moment at the call; `before` and `after` are what the
--- disk tells before the call and after it.
+-- `size` is the size of a segment in bytes. The log begins with segment 1, at the address `size`.
+-- `script` has each backend's lines, `told` what each line was told. `opening` is the disk's moment
+-- at the call; `before` and `after` are what the disk tells before the call and after it.
 use Rattle.std.specs.Prelude.{◌≡◌, ℕ, ◌≤◌, All, IfSome, IsTrue, List, length, map, Option, Some, None}
 use Rattle.std.specs.List.{zip}
 use Rattle.std.specs.List.Sorted.{IsPermutation}
 use Rattle.byte_position.specs.Geometry.{is_segment_size}
-use Rattle.byte_position.specs.Position.{first_position}
-use Rattle.record_spelling.specs.Record.{switch_record}
+use Rattle.byte_position.specs.Position.{position_of}
+use Rattle.wal_spelling.specs.Record.{switch_record}
 use Rattle.segment_disk.specs.DiskImage.{DiskImage, LeftAt}
 use Rattle.segment_disk.specs.Tape.{Tape, after_calls}
 use Rattle.wal_page.specs.Order.{Entry, FollowsFrom}
 use Rattle.wal_reader.specs.declared.found.FoundRecord.{FoundRecord}
 use Rattle.wal_reader.specs.Finds.{FindsRecords}
 use Rattle.wal_reader.specs.Pages.{pages_in}
-use Rattle.written_log.specs.Torn.{NoTornPass}
-use Rattle.wal_script.specs.Asked.{Asked, AskedLine, Commit, CommitAsync, Flush, Insert, Switch, WriteBehind}
-use Rattle.told_lines.specs.declared.told.Told.{Told}
-use Rattle.told_lines.specs.declared.told.Told.TheVariants.{Wrote, Hard, Flushed, Async, Idle, Switched, Stayed, Refused}
-use Rattle.told_lines.specs.Crash.{IsFrontWithTold}
-use Rattle.told_lines.specs.Told.{IsPlaced, RiseInLineOrder, entries_from}
+use Rattle.written_log_laws.specs.Torn.{NoTornPass}
+use Rattle.run_script.specs.Asked.{Asked, AskedLine, Commit, CommitAsync, Flush, Insert, Switch, WriteBehind}
+use Rattle.run_laws.specs.declared.told.Told.{Told}
+use Rattle.run_laws.specs.declared.told.Told.TheVariants.{Wrote, Hard, Flushed, Async, Idle, Switched, Stayed, Refused}
+use Rattle.run_laws.specs.Crash.{IsFrontWithTold}
+use Rattle.run_laws.specs.Told.{IsPlaced, RiseInLineOrder, entries_from}
 
 -- what each kind of line may be told: an insert, a commit or a commit that is answered ahead, where
 -- its own record starts and ends (that of a commit is durable too), and so a segment switch, or
@@ -54,7 +54,8 @@ pub record FoundAfterCrash (size opening : ℕ) (order : List Entry) (before aft
   -- no torn record passes its CRC there
   pub no_torn_pass : NoTornPass size (pages_in size image) order
   -- the reader, from the start of segment 1 on, finds these records there
-  pub finds : FindsRecords size (pages_in size image) size found
+  pub finds :
+      let log_start = size in FindsRecords size (pages_in size image) log_start found
 
 pub record Headline (size opening : ℕ) (script : List (List AskedLine)) (told : List (List Told))
     (before after : Option Tape) : Type 0 where
@@ -63,15 +64,17 @@ pub record Headline (size opening : ℕ) (script : List (List AskedLine)) (told 
   pub sized : IsTrue (is_segment_size size)
   pub answered : map (λ answers. length answers) told ≡ map (λ lines. length lines) script
   pub receipts :
-      All (λ backend. All (λ line. NamesOwnPlace size line.0.asked line.1)
-      (zip backend.0 backend.1)) (zip script told)
+      All (λ backend. let lines = backend.0 in let answers = backend.1 in
+      All (λ pair. let line = pair.0 in let answer = pair.1 in NamesOwnPlace size line.asked answer)
+      (zip lines answers)) (zip script told)
   -- the records that the run reserved, all of them and no other, in an order in which they
   pub order : List Entry
-  pub reserved : IsPermutation (entries_from size 1 script told) order
-  -- follow each other without a gap, from the log's first position on;
-  pub gapless : FollowsFrom size (first_position size) order
+  pub reserved :
+      let first_pass : ℕ = 1 in IsPermutation (entries_from size first_pass script told) order
+  -- follow each other without a gap, from the log's start on;
+  pub gapless : let log_start = size in FollowsFrom size (position_of size log_start) order
   -- each backend's stand in script order;
-  pub in_line_order : RiseInLineOrder size 1 script told
+  pub in_line_order : let first_pass : ℕ = 1 in RiseInLineOrder size first_pass script told
   -- and a crash at any moment leaves segments that the reader decodes to a prefix of them, each
   -- record whole, holding every commit whose receipt names that moment or an earlier one
   pub crash : (moment : ℕ) (found : List FoundRecord)

@@ -2,11 +2,11 @@
 use Rattle.std.specs.Prelude.{◌≡◌, ◌⊎◌, ℕ, List, []}
 use Rattle.backend_cli.specs.declared.outcome.Outcome.{Outcome}
 use Rattle.backend_cli.specs.declared.outcome.Outcome.TheVariants.{OutOfMemory, Usage}
-use Rattle.told_lines.specs.declared.told.Told.{Told}
-use Rattle.command_words.specs.declared.commands.Command.TheVariants.{Run, Append, Gen, Replay, Dump, Redo, Send, Receive}
-use Rattle.command_line.specs.declared.asking.Request.{Request}
-use Rattle.command_line.specs.declared.asking.Request.TheVariants.{Command, Help, Version, Nothing}
-use Rattle.command_line.specs.Texts.{help, version}
+use Rattle.run_laws.specs.declared.told.Told.{Told}
+use Rattle.cli_words.specs.declared.commands.Command.TheVariants.{Run, Append, Gen, Replay, Dump, Redo, Send, Receive}
+use Rattle.cli_line.specs.declared.asking.Request.{Request}
+use Rattle.cli_line.specs.declared.asking.Request.TheVariants.{Command, Help, Version, Nothing}
+use Rattle.cli_line.specs.Texts.{help, version}
 use Rattle.backend_cli.specs.Outside.{DiskSeen, Outside, IsUntouched, Took}
 use Rattle.backend_cli.specs.Run.{GenHolds, RunHolds}
 use Rattle.backend_cli.specs.Appending.{AppendHolds}

@@ -2,9 +2,9 @@
 use Rattle.std.specs.Prelude.{ℕ, List, [], ◌∷◌, codes}
 use Rattle.std.specs.Fmt.{decimal}
 use Rattle.wal_types.specs.LsnText.{lsn_text}
-use Rattle.wal_script.specs.Names.{fault_name}
-use Rattle.wal_script.specs.declared.parser.ParseError.{ParseError}
-use Rattle.wal_script.specs.declared.parser.ParseError.TheVariants as errors
+use Rattle.run_script.specs.Names.{fault_name}
+use Rattle.run_script.specs.declared.parser.ParseError.{ParseError}
+use Rattle.run_script.specs.declared.parser.ParseError.TheVariants as errors
 use Rattle.wal_log.specs.declared.opening.OpenFaultKind.{OpenFaultKind}
 use Rattle.wal_log.specs.declared.opening.OpenFaultKind.TheVariants as opens
 use Rattle.wal_reader.specs.Names.{damage_name}

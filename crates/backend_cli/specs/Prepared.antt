@@ -1,14 +1,14 @@
 -- What a run makes ready before it opens the log.
 use Rattle.std.specs.Prelude.{◌≡◌, ℕ, ◌<◌, ◌≤◌, List, length, Option, Result, Ok, Err, Vec}
 use Rattle.std.specs.declared.alloc.Global.{Global}
-use Rattle.wal_script.specs.Asked.{AskedLine}
-use Rattle.wal_script.specs.declared.line.Line.{Line}
-use Rattle.wal_script.specs.declared.line.Refusal.{Refusal}
-use Rattle.wal_script.specs.Replay.{most_backends}
-use Rattle.wal_script.specs.ReplayReading.{AreBackendsOf}
-use Rattle.wal_script.specs.Run.{run_meaning}
-use Rattle.backend_lanes.specs.Backends.{IsRoomFor, scripts_of}
-use Rattle.backend_lanes.specs.declared.playing.Room.{Room}
+use Rattle.run_script.specs.Asked.{AskedLine}
+use Rattle.run_script.specs.declared.line.Line.{Line}
+use Rattle.run_script.specs.declared.line.Refusal.{Refusal}
+use Rattle.run_script.specs.Replay.{most_backends}
+use Rattle.run_script.specs.ReplayReading.{AreBackendsOf}
+use Rattle.run_script.specs.Run.{run_meaning}
+use Rattle.run_backends.specs.Backends.{IsRoomFor, scripts_of}
+use Rattle.run_backends.specs.declared.playing.Room.{Room}
 use Rattle.backend_cli.specs.declared.outcome.Outcome.{Outcome}
 use Rattle.backend_cli.specs.declared.outcome.Outcome.TheVariants.{OutOfMemory, SourceFault, ScriptRefused}
 use Rattle.backend_cli.specs.Outside.{SourceView}

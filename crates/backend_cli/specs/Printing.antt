@@ -6,12 +6,12 @@ use Rattle.wal_types.specs.LsnText.{lsn_text}
 use Rattle.waldump_text.specs.Put.{joined}
 use Rattle.wal_log.specs.declared.reopening.Found.{Found}
 use Rattle.backend_cli.specs.declared.printing.Summary.{Summary}
-use Rattle.wal_script.specs.declared.line.Line.{Line}
-use Rattle.told_lines.specs.declared.told.Told.{Told}
+use Rattle.run_script.specs.declared.line.Line.{Line}
+use Rattle.run_laws.specs.declared.told.Told.{Told}
 use Rattle.backend_cli.specs.Texts.{segments_upto, told_line}
-use Rattle.told_lines.specs.Counts.{all_commits_of}
+use Rattle.run_laws.specs.Counts.{all_commits_of}
 use Rattle.run_laws.specs.Counted.{all_reserved_count}
-use Rattle.backend_lanes.specs.declared.backend.AnsweredLines.{AnsweredLines}
+use Rattle.run_backends.specs.declared.backend.AnsweredLines.{AnsweredLines}
 
 -- a told line for each line
 abbrev pub told_lines : ℕ → List Line → List Told → List ℕ

@@ -3,10 +3,10 @@ use Rattle.std.specs.Prelude.{◌≡◌, ℕ, ◌+◌, ◌<◌, ◌≤◌, ◌�
 use Rattle.std.specs.declared.alloc.Global.{Global}
 use Rattle.segment_disk.specs.Cause.{RoseByOne}
 use Rattle.segment_disk.specs.Stream.{LosesFront}
-use Rattle.wal_script.specs.Asked.{AskedLine}
-use Rattle.wal_script.specs.declared.line.Refusal.{Refusal}
-use Rattle.wal_script.specs.Meaning.{script_limit}
-use Rattle.wal_script.specs.Run.{run_meaning}
+use Rattle.run_script.specs.Asked.{AskedLine}
+use Rattle.run_script.specs.declared.line.Refusal.{Refusal}
+use Rattle.run_script.specs.Meaning.{script_limit}
+use Rattle.run_script.specs.Run.{run_meaning}
 use Rattle.backend_cli.specs.declared.reading.ScriptUnread.{ScriptUnread}
 use Rattle.backend_cli.specs.declared.reading.ScriptUnread.TheVariants.{Memory, Source}
 use Rattle.backend_cli.specs.Outside.{SourceView}

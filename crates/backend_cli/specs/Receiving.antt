@@ -8,11 +8,11 @@ use Rattle.segment_disk.specs.Tape.{Tape}
 use Rattle.found_log.specs.Found.{LeavesUnsettled, RefusesLog}
 use Rattle.found_log.specs.declared.fault.FindFault.{FindFault}
 use Rattle.found_log.specs.declared.fault.FindFault.TheVariants as finding
-use Rattle.told_lines.specs.declared.told.Told.{Told}
+use Rattle.run_laws.specs.declared.told.Told.{Told}
 use Rattle.wal_stream.specs.Opened.{HasOpenCause, StandsAtFound}
 use Rattle.wal_stream.specs.Standby.{standby_disk}
 use Rattle.wal_stream.specs.declared.standby.Standby.{Standby}
-use Rattle.command_words.specs.declared.commands.ReceiveOptions.{ReceiveOptions}
+use Rattle.cli_words.specs.declared.commands.ReceiveOptions.{ReceiveOptions}
 use Rattle.wal_stream.specs.Fetched.{SourceState}
 use Rattle.wal_stream.specs.Receiving.{Receives}
 use Rattle.wal_stream.specs.declared.outcome.ReceivingEnd.{ReceivingEnd}

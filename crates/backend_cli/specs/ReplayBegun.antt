@@ -1,19 +1,19 @@
 -- What a replay makes ready before its first turn.
 use Rattle.std.specs.Prelude.{◌≡◌, ℕ, List, length, map, Result, Ok, Err}
-use Rattle.wal_turns.specs.Doing.{Machine}
-use Rattle.machine_core.specs.Cores.{IsPlayed, core_of}
-use Rattle.machine_core.specs.Playing.{PlaysMachine}
-use Rattle.machine_core.specs.declared.machine.Core.{Core}
+use Rattle.machine_turns.specs.Doing.{Machine}
+use Rattle.wal_core.specs.Cores.{IsPlayed, core_of}
+use Rattle.wal_core.specs.Playing.{PlaysMachine}
+use Rattle.wal_core.specs.declared.machine.Core.{Core}
 use Rattle.machine_turns.specs.declared.script.PlainLine.{PlainLine as MachineLine}
 use Rattle.machine_turns.specs.declared.script.PlainLine.TheVariants as machine_lines
-use Rattle.wal_script.specs.Asked.{AskedLine}
-use Rattle.wal_script.specs.Replay.{ReplayMeaning, replay_meaning}
-use Rattle.wal_script.specs.ReplayReading.{AreBackendsOf}
-use Rattle.wal_script.specs.declared.line.Action.{Action}
-use Rattle.wal_script.specs.declared.line.Action.TheVariants as actions
-use Rattle.wal_script.specs.declared.line.Line.{Line}
-use Rattle.wal_script.specs.declared.replay.Replay.{Replay}
-use Rattle.command_words.specs.declared.commands.ReplayOptions.{ReplayOptions}
+use Rattle.run_script.specs.Asked.{AskedLine}
+use Rattle.run_script.specs.Replay.{ReplayMeaning, replay_meaning}
+use Rattle.run_script.specs.ReplayReading.{AreBackendsOf}
+use Rattle.run_script.specs.declared.line.Action.{Action}
+use Rattle.run_script.specs.declared.line.Action.TheVariants as actions
+use Rattle.run_script.specs.declared.line.Line.{Line}
+use Rattle.run_script.specs.declared.replay.Replay.{Replay}
+use Rattle.cli_words.specs.declared.commands.ReplayOptions.{ReplayOptions}
 use Rattle.backend_cli.specs.declared.outcome.Outcome.{Outcome}
 use Rattle.backend_cli.specs.declared.replay.ReplayBegun.{ReplayBegun}
 use Rattle.backend_cli.specs.Outside.{SourceView}

@@ -8,29 +8,29 @@ use Rattle.segment_disk.specs.Stream.{with_behind}
 use Rattle.segment_disk.specs.Tape.{DiskState, IsNotMade, Tape, empty_state, state_now}
 use Rattle.segment_disk.specs.declared.memory.pick.Pick.{Pick}
 use Rattle.segment_disk.specs.declared.memory.pick.Pick.TheVariants as picks
-use Rattle.listing_filter.specs.Keeping.{everything_from}
-use Rattle.wal_core.specs.declared.setup.Setup.{Setup}
-use Rattle.wal_core.specs.Opened.{AreFirstWords, IsFirstWriter}
-use Rattle.wal_core.specs.Suited.{tape_from}
-use Rattle.wal_core.specs.Views.{Plain}
+use Rattle.waldump_filter.specs.Keeping.{everything_from}
+use Rattle.machine_state.specs.declared.setup.Setup.{Setup}
+use Rattle.machine_state.specs.Opened.{AreFirstWords, IsFirstWriter}
+use Rattle.machine_state.specs.Suited.{tape_from}
+use Rattle.machine_state.specs.Views.{Plain}
 use Rattle.wal_reader.specs.declared.standing.ReadErr.TheVariants as reading
-use Rattle.wal_turns.specs.Begun.{first_machine}
-use Rattle.wal_turns.specs.Doing.{Ask, Backend, Commits, Flushes, Inserts, Machine}
-use Rattle.wal_turns.specs.Turned.{machine_behind}
-use Rattle.machine_core.specs.Cores.{HasWriter, first_opening}
-use Rattle.wal_script.specs.Turns.{backends_in_turn}
-use Rattle.wal_script.specs.Asked.{Asked, AskedLine, Commit, CommitAsync, Flush, Insert, Switch, WriteBehind}
-use Rattle.wal_script.specs.Replay.{ReplayMeaning, replay_meaning}
+use Rattle.machine_turns.specs.Begun.{first_machine}
+use Rattle.machine_turns.specs.Doing.{Ask, Backend, Commits, Flushes, Inserts, Machine}
+use Rattle.machine_turns.specs.Turned.{machine_behind}
+use Rattle.wal_core.specs.Cores.{HasWriter, first_opening}
+use Rattle.run_script.specs.Turns.{backends_in_turn}
+use Rattle.run_script.specs.Asked.{Asked, AskedLine, Commit, CommitAsync, Flush, Insert, Switch, WriteBehind}
+use Rattle.run_script.specs.Replay.{ReplayMeaning, replay_meaning}
 use Rattle.waldump_text.specs.Dump.{IsDump}
 use Rattle.waldump_text.specs.Put.{joined}
 use Rattle.waldump_text.specs.declared.dumping.DumpErr.{DumpErr}
 use Rattle.waldump_text.specs.declared.dumping.DumpErr.TheVariants.{Read, Sink}
-use Rattle.command_words.specs.declared.commands.CrashPick.{CrashPick}
-use Rattle.command_words.specs.declared.commands.CrashPick.TheVariants as crashes
-use Rattle.command_words.specs.declared.commands.ReplayOptions.{ReplayOptions}
+use Rattle.cli_words.specs.declared.commands.CrashPick.{CrashPick}
+use Rattle.cli_words.specs.declared.commands.CrashPick.TheVariants as crashes
+use Rattle.cli_words.specs.declared.commands.ReplayOptions.{ReplayOptions}
 use Rattle.backend_cli.specs.declared.outcome.Outcome.{Outcome}
 use Rattle.backend_cli.specs.declared.outcome.Outcome.TheVariants.{Done, OutOfMemory, Stopped, LogFull, SinkFault}
-use Rattle.told_lines.specs.declared.told.Told.{Told}
+use Rattle.run_laws.specs.declared.told.Told.{Told}
 use Rattle.backend_cli.specs.Outside.{Outside}
 use Rattle.backend_cli.specs.Prepared.{IsUnpreparedBy}
 use Rattle.backend_cli.specs.Reading.{ScriptMeansBy}

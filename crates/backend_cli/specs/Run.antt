@@ -2,24 +2,24 @@
 use Rattle.std.specs.Prelude.{◌≡◌, ℕ, ◌+◌, ◌-◌, ◌^◌, ◌<◌, List, [], ◌∷◌, length, None, Ok, Option, Err, IfSome, IsSome}
 use Rattle.segment_disk.specs.Tape.{state_now, page_of_segment}
 use Rattle.flush_core.specs.Pages.{HoldsNothing}
-use Rattle.wal_script.specs.Asked.{AskedLine}
+use Rattle.run_script.specs.Asked.{AskedLine}
 use Rattle.backend_cli.specs.declared.outcome.Outcome.{Outcome}
 use Rattle.backend_cli.specs.declared.outcome.Outcome.TheVariants.{Done, OutOfMemory, SourceFault, ScriptRefused, NotEmpty, DiskFault, LogFull, SinkFault}
-use Rattle.told_lines.specs.declared.told.Told.{Told}
-use Rattle.told_lines.specs.Told.{TellsAll, EachStaysDown, order_from, IsFullAnswer, IsRefused, SomeTold}
-use Rattle.told_lines.specs.CatchingUp.{EachCatchesUp}
-use Rattle.told_lines.specs.Counts.{TellsOneFault}
-use Rattle.told_lines.specs.Moments.{EachRises}
-use Rattle.told_lines.specs.Crash.{EachIsTimely}
-use Rattle.told_lines.specs.Rooms.{all_rooms_asked}
-use Rattle.command_words.specs.declared.commands.GenOptions.{GenOptions}
-use Rattle.command_words.specs.declared.commands.RunOptions.{RunOptions}
-use Rattle.command_words.specs.declared.commands.ScriptRunOptions.{ScriptRunOptions}
-use Rattle.wal_script.specs.Generated.{generated_script}
-use Rattle.told_lines.specs.Whole.{IsWhole}
+use Rattle.run_laws.specs.declared.told.Told.{Told}
+use Rattle.run_laws.specs.Told.{TellsAll, EachStaysDown, order_from, IsFullAnswer, IsRefused, SomeTold}
+use Rattle.run_laws.specs.CatchingUp.{EachCatchesUp}
+use Rattle.run_laws.specs.Counts.{TellsOneFault}
+use Rattle.run_laws.specs.Moments.{EachRises}
+use Rattle.run_laws.specs.Crash.{EachIsTimely}
+use Rattle.run_laws.specs.Rooms.{all_rooms_asked}
+use Rattle.cli_words.specs.declared.commands.GenOptions.{GenOptions}
+use Rattle.cli_words.specs.declared.commands.RunOptions.{RunOptions}
+use Rattle.cli_words.specs.declared.commands.ScriptRunOptions.{ScriptRunOptions}
+use Rattle.run_script.specs.Generated.{generated_script}
+use Rattle.run_laws.specs.WholeOrders.{IsWhole}
 use Rattle.byte_position.specs.Position.{first_position}
 use Rattle.wal_page.specs.Order.{Entry}
-use Rattle.wal_core.specs.Words.{Opening, found_position, log_limit}
+use Rattle.machine_state.specs.Words.{Opening, found_position, log_limit}
 use Rattle.machine_laws.specs.Crashes.{LeavesLawful}
 use Rattle.wal_rule.specs.Founded.{empty_log_opening}
 use Rattle.run_laws.specs.Assured.{IsMachineRun, KeepsToldWords, LeavesLogWords, TapeGoesOn, order_told}
@@ -85,32 +85,32 @@ pub record HoldsSince (opening : Opening) (held : Type 0) (outside : Outside) (o
     (script : List (List AskedLine)) (lists : List (List Told)) : Type 0 where
   pub machine : IsMachineRun opening outside.tape_after outside.moment_after script lists
   pub told : TellsAll (logged_at_end opening
-      (order_from (opening.setup).segment_size 1 script lists) outside.disk_after) 1 script lists
+      (order_from (opening.setup).seg_size 1 script lists) outside.disk_after) 1 script lists
   pub stays_down : EachStaysDown lists
   pub one_fault : TellsOneFault lists
   pub goes_on : TapeGoesOn outside.tape_before outside.tape_after
   pub firm : held → IfSome outside.tape_after
-      (KeepsToldWords opening (order_from (opening.setup).segment_size 1 script lists) lists)
+      (KeepsToldWords opening (order_from (opening.setup).seg_size 1 script lists) lists)
   pub only_log : held → IfSome outside.tape_after (LeavesLawful opening
-      (order_from (opening.setup).segment_size 1 script lists) 0 opening.moment)
+      (order_from (opening.setup).seg_size 1 script lists) 0 opening.moment)
   pub caught_up : EachCatchesUp script lists
   pub moments : EachRises opening.moment script lists outside.moment_after
   pub no_late_receipt : held → IfSome outside.tape_after
-      (λ t. EachIsTimely (opening.setup).segment_size opening.moment
-      (order_from (opening.setup).segment_size 1 script lists) t 1 script lists)
+      (λ t. EachIsTimely (opening.setup).seg_size opening.moment
+      (order_from (opening.setup).seg_size 1 script lists) t 1 script lists)
   pub ends : EndsOpened outside lists outcome
   pub full : SomeTold IsFullAnswer lists → log_limit opening.setup
-      < found_position opening + all_rooms_asked (opening.setup).segment_size script
+      < found_position opening + all_rooms_asked (opening.setup).seg_size script
 
 -- .. and of the whole order, where the entries of `front` lie below the place
 pub record HoldsBehind (opening : Opening) (front : List Entry) (held : Type 0) (outside : Outside)
     (script : List (List AskedLine)) (lists : List (List Told)) : Type 0 where
-  pub words : held → IfSome outside.tape_after (LeavesLogWords (opening.setup).segment_size
-      (opening.setup).sysid (order_told front (opening.setup).segment_size script lists)
+  pub words : held → IfSome outside.tape_after (LeavesLogWords (opening.setup).seg_size
+      (opening.setup).sysid (order_told front (opening.setup).seg_size script lists)
       opening.moment)
   pub whole : outside.disk_after ≡ outside.disk_before → outside.disk_before < 2 ^ 64 - 1 → held
-      → IsWhole (opening.setup).segment_size outside.tape_after
-      (order_told front (opening.setup).segment_size script lists)
+      → IsWhole (opening.setup).seg_size outside.tape_after
+      (order_told front (opening.setup).seg_size script lists)
 
 -- a run that began the log, of the script with these lines, on a disk that held nothing where that
 -- is told

@@ -1,8 +1,8 @@
 -- What a sending promises.
 use Rattle.std.specs.Prelude.{◌≡◌, ℕ, List, [], Result, Ok, Err}
 use Rattle.wal_reader.specs.declared.standing.ReadErr.TheVariants as reading
-use Rattle.told_lines.specs.declared.told.Told.{Told}
-use Rattle.command_words.specs.declared.commands.SendOptions.{SendOptions}
+use Rattle.run_laws.specs.declared.told.Told.{Told}
+use Rattle.cli_words.specs.declared.commands.SendOptions.{SendOptions}
 use Rattle.wal_stream.specs.Sending.{HasSendCause, IsSending}
 use Rattle.wal_stream.specs.declared.fault.SendErr.{SendErr}
 use Rattle.wal_stream.specs.declared.fault.SendErr.TheVariants.{Read, Sink}

@@ -1,7 +1,7 @@
 -- The setup of a log that a command opens.
 use Rattle.std.specs.Prelude.{ℕ, ◌+◌}
-use Rattle.wal_core.specs.declared.setup.Setup.{Setup}
-use Rattle.command_words.specs.declared.commands.RunOptions.{RunOptions}
+use Rattle.machine_state.specs.declared.setup.Setup.{Setup}
+use Rattle.cli_words.specs.declared.commands.RunOptions.{RunOptions}
 
 -- the system id of each log that this program writes
 abbrev pub system_id : ℕ
@@ -10,7 +10,7 @@ system_id = 1
 -- it has that system id, and a pass for each backend and one more, which opens it
 abbrev pub setup_asked : (segment_size ring_pages cap_segments backends : ℕ) → Setup
 setup_asked segment_size ring_pages cap_segments backends = record {
-  segment_size = segment_size;
+  seg_size = segment_size;
   ring_pages = ring_pages;
   cap_segments = cap_segments;
   sysid = system_id;

@@ -6,12 +6,12 @@ use Rattle.wal_types.specs.LsnText.{lsn_text}
 use Rattle.wal_types.specs.declared.lsn.Lsn.{Lsn}
 use Rattle.wal_page.specs.Order.{Entry, rooms_of}
 use Rattle.wal_reader.specs.declared.found.FoundRecord.{FoundRecord}
-use Rattle.written_log.specs.FoundLog.{end_behind}
-use Rattle.wal_script.specs.Asked.{AskedLine}
+use Rattle.written_log_laws.specs.FoundLog.{end_behind}
+use Rattle.run_script.specs.Asked.{AskedLine}
 use Rattle.waldump_text.specs.Put.{joined}
-use Rattle.told_lines.specs.Counts.{all_commits_of}
-use Rattle.told_lines.specs.declared.told.Told.{Told}
-use Rattle.told_lines.specs.declared.told.Told.TheVariants.{Wrote, Hard, Flushed, Async, Idle, Switched, Stayed, Refused}
+use Rattle.run_laws.specs.Counts.{all_commits_of}
+use Rattle.run_laws.specs.declared.told.Told.{Told}
+use Rattle.run_laws.specs.declared.told.Told.TheVariants.{Wrote, Hard, Flushed, Async, Idle, Switched, Stayed, Refused}
 use Rattle.wal_types.specs.declared.answers.Cause.{Cause}
 use Rattle.wal_types.specs.declared.answers.Cause.TheVariants.{Full, Disk, Down}
 

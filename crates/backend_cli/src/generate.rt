@@ -1,6 +1,6 @@
 ghost use Rattle.std.specs.Prelude.{◌≡◌, ◌≤◌, IfOk};
-ghost use Rattle.command_words.specs.Given.{IsShapeInRange};
-ghost use Rattle.wal_script.specs.Generated.{generated_script};
+ghost use Rattle.cli_words.specs.Given.{IsShapeInRange};
+ghost use Rattle.run_script.specs.Generated.{generated_script};
 ghost use Rattle.backend_cli.specs.Outside.{SourceView, outside_of};
 ghost use Rattle.backend_cli.specs.Prepared.{IsPreparedFor};
 ghost use Rattle.backend_cli.specs.Run.{GenHolds};
@@ -8,14 +8,14 @@ ghost use Rattle.backend_cli.specs.Run.{GenHolds};
 use crate::outcome::Outcome;
 use crate::run::{Finished, run_prepared};
 use crate::told::ToldLists;
-use backend_lanes::{Gate, Room};
-use command_words::GenOptions;
+use cli_words::GenOptions;
+use run_backends::{Gate, Room};
+use run_script::generate;
+use run_script::generated_laws::four_backends_have_as_many_lines;
 use segment_disk::{Disk, Sink};
 use std::alloc::{AllocError, Global};
 use std::sync::Wait;
 use std::thread::Threads;
-use wal_script::generate;
-use wal_script::generated_laws::four_backends_have_as_many_lines;
 
 // Makes the lines, and takes all room that their backends need.
 fn room_for(alloc: Global, lines: u32) -> Result<Room<'static>, AllocError>

@@ -1,9 +1,9 @@
 //! Laws of the definitions, each proved by a function that does nothing.
 
 ghost use Rattle.std.specs.Prelude.{◌≡◌, ℕ, List, Option, Result, IfSome};
-ghost use Rattle.wal_script.specs.Asked.{AskedLine};
-ghost use Rattle.wal_script.specs.Run.{run_meaning};
-ghost use Rattle.wal_script.specs.declared.line.Refusal.{Refusal};
+ghost use Rattle.run_script.specs.Asked.{AskedLine};
+ghost use Rattle.run_script.specs.Run.{run_meaning};
+ghost use Rattle.run_script.specs.declared.line.Refusal.{Refusal};
 ghost use Rattle.backend_cli.specs.Complete.{AppendsAreComplete, MadeRunsAreComplete, RunsAreComplete};
 ghost use Rattle.backend_cli.specs.Outside.{SourceView};
 ghost use Rattle.backend_cli.specs.Reading.{ScriptMeans};

@@ -17,12 +17,12 @@ mod send;
 mod setup;
 mod told;
 
-pub use backend_lanes::{Gate, OpenGate};
 pub use laws::{
     handed_out_scripts_have_one_meaning, read_scripts_mean_all_that_was_left, runs_are_complete,
 };
 pub use outcome::Outcome;
 pub use program::{Ended, pgwal};
+pub use run_backends::{Gate, OpenGate};
+pub use run_laws::{KeptTold, Told};
 pub use told::ToldLists;
-pub use told_lines::{KeptTold, Told};
 pub use wal_types::Cause;

@@ -4,9 +4,9 @@ ghost use Rattle.waldump_text.specs.Put.{Puts, joined};
 ghost use Rattle.backend_cli.specs.Outcome.{status_of, outcome_text};
 
 use crate::reading::ScriptUnread;
+use run_script::{ParseError, Refusal};
 use segment_disk::Sink;
 use wal_reader::Stopped;
-use wal_script::{ParseError, Refusal};
 use wal_types::Lsn;
 use waldump_text::{SinkFault, put_all};
 

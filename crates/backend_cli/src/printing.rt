@@ -3,14 +3,14 @@ ghost use Rattle.std.specs.Fmt.{decimal};
 ghost use Rattle.wal_types.specs.LsnText.{lsn_text};
 ghost use Rattle.waldump_text.specs.Put.{Puts, joined};
 ghost use Rattle.backend_cli.specs.Texts.{told_line, answer_text, cause_text, reserved_text};
-ghost use Rattle.wal_script.specs.Replay.{most_backends};
+ghost use Rattle.run_script.specs.Replay.{most_backends};
 ghost use Rattle.backend_cli.specs.Printing.{HasAnswers, found_line, told_lines, told_lines_upward, summary_line};
 
-use backend_lanes::AnsweredLines;
+use run_backends::AnsweredLines;
+use run_laws::{KeptTold, Told};
+use run_script::Line;
 use segment_disk::Sink;
-use told_lines::{KeptTold, Told};
 use wal_log::Found;
-use wal_script::Line;
 use wal_types::{Cause, Lsn};
 use waldump_text::{SinkFault, put_all};
 
@@ -27,7 +27,7 @@ pub(crate) fn put_told<O: Sink>(
     put_answer(out, backend, line, &told.told())
 }
 
-// The same of what was told.
+// Puts the told line of one line of a script, by what it was told.
 fn put_answer<O: Sink>(out: &mut O, backend: u32, line: u32, told: &Told) -> Result<(), SinkFault>
     ensures { Puts (O.taken out.old) (O.taken out.new) (O.faults out.old) (O.faults out.new)
         (told_line backend line told.now) result }
@@ -79,7 +79,8 @@ fn put_places<'a, O: Sink>(
     )
 }
 
-// The same of a record that is durable.
+// The told line of a record that is durable, behind the numbers of its backend and line: where it
+// starts and ends, and the moment.
 fn put_hard<'a, O: Sink>(
     out: &mut O,
     backend: &'a [u8],
@@ -110,7 +111,7 @@ fn put_hard<'a, O: Sink>(
     )
 }
 
-// The same of a flush.
+// The told line of a flush: the address below which all is durable, and the moment.
 fn put_flushed<'a, O: Sink>(
     out: &mut O,
     backend: &'a [u8],
@@ -138,7 +139,7 @@ fn put_flushed<'a, O: Sink>(
     )
 }
 
-// The same of a line that did nothing: an address, behind the word that is told of it.
+// The told line of a line that did nothing: an address, behind the word that is told of it.
 fn put_address<'a, O: Sink>(
     out: &mut O,
     backend: &'a [u8],
@@ -156,7 +157,7 @@ fn put_address<'a, O: Sink>(
     )
 }
 
-// The same of a line that was refused.
+// The told line of a line that was refused, by its cause.
 fn put_refused<'a, O: Sink>(
     out: &mut O,
     backend: &'a [u8],
@@ -185,8 +186,8 @@ fn put_refused<'a, O: Sink>(
     }
 }
 
-// The same of a line that a fault of the disk refused, with the start that was reserved all the
-// same.
+// The told line of a line that a fault of the disk refused, with the start that was reserved
+// nevertheless, if one was.
 fn put_fault<'a, O: Sink>(
     out: &mut O,
     backend: &'a [u8],

@@ -1,9 +1,9 @@
 ghost use Rattle.std.specs.Prelude.{◌≡◌, ℕ, List, [], map, string_bytes};
 ghost use Rattle.waldump_text.specs.Put.{joined};
-ghost use Rattle.command_words.specs.Given.{IsInRange};
-ghost use Rattle.wal_script.specs.Asked.{AskedLine};
-ghost use Rattle.command_line.specs.Asking.{AsksInRange, asks};
-ghost use Rattle.command_line.specs.Texts.{help, version};
+ghost use Rattle.cli_words.specs.Given.{IsInRange};
+ghost use Rattle.run_script.specs.Asked.{AskedLine};
+ghost use Rattle.cli_line.specs.Asking.{AsksInRange, asks};
+ghost use Rattle.cli_line.specs.Texts.{help, version};
 ghost use Rattle.backend_cli.specs.Appending.{AppendHeadline};
 ghost use Rattle.backend_cli.specs.Asked.{AsksAppend, AsksBackends};
 ghost use Rattle.backend_cli.specs.Headline.{Headline};
@@ -22,9 +22,9 @@ use crate::replay::replay;
 use crate::run::{Finished, run};
 use crate::send::send_log;
 use crate::told::ToldLists;
-use backend_lanes::Gate;
-use command_line::{Request, asked, help_text, version_text};
-use command_words::Command;
+use cli_line::{Request, asked, help_text, version_text};
+use cli_words::Command;
+use run_backends::Gate;
 use segment_disk::{Disk, Sink, Source};
 use std::alloc::{AllocError, Global};
 use std::sync::Wait;
@@ -182,8 +182,9 @@ pub fn pgwal<R: Threads + Wait + Sync, S: Source, O: Sink, E: Sink, D: Disk + Se
         (source_view S.left S.handed S.ends_told S.faults script.new) size lines
         → (result.told ≡ [] → ⊥)
         → Headline size (D.moment disk) lines result.told (D.tape disk) (D.tape result.disk) }
-    // The same of a run that goes on with the log that is there, of the whole log: what was found,
-    // and behind it what the run reserved, from the moment on at which the disk was handed in.
+    // The headline of a run that goes on with the log that is there, of the whole log: what was
+    // found, and behind it what the run reserved, from the moment on at which the disk was handed
+    // in.
     ensures append_headline { (size : ℕ) (lines : List (List AskedLine))
         → AsksAppend (asks (map (λ w. string_bytes w) words.now))
         (source_view S.left S.handed S.ends_told S.faults script.old)
@@ -210,10 +211,10 @@ pub fn pgwal<R: Threads + Wait + Sync, S: Source, O: Sink, E: Sink, D: Disk + Se
     // A run that begins a log and ends for want of memory hands the disk back as it came.
     ensures as_handed_in { AsksRun (asks (map (λ w. string_bytes w) words.now)) → result.status ≡ 1
         → result.disk ≡ disk }
-    // So do words that are no command.
+    // Words that are no command leave the disk as it came.
     ensures no_command { AsksNoCommand (asks (map (λ w. string_bytes w) words.now))
         → result.disk ≡ disk }
-    // So does a replay, however it ends.
+    // A replay leaves the disk as it came, however it ends.
     ensures replayed { AsksReplay (asks (map (λ w. string_bytes w) words.now))
         → result.disk ≡ disk }
 {

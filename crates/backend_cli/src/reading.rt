@@ -2,9 +2,9 @@ ghost use Rattle.std.specs.Prelude.{◌<◌, length};
 ghost use Rattle.backend_cli.specs.Outside.{source_view};
 ghost use Rattle.backend_cli.specs.Reading.{ReadsAll, ReadsUpto};
 
+use run_script::SCRIPT_LIMIT;
 use segment_disk::Source;
 use std::alloc::{AllocError, Global};
-use wal_script::SCRIPT_LIMIT;
 
 /// Why a script could not be read.
 #[derive(Clone, Copy, Debug, PartialEq, Eq)]

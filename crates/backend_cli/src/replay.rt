@@ -2,16 +2,16 @@ ghost use Rattle.std.specs.Prelude.{◌≡◌, ◌≤◌, ℕ, List, [], Option,
 ghost use Rattle.segment_disk.specs.First.{first_state};
 ghost use Rattle.segment_disk.specs.MemDisk.{tape_of};
 ghost use Rattle.segment_disk.specs.Tape.{Tape};
-ghost use Rattle.command_words.specs.Given.{IsShapeInRange};
-ghost use Rattle.wal_script.specs.Turns.{backends_in_turn};
+ghost use Rattle.cli_words.specs.Given.{IsShapeInRange};
+ghost use Rattle.run_script.specs.Turns.{backends_in_turn};
 ghost use Rattle.waldump_text.specs.Put.{Puts};
-ghost use Rattle.wal_script.specs.Asked.{AskedLine};
-ghost use Rattle.wal_script.specs.Replay.{ReplayMeaning, most_backends, replay_meaning};
-ghost use Rattle.wal_script.specs.ReplayReading.{AreBackendsOf};
-ghost use Rattle.wal_turns.specs.Doing.{Machine};
-ghost use Rattle.wal_turns.specs.Turned.{machine_behind};
-ghost use Rattle.machine_core.specs.Cores.{IsPlayed, core_of};
-ghost use Rattle.machine_core.specs.Playing.{PlaysMachine};
+ghost use Rattle.run_script.specs.Asked.{AskedLine};
+ghost use Rattle.run_script.specs.Replay.{ReplayMeaning, most_backends, replay_meaning};
+ghost use Rattle.run_script.specs.ReplayReading.{AreBackendsOf};
+ghost use Rattle.machine_turns.specs.Doing.{Machine};
+ghost use Rattle.machine_turns.specs.Turned.{machine_behind};
+ghost use Rattle.wal_core.specs.Cores.{IsPlayed, core_of};
+ghost use Rattle.wal_core.specs.Playing.{PlaysMachine};
 ghost use Rattle.backend_cli.specs.ReplayBegun.{IsReplayBegun, PlaysBackends, ReadsReplay, machine_line_of, machine_lines_of};
 ghost use Rattle.backend_cli.specs.Outside.{SourceView, outside_of, outside_with, source_view};
 ghost use Rattle.backend_cli.specs.Reading.{ScriptMeansBy};
@@ -23,12 +23,12 @@ use crate::run::Finished;
 use crate::setup::setup_asked;
 use crate::told::ToldLists;
 use byte_position::Geometry;
-use command_words::{CrashPick, ReplayOptions};
-use machine_core::{Core, CoreErr, PlainLine, Script};
+use cli_words::{CrashPick, ReplayOptions};
+use run_script::{Action, Item, Line, Replay, Schedule, parse_replay};
 use segment_disk::{Disk, MemDisk, Pick, Sink, Source};
 use std::alloc::{AllocError, Global};
+use wal_core::{Core, CoreErr, Line as MachineLine, Script};
 use wal_reader::ReadErr;
-use wal_script::{Action, Item, Line, Replay, Schedule, parse_replay};
 use wal_types::Lsn;
 use waldump_text::{DumpErr, Filter, SinkFault, dump, put_all};
 
@@ -52,23 +52,23 @@ fn read_replay<S: Source>(alloc: Global, source: &mut S) -> Result<Replay, Outco
 // What a line asks of the machine. The last three kinds do not come: `parse_replay` refuses a
 // script with such a line, since a replay has no commits answered ahead, flushes behind or segment
 // switches.
-fn machine_line(line: Line<'static>) -> PlainLine
+fn machine_line(line: Line<'static>) -> MachineLine
     ensures { result ≡ machine_line_of line.entry.action }
 {
     match line.action {
-        Action::Insert(body) => PlainLine::Insert(body),
-        Action::Commit(body) => PlainLine::Commit(body),
-        Action::Flush => PlainLine::Flush,
-        Action::CommitAsync(body) => PlainLine::Commit(body),
-        Action::WriteBehind => PlainLine::Flush,
-        Action::Switch(_) => PlainLine::Flush,
+        Action::Insert(body) => MachineLine::Insert(body),
+        Action::Commit(body) => MachineLine::Commit(body),
+        Action::Flush => MachineLine::Flush,
+        Action::CommitAsync(body) => MachineLine::Commit(body),
+        Action::WriteBehind => MachineLine::Flush,
+        Action::Switch(_) => MachineLine::Flush,
     }
 }
 
 fn script_of(alloc: Global, lines: Vec<Line<'static>>) -> Result<Script, AllocError>
     ensures { IfOk result (λ script. script ≡ machine_lines_of lines.entry.items) }
 {
-    let lines: Vec<PlainLine> = lines.into_iter().map(machine_line).collect(alloc)?;
+    let lines: Vec<MachineLine> = lines.into_iter().map(machine_line).collect(alloc)?;
     Ok(Script::of(lines))
 }
 

@@ -1,18 +1,18 @@
 ghost use Rattle.std.specs.Prelude.{◌≡◌, ◌≤◌, ◌↔◌, ◌^◌, ◌++◌, ℕ, All, IfSome, List, [], Ok, Option, IsTrue, false, length, not, vec_capacity, vec_len};
-ghost use Rattle.command_words.specs.Given.{IsShapeInRange};
-ghost use Rattle.wal_script.specs.Asked.{AskedLine};
-ghost use Rattle.wal_script.specs.Replay.{most_backends};
+ghost use Rattle.cli_words.specs.Given.{IsShapeInRange};
+ghost use Rattle.run_script.specs.Asked.{AskedLine};
+ghost use Rattle.run_script.specs.Replay.{most_backends};
 ghost use Rattle.waldump_text.specs.Put.{Puts};
-ghost use Rattle.wal_core.specs.Opened.{first_view};
-ghost use Rattle.wal_core.specs.Words.{found_end};
+ghost use Rattle.machine_state.specs.Opened.{first_view};
+ghost use Rattle.machine_state.specs.Words.{found_end};
 ghost use Rattle.wal_rule.specs.Passes.{view_of_pass};
 ghost use Rattle.wal_rule.specs.Tables.{began_of_table};
 ghost use Rattle.wal_log.specs.Logs.{IsPassOfLog, opening_of_log, setup_of_log, table_of};
 ghost use Rattle.wal_log.specs.declared.opening.OpenFaultKind.TheVariants.{BadSetup};
-ghost use Rattle.told_lines.specs.Told.{SomeTold, SomeAnswer, IsFullAnswer};
-ghost use Rattle.told_lines.specs.Counts.{all_commits_of, commits_of, reserved_count};
+ghost use Rattle.run_laws.specs.Told.{SomeTold, SomeAnswer, IsFullAnswer};
+ghost use Rattle.run_laws.specs.Counts.{all_commits_of, commits_of, reserved_count};
 ghost use Rattle.run_laws.specs.Counted.{all_reserved_count};
-ghost use Rattle.backend_lanes.specs.Backends.{lists_of};
+ghost use Rattle.run_backends.specs.Backends.{lists_of};
 ghost use Rattle.backend_cli.specs.Printing.{EndsBehind, HasAnswers, Summarizes, printed_text};
 ghost use Rattle.backend_cli.specs.Concluding.{Concludes, HasPlayedOut, IsConcluded};
 ghost use Rattle.backend_cli.specs.Run.{PlayHolds, RunHolds};
@@ -27,17 +27,17 @@ use crate::printing::{Summary, put_told_lists};
 use crate::reading::read_script;
 use crate::setup::run_setup;
 use crate::told::ToldLists;
-use backend_lanes::{AnsweredLines, Gate, PlayedRun, Room, play_backends};
 use bumpalo::Bump;
 use byte_position::Geometry;
-use command_words::{RunOptions, ScriptRunOptions};
+use cli_words::{RunOptions, ScriptRunOptions};
+use run_backends::{AnsweredLines, Gate, PlayedRun, Room, play_backends};
+use run_laws::KeptTold;
+use run_script::{Line, parse_run};
 use segment_disk::{Disk, Sink, Source};
 use std::alloc::{AllocError, Global};
 use std::sync::Wait;
 use std::thread::Threads;
-use told_lines::KeptTold;
 use wal_log::{Closed, OpenFault, OpenFaultKind, Pass, Wal};
-use wal_script::{Line, parse_run};
 use wal_types::Lsn;
 use waldump_text::SinkFault;
 
@@ -182,7 +182,7 @@ fn print<O: Sink>(
     summary.put(out)
 }
 
-// The same behind a text, unless that could not be printed.
+// Prints what a run told, and its summary, behind a text, unless that could not be printed.
 fn print_behind<O: Sink>(
     out: &mut O,
     begun: Result<(), SinkFault>,

@@ -1,15 +1,15 @@
 ghost use Rattle.std.specs.Prelude.{◌≡◌, ◌≤◌, List, length, vec_len};
-ghost use Rattle.command_words.specs.Given.{IsShapeInRange};
-ghost use Rattle.wal_core.specs.Sound.{IsSetup};
-ghost use Rattle.wal_script.specs.Replay.{most_backends};
-ghost use Rattle.wal_script.specs.Asked.{AskedLine};
+ghost use Rattle.cli_words.specs.Given.{IsShapeInRange};
+ghost use Rattle.machine_state.specs.Sound.{IsSetup};
+ghost use Rattle.run_script.specs.Replay.{most_backends};
+ghost use Rattle.run_script.specs.Asked.{AskedLine};
 ghost use Rattle.backend_cli.specs.Prepared.{IsPreparedFor};
 ghost use Rattle.backend_cli.specs.Setups.{run_setup, setup_asked};
 
-use backend_lanes::Room;
 use byte_position::Geometry;
-use command_words::RunOptions;
-use wal_core::Setup;
+use cli_words::RunOptions;
+use machine_state::Setup;
+use run_backends::Room;
 
 // The system id of each log that this program writes.
 const SYSTEM_ID: u64 = 1;
@@ -27,7 +27,7 @@ pub(crate) fn setup_asked(
     ensures can_be { IsSetup result }
 {
     Setup {
-        segment_size: geometry.segment_size(),
+        seg_size: geometry.segment_size(),
         ring_pages,
         cap_segments,
         sysid: SYSTEM_ID,

@@ -1,10 +1,10 @@
 ghost use Rattle.std.specs.Prelude.{◌≡◌, ◌==◌, ◌<◌, ◌≤◌, ◌^◌, [], length, slice_index_or, vec_capacity, vec_len};
-ghost use Rattle.backend_lanes.specs.Backends.{lists_of};
+ghost use Rattle.run_backends.specs.Backends.{lists_of};
 
-use backend_lanes::AnsweredLines;
+use run_backends::AnsweredLines;
+use run_laws::KeptTold;
 use std::alloc::Global;
 use std::marker::Model;
-use told_lines::KeptTold;
 
 /// What each backend's lines were told, in order, seen by contracts as a list of lists.
 #[derive(Debug, Drop)]
@@ -14,7 +14,7 @@ pub struct ToldLists {
 
 impl Model for ToldLists {
     ghost use Rattle.std.specs.Prelude.{List, length, map, ◌<◌, ◌^◌};
-    ghost use Rattle.told_lines.specs.declared.told.Told.{Told};
+    ghost use Rattle.run_laws.specs.declared.told.Told.{Told};
 
     ghost Value = { List (List Told) };
 

@@ -60,6 +60,37 @@ impl Work {
     }
 }
 
+/// What the words behind the program's name ask for.
+#[derive(Clone, Copy, Debug, PartialEq, Eq)]
+pub enum Task {
+    /// Work of threads on one log.
+    Log(Options),
+    /// Turns of the machine; `kinds` says whether those of each kind are counted.
+    Turns { kinds: bool },
+}
+
+impl Task {
+    /// The words of the command line, read.
+    pub fn of_words(rt: HostRuntime) -> Result<Task, Trouble> {
+        let mut words = env::args(&rt)?.skip(1);
+        let Some(first) = words.next() else {
+            return Err(Trouble::Usage);
+        };
+        if first.as_str() != "turns" {
+            return Options::of_words(rt).map(Task::Log);
+        }
+        let kinds = match words.next() {
+            Some(word) if word.as_str() == "kinds" => true,
+            Some(_) => return Err(Trouble::Usage),
+            None => false,
+        };
+        if words.next().is_some() {
+            return Err(Trouble::Usage);
+        }
+        Ok(Task::Turns { kinds })
+    }
+}
+
 /// How many threads work, how often each and at what, where to, and whether the time is printed.
 #[derive(Clone, Copy, Debug, PartialEq, Eq)]
 pub struct Options {
@@ -71,8 +102,8 @@ pub struct Options {
 }
 
 impl Options {
-    /// What the words behind the program's name ask for.
-    pub fn of_words(rt: HostRuntime) -> Result<Options, Trouble> {
+    // The first word is the number of backends.
+    fn of_words(rt: HostRuntime) -> Result<Options, Trouble> {
         let mut words = env::args(&rt)?.skip(1);
         let (backends, times) = (number(words.next())?, number(words.next())?);
         let place = match words.next() {

@@ -3,13 +3,13 @@
 use crate::asked::{Options, Work};
 use crate::trouble::Trouble;
 use log_workers::{CommitKind, Insertion, Job, LogAnswer, LogCall, commits, work_side_by_side};
-use record_spelling::Body;
 use segment_disk::Disk;
 use std::alloc::Global;
 use std::sync::Wait;
 use std::thread::Threads;
 use std::time::{Duration, Instant};
 use wal_log::{Setup, Wal};
+use wal_spelling::Body;
 use wal_types::{BlockList, Bytes, Record, Xid};
 
 /// How many commits or inserts were told, and how long all of them took.
@@ -53,7 +53,7 @@ pub fn measured<D: Disk + Drop + Send, R: Threads + Wait + Sync>(
 // that is joined is not split off again, and the first one.
 fn setup(asked: Options) -> Setup {
     Setup {
-        segment_size: 1 << 24,
+        seg_size: 1 << 24,
         ring_pages: 64,
         cap_segments: 4096,
         sysid: 1,

@@ -1,5 +1,5 @@
 //! Threads commit or insert side by side on one log, for what they do in a second to be measured
-//! (bench/commits.py, bench/inserts.py).
+//! (bench/commits.py, bench/inserts.py); or turns of the machine are played (bench/turns.py).
 #![tactic(auto)]
 
 mod asked;
@@ -7,8 +7,9 @@ mod asked;
 mod done;
 mod log;
 mod trouble;
+mod turns;
 
-use asked::{Medium, Options};
+use asked::{Medium, Options, Task};
 use log::{Measurement, measured};
 use segment_disk::MemDisk;
 use segment_files::{Access, FileDisk};
@@ -17,6 +18,7 @@ use std::process::ExitCode;
 use std::sync::Wait;
 use std::thread::Threads;
 use trouble::Trouble;
+use turns::print_turns;
 
 // The folder of segment files, in the working directory.
 const FOLDER: &str = "pg_wal";
@@ -32,7 +34,17 @@ fn main(rt: HostRuntime) -> ExitCode {
 }
 
 fn run<R: Threads + Wait + Sync>(threads: &R, rt: HostRuntime) -> Result<(), Trouble> {
-    let asked = Options::of_words(rt)?;
+    match Task::of_words(rt)? {
+        Task::Turns { kinds } => Ok(print_turns(rt, kinds)?),
+        Task::Log(asked) => work(threads, rt, asked),
+    }
+}
+
+fn work<R: Threads + Wait + Sync>(
+    threads: &R,
+    rt: HostRuntime,
+    asked: Options,
+) -> Result<(), Trouble> {
     let alloc = rt.alloc();
     let measured = match asked.place {
         Medium::Memory => measured_in_memory(threads, rt, asked)?,

@@ -7,7 +7,7 @@ use thiserror::Error;
 
 #[derive(Clone, Copy, Debug, PartialEq, Eq, Error)]
 pub enum Trouble {
-    #[error("usage: BACKENDS TIMES memory|files (commits hard|async | inserts BYTES) [timed]")]
+    #[error("usage: BACKENDS TIMES memory|files commits hard|async or inserts BYTES, or turns")]
     Usage,
     #[error("out of memory")]
     Memory,

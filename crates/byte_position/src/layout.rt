@@ -3,6 +3,10 @@
 /// XLOG_BLCKSZ: the size of a page of the log in bytes.
 pub const PAGE_SIZE: u64 = 8192;
 
+/// The bytes of a page of the log, or of a block's page: both have 8192 (PostgreSQL's XLOG_BLCKSZ
+/// and BLCKSZ).
+pub type Page = [u8; PAGE_SIZE as usize];
+
 /// The size of a word of the log in bytes: records and headers take up whole words, and a disk
 /// writes each word whole.
 pub const WORD: u64 = 8;

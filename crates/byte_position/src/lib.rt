@@ -12,5 +12,5 @@ pub use laws::{
     positions_and_addresses_correspond, positions_and_addresses_rise, segments_count_on,
     words_stay_whole,
 };
-pub use layout::{LONG_HEADER_LEN, PAGE_SIZE, PAGE_WORDS, SHORT_HEADER_LEN, TIMELINE, WORD};
+pub use layout::{LONG_HEADER_LEN, PAGE_SIZE, PAGE_WORDS, Page, SHORT_HEADER_LEN, TIMELINE, WORD};
 pub use position::address_by_counting;

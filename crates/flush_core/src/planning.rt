@@ -11,7 +11,7 @@ ghost use Rattle.flush_core.specs.PlannedPages.{ArePlanned, HasPlanCause, IsPage
 ghost use Rattle.flush_core.specs.declared.settling.SettleFault.TheVariants.{Memory};
 
 use crate::settling::{SettleFault, settle_planned};
-use byte_position::{Geometry, PAGE_SIZE};
+use byte_position::{Geometry, PAGE_SIZE, Page};
 use segment_disk::{Disk, Failed};
 use std::alloc::Global;
 use wal_types::Lsn;
@@ -56,7 +56,7 @@ impl SettlePlan {
         geometry: Geometry,
         end: Lsn,
         count: u64,
-        page: &mut [u8; PAGE_SIZE as usize],
+        page: &mut Page,
     ) -> Result<SettlePlan, SettleFault>
         requires there { IfSome (D.tape disk.old)
             (λ t. AreAllThere geometry (state_now t) count) }
@@ -100,11 +100,7 @@ impl SettlePlan {
 
     /// Makes the planned calls. At Ok the log is settled, if the disk is as it was read; the first
     /// call that fails ends it. `page` is room for a page.
-    pub fn settle<D: Disk>(
-        &self,
-        disk: &mut D,
-        page: &mut [u8; PAGE_SIZE as usize],
-    ) -> Result<(), Failed>
+    pub fn settle<D: Disk>(&self, disk: &mut D, page: &mut Page) -> Result<(), Failed>
         ensures settled { (size end count : ℕ) → IsPlanOf size end count (D.tape disk.old) self.now
             → OnOk result (HasSettled size end count (D.tape disk.old) (D.tape disk.new)
             (D.moment disk.old) (D.moment disk.new)) }
@@ -130,7 +126,7 @@ impl SettlePlan {
 pub fn count_segments<D: Disk>(
     disk: &mut D,
     geometry: Geometry,
-    page: &mut [u8; 8192],
+    page: &mut Page,
 ) -> Result<u64, Failed>
     ensures there { IfOk result (λ count. IfSome (D.tape disk.old)
         (λ t. AreAllThere geometry (state_now t) count)) }
@@ -155,7 +151,7 @@ fn plan_segments<D: Disk>(
     geometry: Geometry,
     count: u64,
     end: Lsn,
-    bytes: &mut [u8; 8192],
+    bytes: &mut Page,
     pages: &mut Vec<PlannedPage>,
     segments: &mut Vec<u64>,
 ) -> Result<(), SettleFault>
@@ -193,7 +189,7 @@ fn plan_segment<D: Disk>(
     geometry: Geometry,
     segment: u64,
     end: Lsn,
-    bytes: &mut [u8; 8192],
+    bytes: &mut Page,
     pages: &mut Vec<PlannedPage>,
 ) -> Result<(), SettleFault>
     requires segment { segment < 2 ^ 64 / geometry }
@@ -230,7 +226,7 @@ fn plan_page<D: Disk>(
     disk: &mut D,
     geometry: Geometry,
     page: PlannedPage,
-    bytes: &mut [u8; 8192],
+    bytes: &mut Page,
     pages: &mut Vec<PlannedPage>,
 ) -> Result<(), SettleFault>
     requires page { IsPageOf geometry page }
@@ -255,7 +251,7 @@ fn is_to_clear<D: Disk>(
     disk: &mut D,
     geometry: Geometry,
     page: PlannedPage,
-    bytes: &mut [u8; 8192],
+    bytes: &mut Page,
 ) -> Result<bool, Failed>
     requires { IsPageOf geometry page }
     ensures found { IfOk result (λ found. IfSome (D.tape disk.old) (λ t.

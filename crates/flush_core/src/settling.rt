@@ -11,7 +11,7 @@ ghost use Rattle.flush_core.specs.PlannedPages.{ArePlanned, AreToClear, IsPageOf
 ghost use Rattle.flush_core.specs.Settled.{HasNotSettled, HasSettled, MakesCalls, StopsCalls, TellsSettleFault, cleared, settle_calls, sync_calls};
 
 use crate::planning::{PlannedPage, SettlePlan, count_segments};
-use byte_position::{Geometry, PAGE_SIZE};
+use byte_position::{Geometry, Page};
 use segment_disk::{Disk, Failed};
 use std::alloc::Global;
 use wal_types::Lsn;
@@ -39,7 +39,7 @@ pub fn settle<D: Disk>(
     disk: &mut D,
     geometry: Geometry,
     end: Lsn,
-    page: &mut [u8; PAGE_SIZE as usize],
+    page: &mut Page,
 ) -> Result<u64, SettleFault>
     ensures settled { IfOk result (λ count. HasSettled geometry end.0 count
         (D.tape disk.old) (D.tape disk.new) (D.moment disk.old) (D.moment disk.new)) }
@@ -74,7 +74,7 @@ pub(crate) fn settle_planned<D: Disk>(
     count: u64,
     pages: &[PlannedPage],
     segments: &[u64],
-    bytes: &mut [u8; 8192],
+    bytes: &mut Page,
 ) -> Result<(), Failed>
     requires count { count < 2 ^ 64 / geometry }
     requires pages { All (IsPageOf geometry) pages.now }
@@ -133,7 +133,7 @@ fn clear_pages<D: Disk>(
     disk: &mut D,
     geometry: Geometry,
     pages: &[PlannedPage],
-    bytes: &mut [u8; 8192],
+    bytes: &mut Page,
 ) -> Result<(), Failed>
     requires { All (IsPageOf geometry) pages.now }
     // Where each of them is to be cleared, and none stands twice in the list.
@@ -159,7 +159,7 @@ fn clear_page<D: Disk>(
     disk: &mut D,
     geometry: Geometry,
     page: PlannedPage,
-    bytes: &mut [u8; 8192],
+    bytes: &mut Page,
 ) -> Result<(), Failed>
     requires { IsPageOf geometry page }
     // Where it is to be cleared.
@@ -178,7 +178,7 @@ fn clear_page<D: Disk>(
 }
 
 // Zeroes a page's bytes from one on.
-fn clear_bytes(bytes: &mut [u8; 8192], from: usize)
+fn clear_bytes(bytes: &mut Page, from: usize)
     requires { from ≤ 8192 }
     ensures { bytes.new ≡ cleared from bytes.old }
 {

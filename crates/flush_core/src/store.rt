@@ -7,7 +7,7 @@ ghost use Rattle.byte_position.specs.Geometry.{pages_of};
 ghost use Rattle.flush_core.specs.Calls.{AreMade, BreaksOff, store_calls};
 ghost use Rattle.segment_disk.specs.Cause.{HasCause};
 
-use byte_position::{Geometry, PAGE_SIZE};
+use byte_position::{Geometry, Page};
 use segment_disk::{Disk, Failed};
 
 /// A page's segment, and its number in it.
@@ -38,7 +38,7 @@ pub(crate) fn store_page<D: Disk>(
     place: PagePlace,
     is_new: bool,
     is_full: bool,
-    bytes: &[u8; PAGE_SIZE as usize],
+    bytes: &Page,
 ) -> Result<(), Failed>
     requires segment { place.segment < 2 ^ 64 / geometry }
     requires page { place.page < pages_of geometry }

@@ -11,7 +11,7 @@ ghost use Rattle.flush_core.specs.Puts.{HasHardened, HasNotPut, HasPutPage, IsAs
 ghost use Rattle.flush_core.specs.Writer.{HoldsLogPages, HoldsOnly, IsKept, IsMadeAsWritten, IsWriter, TellsFault, calls_to_harden, disk_of, last_made, writer_fault, is_unsynced, writer_segment_size, written_of};
 
 use crate::store::{place_of, store_page};
-use byte_position::{Geometry, PAGE_SIZE};
+use byte_position::{Geometry, Page};
 use segment_disk::Disk;
 use wal_types::Lsn;
 
@@ -139,12 +139,7 @@ impl<D: Disk> Writer<D> {
     /// Writes a page, which is whole up to a position, in place: the page of the written position,
     /// by its number from the log's address 0. It is durable only after `harden`, or where its
     /// segment ends with it.
-    pub fn put_page(
-        &mut self,
-        page: u64,
-        upto: Lsn,
-        bytes: &[u8; PAGE_SIZE as usize],
-    ) -> Result<(), DiskFault>
+    pub fn put_page(&mut self, page: u64, upto: Lsn, bytes: &Page) -> Result<(), DiskFault>
         requires { IsUnderWay (written_of self.old) page upto.0 }
         ensures done { OnOk result (HasPutPage D.tape D.moment D.faults self.old self.new
             page upto.0 bytes.now) }

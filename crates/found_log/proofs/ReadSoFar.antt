@@ -19,7 +19,7 @@ use Rattle.wal_reader.specs.declared.standing.ReadErr.{ReadErr}
 use Rattle.wal_reader.specs.declared.standing.Standing.{Standing}
 use Rattle.wal_reader.specs.declared.standing.Standing.TheVariants.{NotBegun, At, Stopped}
 use Rattle.wal_reader.specs.declared.standing.Step.{Step}
-use Rattle.written_log.specs.FoundLog.{end_behind, last_start_behind}
+use Rattle.written_log_laws.specs.FoundLog.{end_behind, last_start_behind}
 use Rattle.flush_core.proofs.SettleCalls.{lifted}
 use Rattle.found_log.specs.declared.fault.FindFault.{FindFault}
 use Rattle.found_log.specs.declared.fault.FindFault.TheVariants.{Foreign}

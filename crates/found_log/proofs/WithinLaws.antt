@@ -2,7 +2,6 @@
 -- or behind it, and none behind the segments that are there, one behind another.
 use Rattle.std.proofs.Common.{◌≡◌, ℕ, zero, suc, ◌+◌, ◌-◌, ◌*◌, ◌/◌, ◌%◌, ◌^◌, ◌<◌, ◌≤◌, true, false, Bool, List, [], ◌∷◌, ◌++◌, Option, Some, None, Result, Ok, Err, inl, inr, refl, sym, ap, subst, ◌∙◌, arith}
 use Rattle.std.specs.Prelude.{filter, nat_le, if◌then◌else◌}
-use Rattle.std.specs.List.{flat_map, range_with_len}
 use Rattle.std.proofs.lemmas.Bool.{cases_Bool, cases_lt, leb-true}
 use Rattle.std.proofs.lemmas.Nat.{div_below}
 use Rattle.std.proofs.Math.Nat.{mul-le-mul_left}
@@ -14,7 +13,7 @@ use Rattle.byte_position.proofs.Rising.{address_of-mono, lt-position_of}
 use Rattle.byte_position.proofs.SegmentSizes.{segment_size_in_pages}
 use Rattle.byte_position.proofs.Segments.{address_of-first_page_of, position_of-segment, segment_start}
 use Rattle.byte_position.proofs.Words.{position_of-mod_word}
-use Rattle.record_spelling.specs.Record.{is_switch}
+use Rattle.wal_spelling.specs.Record.{is_switch}
 use Rattle.wal_page.specs.Page.{first_fault, header_size}
 use Rattle.wal_reader.specs.declared.found.Answer.{Answer}
 use Rattle.wal_reader.specs.declared.found.FoundRecord.{FoundRecord}
@@ -27,22 +26,10 @@ use Rattle.wal_reader.proofs.BeginningLaws.{begin_at-none, begin_at-some, begin_
 use Rattle.wal_reader.proofs.FindsLaws.{read_stands}
 use Rattle.wal_reader.proofs.NextPositionLaws.{next_position-end, next_position-further, next_position-rounded, next_position-whole}
 use Rattle.wal_reader.proofs.ReadAtLaws.{read_at_of}
-use Rattle.wal_reader.proofs.SettledLaws.{passes_both, size-passed, size_in_header}
-use Rattle.written_log.proofs.AgreeingLaws.{cases_Option}
-use Rattle.written_log.proofs.ReadRecord.{IsFoundAt, claimed_size, found_at}
-
--- where no row of a run of tables holds, none of each table does
-run_passes : {K : Type 0} (rows : ℕ → List (Bool × K)) (a n i : ℕ)
-    → first_fault (flat_map rows (range_with_len a n)) ≡ None → a ≤ i → i < a + n
-    → first_fault (rows i) ≡ None
-run_passes rows a zero i passes low high = absurd (omega (arith, low, high))
-run_passes rows a (suc n) i passes low high =
-    let parts = passes_both (rows a) (flat_map rows (range_with_len (a + 1) n)) passes in
-    elim (cases_lt a i) [
-      | inl above ↦ run_passes rows (a + 1) n i parts.1 (omega (arith, above)) (omega (arith, high))
-      | inr here ↦ (let at : a ≡ i = omega (arith, low, here) in
-          subst (λ (j : ℕ). first_fault (rows j) ≡ None) at parts.0)
-    ]
+use Rattle.wal_reader.proofs.SettledLaws.{size_in_header}
+use Rattle.wal_reader.proofs.SoundLaws.{run_passes}
+use Rattle.written_log_laws.proofs.AgreeingLaws.{cases_Option}
+use Rattle.written_log_laws.proofs.ReadRecord.{IsFoundAt, claimed_size, found_at}
 
 -- a page that is not there fails the checks of one into which a record continues
 missing : (size page seen start owed : ℕ) (here : Option (List ℕ)) → here ≡ None
@@ -118,7 +105,7 @@ module _ (size : ℕ) (valid : IsSegmentSize size) (pages : Pages) (made : ℕ) 
     at = found_at size pages place found (read_at_of size pages None place (Ok found) reads)
 
     stands : IsRecordAt size pages place found
-    stands = read_stands size pages place found reads
+    stands = read_stands size pages place valid found reads
 
     abbrev total : ℕ
     total = claimed_size size pages place
@@ -167,11 +154,10 @@ module _ (size : ℕ) (valid : IsSegmentSize size) (pages : Pages) (made : ℕ) 
     ]
 
     total_is : found.total ≡ total
-    total_is = ap (λ (f : FoundRecord). f.total) stands.is_found ∙ size_in_header size pages None
-        place
+    total_is = stands.total_is ∙ size_in_header size pages None place
 
     some_bytes : 24 ≤ total
-    some_bytes = size-passed size pages None place stands.page stands.passes
+    some_bytes = omega (arith, stands.has_header, total_is)
 
     abbrev next : ℕ
     next = next_position size place.position total found.value
@@ -210,13 +196,10 @@ module _ (size : ℕ) (valid : IsSegmentSize size) (pages : Pages) (made : ℕ) 
     next_is = ap (λ (n : ℕ). next_position size place.position n found.value) total_is
 
     start_is : found.start.0 ≡ start
-    start_is = ap (λ (f : FoundRecord). f.start.0) stands.is_found
+    start_is = stands.start_is
 
     end_is : found.end.0 ≡ end_address_of size next
-    end_is =
-        let in_header = size_in_header size pages None place in
-        ap (λ (f : FoundRecord). f.end.0) stands.is_found ∙ ap (λ (n : ℕ). end_address_of size
-        (next_position size place.position n found.value)) in_header
+    end_is = stands.end_is ∙ ap (end_address_of size) next_is
 
     -- it ends behind its start
     record_rises : start < end_address_of size next

@@ -11,11 +11,11 @@ use Rattle.byte_position.proofs.HeaderSizes.{byte_in_segment}
 use Rattle.byte_position.proofs.SegmentSizes.{segment_size_in_pages}
 use Rattle.segment_disk.specs.DiskImage.{image_as_read}
 use Rattle.segment_disk.specs.Tape.{IsPageRead, Segment, Tape, page_of_segment, state_now}
-use Rattle.record_spelling.specs.Spelling.{word_at}
+use Rattle.wal_spelling.specs.Spelling.{word_at}
 use Rattle.wal_page.specs.LogPlace.{LogPlace, word_below}
 use Rattle.wal_reader.specs.Cache.{log_of}
 use Rattle.wal_reader.specs.Pages.{page_of_image}
-use Rattle.written_log.proofs.LawfulPages.{split_by}
+use Rattle.written_log_laws.proofs.LawfulPages.{split_by}
 use Rattle.found_log.specs.Words.{start_of_page, word_in, word_of_page, word_upto, words_upto}
 
 -- ---- pages as they are read

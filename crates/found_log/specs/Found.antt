@@ -4,7 +4,7 @@ use Rattle.std.specs.Prelude.{◌≡◌, ℕ, ◌+◌, ◌*◌, ◌%◌, ◌<◌
 use Rattle.byte_position.specs.Position.{end_address_of}
 use Rattle.segment_disk.specs.Cause.{Rose}
 use Rattle.segment_disk.specs.Tape.{Tape, IsNotMade, page_of_segment, state_now}
-use Rattle.record_spelling.specs.Spelling.{word_at}
+use Rattle.wal_spelling.specs.Spelling.{word_at}
 use Rattle.wal_page.specs.LogPlace.{IsPlace, LogPlace, word_below}
 use Rattle.flush_core.specs.Settled.{AreAllThere, HasNotSettled}
 use Rattle.wal_reader.specs.Cache.{log_of}
@@ -18,7 +18,7 @@ use Rattle.wal_reader.specs.declared.standing.ReadErr.{ReadErr}
 use Rattle.wal_reader.specs.declared.standing.ReadErr.TheVariants as reading
 use Rattle.wal_reader.specs.declared.standing.Step.{Step}
 use Rattle.wal_reader.specs.declared.standing.Step.TheVariants as steps
-use Rattle.written_log.specs.FoundLog.{end_behind, last_start_behind}
+use Rattle.written_log_laws.specs.FoundLog.{end_behind, last_start_behind}
 use Rattle.found_log.specs.declared.fault.FindFault.{FindFault}
 use Rattle.found_log.specs.declared.fault.FindFault.TheVariants.{Memory, Disk, Beyond, Foreign}
 use Rattle.found_log.specs.declared.finding.FoundLog.{FoundLog}

@@ -6,7 +6,7 @@ use Rattle.wal_reader.specs.Cache.{log_of}
 use Rattle.wal_reader.specs.Decodes.{Decodes}
 use Rattle.wal_reader.specs.declared.found.Answer.{Answer}
 use Rattle.wal_reader.specs.declared.found.FoundRecord.{FoundRecord}
-use Rattle.written_log.specs.FoundLog.{end_behind, last_start_behind}
+use Rattle.written_log_laws.specs.FoundLog.{end_behind, last_start_behind}
 use Rattle.found_log.specs.declared.fault.FindFault.{FindFault}
 use Rattle.found_log.specs.declared.fault.FindFault.TheVariants.{Memory, Disk, Beyond, Foreign}
 use Rattle.found_log.specs.declared.reading.RecordsEnd.{RecordsEnd}

@@ -1,7 +1,7 @@
 //! A log that is on a disk, found and settled.
 
 ghost use Rattle.std.specs.Prelude.{◌≡◌, ℕ, ◌+◌, ◌*◌, ◌^◌, ◌<◌, ◌≤◌, IfErr, IfOk, IfSome, OnErr, OnOk};
-ghost use Rattle.record_spelling.specs.Spelling.{word_at};
+ghost use Rattle.wal_spelling.specs.Spelling.{word_at};
 ghost use Rattle.segment_disk.specs.Tape.{IsUncalled};
 ghost use Rattle.flush_core.specs.Settled.{HasSettled};
 ghost use Rattle.wal_reader.specs.Cache.{log_of};
@@ -12,7 +12,7 @@ ghost use Rattle.found_log.specs.declared.fault.FindFault.TheVariants as faults;
 use crate::fault::FindFault;
 use crate::reading::read_records;
 use crate::words_below::WordsBelow;
-use byte_position::{Geometry, PAGE_SIZE};
+use byte_position::{Geometry, PAGE_SIZE, Page};
 use flush_core::{SettleFault, SettlePlan, count_segments};
 use segment_disk::Disk;
 use std::alloc::Global;
@@ -31,7 +31,7 @@ pub struct FoundLog {
     pub last_start: Lsn,
     /// The page that holds the end, as it was read: what lies in it below the end is the log's.
     /// Where the end is a page's start nothing does, and it is zeros.
-    pub page: Box<[u8; 8192]>,
+    pub page: Box<Page>,
     /// The last segment that is there, 0 where none is.
     pub made: u64,
     /// The words below the end, for clauses alone.
@@ -150,7 +150,7 @@ fn count_allowed<D: Disk>(
     disk: &mut D,
     geometry: Geometry,
     cap: u32,
-    page: &mut [u8; 8192],
+    page: &mut Page,
 ) -> Result<u64, FindFault>
     ensures counted { IfOk result (λ made. IfSome (D.tape disk.old)
         (CountsSegments geometry cap made)) }
@@ -185,7 +185,7 @@ fn read_end_page<D: Disk>(
     disk: &mut D,
     geometry: Geometry,
     end: Lsn,
-    page: &mut [u8; 8192],
+    page: &mut Page,
 ) -> Result<(), FindFault>
     requires low { end.0 ≤ 2 ^ 44 }
     ensures read { OnOk result (IfSome (D.tape disk.old) (λ t. (j : ℕ)

@@ -4,7 +4,7 @@ ghost use Rattle.std.specs.Prelude.{◌≡◌, ℕ, List, []};
 ghost use Rattle.std.specs.Borrow.{ftrue};
 ghost use Rattle.found_log.specs.Words.{words_upto};
 
-use byte_position::Geometry;
+use byte_position::{Geometry, Page};
 use segment_disk::Disk;
 use std::marker::{Brand, Model, PhantomData};
 use wal_types::Lsn;
@@ -32,12 +32,7 @@ impl Model for WordsBelow {
 
 impl WordsBelow {
     // Those of a disk below an end, of which this page holds the last ones.
-    pub(crate) fn upto<D: Disk>(
-        disk: &D,
-        geometry: Geometry,
-        end: Lsn,
-        page: &[u8; 8192],
-    ) -> WordsBelow
+    pub(crate) fn upto<D: Disk>(disk: &D, geometry: Geometry, end: Lsn, page: &Page) -> WordsBelow
         ensures { result.words ≡ words_upto geometry (D.tape disk.now) end.0 page.now }
     {
         WordsBelow::picked::<D, Brand>(disk, geometry, end, page)
@@ -47,7 +42,7 @@ impl WordsBelow {
         _disk: &D,
         _geometry: Geometry,
         _end: Lsn,
-        _page: &[u8; 8192],
+        _page: &Page,
     ) -> WordsBelow
         ensures { result.words ≡ B.words }
     {

@@ -3,11 +3,11 @@ use Rattle.std.proofs.Common.{◌≡◌, ℕ, ◌%◌, ◌≤◌, map, sym, subs
 use Rattle.byte_position.proofs.Words.{end_address_of-mod_word}
 use Rattle.wal_page.proofs.PlaceLaws.{end-whole_from}
 use Rattle.machine_laws.proofs.OrderSteps.{unlocked-is}
-use Rattle.wal_core.specs.declared.setup.Setup.{Setup}
-use Rattle.wal_core.specs.Words.{end_form, position_word, prev_word, order_end}
-use Rattle.wal_core.specs.Views.{reserving_of, View}
-use Rattle.wal_core.specs.Moves.{unlocked}
-use Rattle.wal_core.specs.Steps.{load_position}
+use Rattle.machine_state.specs.declared.setup.Setup.{Setup}
+use Rattle.machine_state.specs.Words.{end_form, position_word, prev_word, order_end}
+use Rattle.machine_state.specs.Views.{reserving_of, View}
+use Rattle.machine_state.specs.Moves.{unlocked}
+use Rattle.machine_state.specs.Steps.{load_position}
 use Rattle.wal_rule.specs.Stepping.{Meets, Stands}
 
 module _ (v : View) (met : ℕ) (m : Meets v load_position met) where
@@ -28,19 +28,19 @@ module _ (v : View) (met : ℕ) (m : Meets v load_position met) where
 
   -- the flushed address is no less than the log's start, and all that is flushed is written, and
   -- all that is written reserved
-  pub start_is_met : setup.segment_size ≤ end_form setup (unlocked met)
+  pub start_is_met : setup.seg_size ≤ end_form setup (unlocked met)
   start_is_met =
       let begun = ((s.sound).positions).begun in
       let flushed = ((s.sound).positions).flushed_low in
       let written = ((s.sound).positions).written_low in
       let reserved = ((s.sound).positions).reserved in
-      let all : setup.segment_size ≤ end_form setup end =
+      let all : setup.seg_size ≤ end_form setup end =
       omega (arith, begun, flushed, written, reserved) in
-      subst (λ (n : ℕ). setup.segment_size ≤ end_form setup n) (sym end_is_met) all
+      subst (λ (n : ℕ). setup.seg_size ≤ end_form setup n) (sym end_is_met) all
 
   pub end_is_whole : end_form setup (unlocked met) % 8 ≡ 0
   end_is_whole =
-      let size : ℕ = setup.segment_size in
+      let size : ℕ = setup.seg_size in
       let valid = ((s.sound).setup_is).size in
       subst (λ (n : ℕ). end_form setup n % 8 ≡ 0) (sym end_is_met)
       (end_address_of-mod_word size valid end

@@ -6,10 +6,10 @@ use mathlib.Core.Logic.{dite}
 use mathlib.Core.Option.{none}
 use native.Mathlib.Decide.{ℕ_discrete}
 use Rattle.wal_page.specs.EntryWords.{words_owned}
-use Rattle.wal_core.specs.Moves.{after_advance, landed, standing, with_told, with_working, without_lock}
-use Rattle.wal_core.specs.Steps.{advance, release, view_behind, MayStep}
-use Rattle.wal_core.specs.Views.{Copy, Copying, Flight, Landed, View}
-use Rattle.wal_core.proofs.Landing.{is_among_them}
+use Rattle.machine_state.specs.Moves.{after_advance, landed, standing, with_told, with_working, without_lock}
+use Rattle.machine_state.specs.Steps.{advance, release, view_behind, MayStep}
+use Rattle.machine_state.specs.Views.{Copy, Copying, Flight, Landed, View}
+use Rattle.machine_state.proofs.Landing.{is_among_them}
 use Rattle.wal_rule.specs.declared.seated.SeatedPass.{SeatedPass}
 use Rattle.wal_rule.specs.SeatedPasses.{HasView, Steps, hand_of, view_of}
 use Rattle.insert_locks.specs.Holding.{AreLocks, HasTold, NothingLeft, lock_run}
@@ -194,7 +194,7 @@ module _ (lock count : ℕ) (v : View) where
 
   abbrev IsWhole : Flight → Type 0
   IsWhole Landed = Unit {0}
-  IsWhole (Copying c) = c.copied ≡ words_owned ((v.opening).setup).segment_size c.entry
+  IsWhole (Copying c) = c.copied ≡ words_owned ((v.opening).setup).seg_size c.entry
 
   whole_under : (all locks : List ℕ) (f : Flight) → NothingLeft (v.opening).setup all f
       → IsWhole (flight_under locks f)

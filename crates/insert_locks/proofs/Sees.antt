@@ -1,9 +1,9 @@
 -- The view behind a load of the position, where no more was seen before, as a plain update.
 use Rattle.std.proofs.Common.{◌≡◌, ℕ, ◌≤◌, max, ap, arith}
 use mathlib.Core.Option.{none}
-use Rattle.wal_core.specs.Moves.{unlocked, with_reserving}
-use Rattle.wal_core.specs.Steps.{load_position, view_behind}
-use Rattle.wal_core.specs.Views.{View}
+use Rattle.machine_state.specs.Moves.{unlocked, with_reserving}
+use Rattle.machine_state.specs.Steps.{load_position, view_behind}
+use Rattle.machine_state.specs.Views.{View}
 use Rattle.insert_locks.specs.Watching.{with_sight}
 
 pub seen_is : (met : ℕ) (v : View) → (v.reserving).seen ≤ unlocked met

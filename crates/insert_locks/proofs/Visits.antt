@@ -1,10 +1,10 @@
 -- A watch goes from lock to lock, as the pass's view has it.
 use Rattle.std.proofs.Common.{◌≡◌, ◌≢◌, ℕ, ◌+◌, ◌-◌, ◌<◌, ◌≤◌, ◌&&◌, ◌||◌, Bool, true, false, cond, eqb, not, min, refl, sym, ap, subst, ◌∙◌, ⊎_elim, eq-eqb, ne_eqb, arith}
 use Rattle.machine_laws.proofs.LocksKept.{met_cases}
-use Rattle.wal_core.specs.Words.{end_form}
-use Rattle.wal_core.specs.Views.{Watching, View}
-use Rattle.wal_core.specs.Moves.{begun, is_own, visited_on}
-use Rattle.wal_core.specs.Steps.{load_lock}
+use Rattle.machine_state.specs.Words.{end_form}
+use Rattle.machine_state.specs.Views.{Watching, View}
+use Rattle.machine_state.specs.Moves.{begun, is_own, visited_on}
+use Rattle.machine_state.specs.Steps.{load_lock}
 use Rattle.wal_rule.specs.Stepping.{Meets}
 use Rattle.insert_locks.specs.Watching.{HoldsBack, IsHeldBack, LetsPass, bound_behind, watched_to, with_sight, with_watching}
 

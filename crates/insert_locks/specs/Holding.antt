@@ -2,10 +2,10 @@
 -- (PostgreSQL's xlog.c, holdingAllLocks, WALInsertLockUpdateInsertingAt, WALInsertLockRelease).
 use Rattle.std.specs.Prelude.{◌≡◌, ℕ, zero, suc, ◌+◌, ◌<◌, ◌≤◌, Contains, List, [], ◌∷◌, length}
 use Rattle.wal_page.specs.EntryWords.{words_owned}
-use Rattle.wal_core.specs.declared.setup.Setup.{Setup}
-use Rattle.wal_core.specs.Moves.{with_told}
-use Rattle.wal_core.specs.Steps.{advance, MayStep}
-use Rattle.wal_core.specs.Views.{Copying, Flight, Landed, View}
+use Rattle.machine_state.specs.declared.setup.Setup.{Setup}
+use Rattle.machine_state.specs.Moves.{with_told}
+use Rattle.machine_state.specs.Steps.{advance, MayStep}
+use Rattle.machine_state.specs.Views.{Copying, Flight, Landed, View}
 use Rattle.wal_rule.specs.declared.seated.SeatedPass.{SeatedPass}
 use Rattle.wal_rule.specs.SeatedPasses.{HasView, view_of}
 use Rattle.insert_locks.specs.declared.holding.Held.{Held}
@@ -39,4 +39,4 @@ pub record HasTold {D : Type 0} (locks : List ℕ) (upto : ℕ) (old new : Seate
 abbrev pub NothingLeft : Setup → List ℕ → Flight → Type 0
 NothingLeft setup locks Landed = Unit {0}
 NothingLeft setup locks (Copying c) = (c.locks ≡ locks) × (1 ≤ length locks)
-    × (c.copied ≡ words_owned setup.segment_size c.entry)
+    × (c.copied ≡ words_owned setup.seg_size c.entry)

@@ -1,7 +1,7 @@
 -- What a try to take an insertion lock leaves (PostgreSQL's xlog.c, WALInsertLockAcquire).
 use Rattle.std.specs.Prelude.{ℕ, ◌+◌, ◌%◌, ◌≡◌, ◌≢◌, ◌<◌, List, [], ◌∷◌, ◌++◌, slice_index}
-use Rattle.wal_core.specs.Steps.{take_lock}
-use Rattle.wal_core.specs.Views.{View}
+use Rattle.machine_state.specs.Steps.{take_lock}
+use Rattle.machine_state.specs.Views.{View}
 use Rattle.wal_rule.specs.Stepping.{Meets}
 
 -- the view that holds one lock more, and is else as it was

@@ -1,10 +1,10 @@
 -- What a watch of all insertion locks leaves (PostgreSQL's xlog.c, WaitXLogInsertionsToFinish).
 use Rattle.std.specs.Prelude.{◌≡◌, ◌≢◌, ◌⊎◌, ℕ, ◌-◌, ◌<◌, ◌≤◌, min, ◌==◌, if◌then◌else◌}
-use Rattle.wal_core.specs.declared.setup.Setup.{Setup}
-use Rattle.wal_core.specs.Words.{end_form}
-use Rattle.wal_core.specs.Views.{Watching, View}
-use Rattle.wal_core.specs.Moves.{is_own, unlocked, visited_on}
-use Rattle.wal_core.specs.Steps.{load_lock, load_position}
+use Rattle.machine_state.specs.declared.setup.Setup.{Setup}
+use Rattle.machine_state.specs.Words.{end_form}
+use Rattle.machine_state.specs.Views.{Watching, View}
+use Rattle.machine_state.specs.Moves.{is_own, unlocked, visited_on}
+use Rattle.machine_state.specs.Steps.{load_lock, load_position}
 use Rattle.wal_rule.specs.Stepping.{Meets}
 
 -- the view that has seen so much reserved, and is else as it was

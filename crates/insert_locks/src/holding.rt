@@ -4,7 +4,7 @@
 // all that its pass holds. So each of them tells the same address, from lock 0 up, as a watch
 // visits them; and with the last one that is given back the entry has landed.
 ghost use Rattle.std.specs.Prelude.{◌≡◌, ◌+◌, ◌<◌, ◌≤◌, ◌^◌, length};
-ghost use Rattle.wal_core.specs.Moves.{without_work};
+ghost use Rattle.machine_state.specs.Moves.{without_work};
 ghost use Rattle.wal_rule.specs.SeatedPasses.{HasView, view_of};
 ghost use Rattle.insert_locks.specs.Holding.{AreLocks, HasTold, MayTell, NothingLeft, lock_run, locks_of};
 
@@ -21,7 +21,7 @@ pub enum Held {
 }
 
 /// Tells under each lock that is held that all below an address is copied.
-pub fn tell<'p, D: Disk>(seated: &mut SeatedPass<'p, D>, held: Held, upto: u64)
+pub fn advance<'p, D: Disk>(seated: &mut SeatedPass<'p, D>, held: Held, upto: u64)
     // At least one is held, and the address may be told under each.
     requires some { 1 ≤ length (locks_of held) }
     requires locks { AreLocks (locks_of held) }

@@ -4,9 +4,9 @@
 //! before it had the turn to write.
 
 ghost use Rattle.std.specs.Prelude.{◌≡◌, ◌≤◌, map};
-ghost use Rattle.wal_core.specs.Words.{end_form, order_end};
-ghost use Rattle.wal_core.specs.Views.{flight_of, View};
-ghost use Rattle.wal_core.specs.Positioned.{IsCopiedBelow};
+ghost use Rattle.machine_state.specs.Words.{end_form, order_end};
+ghost use Rattle.machine_state.specs.Views.{flight_of, View};
+ghost use Rattle.machine_state.specs.Positioned.{IsCopiedBelow};
 ghost use Rattle.wal_rule.specs.Stepping.{Stands};
 
 /// Where a view has visited all eight locks, all below its bound is reserved, and no entry in
@@ -16,6 +16,6 @@ pub fn finished_watches_know_the_log()
         → (v.watching).bound ≤ end_form (v.opening).setup
         (order_end v.opening (s.sound).order) }
     ensures copied { (v : View) (s : Stands v) → (v.watching).visited ≡ 8
-        → IsCopiedBelow ((v.opening).setup).segment_size (map flight_of s.views)
+        → IsCopiedBelow ((v.opening).setup).seg_size (map flight_of s.views)
         (v.watching).bound }
 {}

@@ -16,7 +16,7 @@ mod seeing;
 mod taking;
 mod watching;
 
-pub use holding::{Held, release, tell};
+pub use holding::{Held, advance, release};
 pub use seeing::{see_end, see_reserved};
 pub use taking::{AllHeld, try_take, try_take_lock};
 pub use watching::{Watched, watch};

@@ -5,9 +5,9 @@
 // What was seen stays reserved, and the view keeps it. A record that is reserved later lies behind
 // it; so a watch that visits the locks after this load need not know of that record.
 ghost use Rattle.std.specs.Prelude.{◌≡◌, ◌%◌, ◌<◌, ◌≤◌, ◌^◌};
-ghost use Rattle.wal_core.specs.Moves.{unlocked};
-ghost use Rattle.wal_core.specs.Words.{end_form};
-ghost use Rattle.wal_core.specs.Steps.{load_position};
+ghost use Rattle.machine_state.specs.Moves.{unlocked};
+ghost use Rattle.machine_state.specs.Words.{end_form};
+ghost use Rattle.machine_state.specs.Steps.{load_position};
 ghost use Rattle.wal_rule.specs.Stepping.{Meets};
 ghost use Rattle.wal_rule.specs.SeatedPasses.{HasView, setup_of, view_of};
 ghost use Rattle.insert_locks.specs.Watching.{SeesPosition, SeesTo, with_sight};
@@ -23,7 +23,7 @@ pub fn see_end<'p, D: Disk>(seated: &mut SeatedPass<'p, D>, upto: u64) -> u64
     // behind the log's start. Nothing else of the view has changed.
     ensures sees { SeesTo (setup_of seated.old) upto result (view_of seated.new).reserving.seen
         (view_of seated.old) }
-    ensures begun { (setup_of seated.old).segment_size
+    ensures begun { (setup_of seated.old).seg_size
         ≤ end_form (setup_of seated.old) (view_of seated.new).reserving.seen }
     ensures met { SeesPosition (view_of seated.old) (view_of seated.new).reserving.seen }
     ensures view { HasView (with_sight (view_of seated.new).reserving.seen (view_of seated.old))
@@ -35,10 +35,10 @@ pub fn see_end<'p, D: Disk>(seated: &mut SeatedPass<'p, D>, upto: u64) -> u64
 /// Loads the position, and tells the end of what is reserved, which is a multiple of 8 as each
 /// record's end is.
 pub fn see_reserved<'p, D: Disk>(seated: &mut SeatedPass<'p, D>) -> u64
-    // Of the view only what is seen has changed, which is the position met.
+    // What is seen is the position that was met. Nothing else of the view has changed.
     ensures rises { (view_of seated.old).reserving.seen ≤ (view_of seated.new).reserving.seen }
     ensures end { result ≡ end_form (setup_of seated.old) (view_of seated.new).reserving.seen }
-    ensures begun { (setup_of seated.old).segment_size ≤ result }
+    ensures begun { (setup_of seated.old).seg_size ≤ result }
     ensures whole { result % 8 ≡ 0 }
     ensures met { SeesPosition (view_of seated.old) (view_of seated.new).reserving.seen }
     ensures view { HasView (with_sight (view_of seated.new).reserving.seen (view_of seated.old))
@@ -53,7 +53,7 @@ fn see_position<'p, D: Disk>(seated: &mut SeatedPass<'p, D>) -> u64
     ensures view { HasView (with_sight (unlocked result) (view_of seated.old))
         seated.old seated.new }
     ensures rises { (view_of seated.old).reserving.seen ≤ unlocked result }
-    ensures begun { (setup_of seated.old).segment_size
+    ensures begun { (setup_of seated.old).seg_size
         ≤ end_form (setup_of seated.old) (unlocked result) }
     ensures whole { end_form (setup_of seated.old) (unlocked result) % 8 ≡ 0 }
     ensures low { result < 2 ^ 60 }

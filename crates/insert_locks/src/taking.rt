@@ -6,7 +6,7 @@
 // holds already. So a watch that saw the record reserved, and visits the locks afterwards, finds
 // this one held, or all of it copied.
 ghost use Rattle.std.specs.Prelude.{◌≡◌, ◌≢◌, ◌<◌, IfErr, IfOk};
-ghost use Rattle.wal_core.specs.Steps.{take_lock};
+ghost use Rattle.machine_state.specs.Steps.{take_lock};
 ghost use Rattle.wal_rule.specs.Stepping.{Meets};
 ghost use Rattle.wal_rule.specs.SeatedPasses.{HasView, view_of};
 ghost use Rattle.insert_locks.specs.Taking.{AreHeldWords, IsFirstFree, with_lock};

@@ -8,8 +8,8 @@
 // who takes the writer out of its slot behind it may write up to the bound.
 ghost use Rattle.std.specs.Prelude.{◌≡◌, ◌%◌, ◌<◌, ◌≤◌, true, false};
 ghost use Rattle.segment_disk.specs.Tape.{empty_state};
-ghost use Rattle.wal_core.specs.Moves.{begun, is_own, visited_on};
-ghost use Rattle.wal_core.specs.Steps.{load_lock};
+ghost use Rattle.machine_state.specs.Moves.{begun, is_own, visited_on};
+ghost use Rattle.machine_state.specs.Steps.{load_lock};
 ghost use Rattle.wal_rule.specs.Stepping.{Meets};
 ghost use Rattle.wal_rule.specs.SeatedPasses.{HasView, StaysSeated, view_of};
 ghost use Rattle.insert_locks.specs.Watching.{HasFinished, HoldsBack, IsHeldBack, LetsPass};

@@ -1,6 +1,6 @@
 -- Two passes share a log's numbers, also behind calls that take none away.
 use Rattle.std.proofs.Common.{◌≡◌, ◌⊎◌, inl, inr, ℕ, ◌<◌, List, [], ◌∷◌, length, suc, zero, refl, arith}
-use Rattle.wal_core.specs.Views.{View}
+use Rattle.machine_state.specs.Views.{View}
 use Rattle.wal_rule.specs.Closing.{KeepsNumbers}
 use Rattle.machine_laws.specs.SharedOrders.{HasNumber}
 use Rattle.wal_log.specs.Sharing.{KeepEach, ShareNumbers, SomeHas}

@@ -2,7 +2,7 @@
 
 ghost use Rattle.std.specs.Prelude.{◌≡◌, IfOk};
 ghost use Rattle.wal_rule.specs.Passes.{view_of_pass};
-ghost use Rattle.wal_core.specs.Opened.{first_view};
+ghost use Rattle.machine_state.specs.Opened.{first_view};
 ghost use Rattle.wal_log.specs.Logs.{IsPassOfLog, opening_of_log};
 
 use log_workers::{Job, work_side_by_side};
@@ -15,7 +15,7 @@ use wal_log::{Closed, Found, Pass, Setup, Wal};
 
 /// Segments of 1 MiB, of which the log may fill two, and a ring of four pages.
 pub const SETUP: Setup = Setup {
-    segment_size: 1_048_576,
+    seg_size: 1_048_576,
     ring_pages: 4,
     cap_segments: 2,
     sysid: 1,

@@ -1,13 +1,12 @@
 //! A flush that is tried while another pass's sync is under way.
 
 ghost use Rattle.std.specs.Prelude.{◌≡◌, false, IfOk};
-ghost use Rattle.record_spelling.specs.Spelling.{is_assembled_switch};
+ghost use Rattle.wal_spelling.specs.Spelling.{is_assembled_switch};
 ghost use Rattle.wal_log.specs.Logs.{IsPassOfLog};
 
 use crate::filled::SETUP;
-use byte_position::Geometry;
+use byte_position::{Geometry, Page};
 use log_workers::transaction;
-use record_spelling::Body;
 use segment_disk::{Disk, Failed, MemDisk};
 use std::alloc::Global;
 use std::sync::Wait;
@@ -16,6 +15,7 @@ use std::test::Fail;
 use std::thread;
 use std::thread::Threads;
 use wal_log::{CommitErr, Hard, Pass, Sealed, TryFlushErr, Wal};
+use wal_spelling::Body;
 use wal_types::Lsn;
 
 // How often who waits looks for the other before it goes on alone.
@@ -67,7 +67,7 @@ impl<'a> Disk for HeldDisk<'a> {
         geometry: Geometry,
         segment: u64,
         page: u32,
-        bytes: &[u8; 8192],
+        bytes: &Page,
     ) -> Result<(), Failed> {
         self.disk.write_page(geometry, segment, page, bytes)
     }
@@ -83,7 +83,7 @@ impl<'a> Disk for HeldDisk<'a> {
         geometry: Geometry,
         segment: u64,
         page: u32,
-        bytes: &mut [u8; 8192],
+        bytes: &mut Page,
     ) -> Result<bool, Failed> {
         self.disk.read_page(geometry, segment, page, bytes)
     }

@@ -1,7 +1,7 @@
 //! Records that are inserted step by step, on one thread with several passes.
 
 ghost use Rattle.std.specs.Prelude.{◌≡◌, false, [], ◌∷◌, IfOk};
-ghost use Rattle.record_spelling.specs.Spelling.{is_assembled_switch};
+ghost use Rattle.wal_spelling.specs.Spelling.{is_assembled_switch};
 ghost use Rattle.wal_rule.specs.Passes.{view_of_pass};
 ghost use Rattle.wal_log.specs.Flights.{IsInFlightOf, view_of_flight};
 ghost use Rattle.wal_log.specs.Logs.{IsPassOfLog, setup_of_log};
@@ -14,7 +14,6 @@ use crate::reading::{ReadBack, records_on};
 use crate::records::record;
 use insert_locks::AllHeld;
 use log_workers::transaction;
-use record_spelling::Body;
 use segment_disk::{Disk, MemDisk, Pick};
 use std::alloc::Global;
 use std::process::Abort;
@@ -26,6 +25,7 @@ use wal_log::{
     Wal,
 };
 use wal_rule::numbers::seats_keep_numbers;
+use wal_spelling::Body;
 use wal_types::Lsn;
 
 type Log = Wal<MemDisk>;

@@ -1,11 +1,11 @@
 //! Records that tests insert.
 
 ghost use Rattle.std.specs.Prelude.{◌≡◌, false, IfOk};
-ghost use Rattle.record_spelling.specs.Spelling.{is_assembled_switch};
+ghost use Rattle.wal_spelling.specs.Spelling.{is_assembled_switch};
 
-use record_spelling::Body;
 use std::alloc::Global;
 use std::test::Fail;
+use wal_spelling::Body;
 use wal_types::{BlockList, Bytes, Record, Xid};
 
 /// A heap's record of a transaction with so many bytes of main data: up to 255 of them stand behind

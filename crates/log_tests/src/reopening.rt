@@ -48,7 +48,7 @@ fn a_log_is_gone_on_with(rt: HostRuntime) -> Result<(), Fail> {
     };
     assert_eq!(rt; (found, ended.closed.end), (wanted, Lsn(0x10_0078)));
     let wider = Setup {
-        segment_size: 2_097_152,
+        seg_size: 2_097_152,
         ..SETUP
     };
     let Ended { work: _, closed } = ended;

@@ -1,7 +1,7 @@
 //! A copy that stops for good, with its lock held, on a disk that fails: each call beside it ends.
 
 ghost use Rattle.std.specs.Prelude.{◌≡◌, false, IfOk};
-ghost use Rattle.record_spelling.specs.Spelling.{is_assembled_switch};
+ghost use Rattle.wal_spelling.specs.Spelling.{is_assembled_switch};
 ghost use Rattle.wal_log.specs.Flights.{IsInFlightOf};
 ghost use Rattle.wal_log.specs.Logs.{IsPassOfLog};
 
@@ -11,7 +11,6 @@ use crate::records::record;
 use crate::rows::are_told;
 use crate::steps::{Step, jobs_of};
 use log_workers::{Job, Worker};
-use record_spelling::Body;
 use segment_disk::MemDisk;
 use std::alloc::Global;
 use std::process::Abort;
@@ -23,6 +22,7 @@ use std::thread::Threads;
 use wal_log::{
     CopyStop, FlushErr, Hard, Inflight, InsertErr, Pass, Setup, SwitchErr, TryErr, TryFlushErr, Wal,
 };
+use wal_spelling::Body;
 use wal_types::Lsn;
 
 type Log = Wal<MemDisk>;

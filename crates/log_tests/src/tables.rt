@@ -3,19 +3,19 @@
 ghost use Rattle.std.specs.Prelude.{◌≡◌, ℕ, ◌≤◌, IfOk};
 ghost use Rattle.flush_core.specs.Planned.{IsPlanOf};
 ghost use Rattle.wal_page.specs.LogPlace.{new_place};
-ghost use Rattle.wal_core.specs.Opened.{first_view};
+ghost use Rattle.machine_state.specs.Opened.{first_view};
 ghost use Rattle.wal_rule.specs.Founded.{empty_log_opening};
 ghost use Rattle.wal_rule.specs.Passes.{view_of_pass};
 ghost use Rattle.wal_rule.specs.Tables.{IsPassOn};
 
 use byte_position::Geometry;
 use flush_core::{SettlePlan, count_segments};
+use machine_state::Setup;
 use machine_words::{LogShape, MachineWords};
 use segment_disk::{Disk, MemDisk};
 use std::alloc::Global;
 use std::marker::Brand;
 use std::test::Fail;
-use wal_core::Setup;
 use wal_rule::{Founding, LogTable, LogWriter, OrderPlace, Pass};
 use wal_types::Lsn;
 
@@ -23,7 +23,7 @@ pub type Table = LogTable<MemDisk>;
 
 /// Segments of 1 MiB, of which the log may fill two, a ring of four pages, and four passes.
 pub const SETUP: Setup = Setup {
-    segment_size: 1_048_576,
+    seg_size: 1_048_576,
     ring_pages: 4,
     cap_segments: 2,
     sysid: 1,
@@ -60,11 +60,11 @@ pub fn resume(alloc: Global) -> Result<(Table, Pass), Fail>
 {
     let shape = shape()?;
     let mut disk = MemDisk::new(alloc, 4, 100, Vec::new(alloc), Vec::new(alloc))?;
-    let plan = planned(alloc, &mut disk, shape.geometry(), Lsn(SETUP.segment_size))?;
+    let plan = planned(alloc, &mut disk, shape.geometry(), Lsn(SETUP.seg_size))?;
     let made = plan.count();
     let founding = Founding::of_found(SETUP, &disk, first_place(), made, &plan);
     let words = MachineWords::first(alloc, SETUP, founding.moment)?;
-    let writer = LogWriter::resume(disk, shape.geometry(), SETUP.segment_size, made);
+    let writer = LogWriter::resume(disk, shape.geometry(), SETUP.seg_size, made);
     match LogTable::resume(alloc, words.as_slice(), writer, shape, &founding, &plan) {
         Ok((table, seat)) => Ok((table, Pass::of_seat(seat, 0, 1, SETUP.passes))),
         Err(_) => Err(Fail::from("memory for a table")),
@@ -73,7 +73,7 @@ pub fn resume(alloc: Global) -> Result<(Table, Pass), Fail>
 
 // The place at which a log begins that holds nothing.
 fn first_place() -> OrderPlace
-    ensures { result.place ≡ new_place SETUP.segment_size }
+    ensures { result.place ≡ new_place SETUP.seg_size }
 {
     OrderPlace::of::<Brand>()
 }

@@ -1,7 +1,7 @@
 -- The workers of a log: whose passes they have, and what these keep.
 use Rattle.std.specs.Prelude.{◌≡◌, ℕ, ◌<◌, All, List, length, slice_index_or}
 use Rattle.wal_rule.specs.Passes.{view_of_pass}
-use Rattle.wal_core.specs.Views.{View}
+use Rattle.machine_state.specs.Views.{View}
 use Rattle.wal_log.specs.Logs.{IsPassOfLog}
 use Rattle.wal_log.specs.Standing.{KeepsPass}
 use Rattle.wal_log.specs.declared.wal.Wal.{Wal}

@@ -2,12 +2,12 @@
 // segment under all insertion locks, by a call of its own. So a list of jobs needs no clause on its
 // records.
 ghost use Rattle.std.specs.Prelude.{◌≡◌, false};
-ghost use Rattle.record_spelling.specs.Record.{switch_record};
-ghost use Rattle.record_spelling.specs.Spelling.{assembled, is_assembled_switch};
+ghost use Rattle.wal_spelling.specs.Record.{switch_record};
+ghost use Rattle.wal_spelling.specs.Spelling.{assembled, is_assembled_switch};
 
-use record_spelling::Body;
 use std::alloc::Global;
 use std::marker::Model;
+use wal_spelling::Body;
 
 /// A record that is no segment switch.
 #[derive(Drop)]
@@ -17,7 +17,7 @@ pub struct Insertion {
 
 impl Model for Insertion {
     ghost use Rattle.std.specs.Prelude.{◌≡◌, false};
-    ghost use Rattle.record_spelling.specs.Spelling.{Assembled, is_assembled_switch};
+    ghost use Rattle.wal_spelling.specs.Spelling.{Assembled, is_assembled_switch};
 
     ghost Value = { Assembled };
 
@@ -50,8 +50,8 @@ pub struct SegmentEnd {
 
 impl Model for SegmentEnd {
     ghost use Rattle.std.specs.Prelude.{◌≡◌};
-    ghost use Rattle.record_spelling.specs.Record.{switch_record};
-    ghost use Rattle.record_spelling.specs.Spelling.{Assembled, assembled};
+    ghost use Rattle.wal_spelling.specs.Record.{switch_record};
+    ghost use Rattle.wal_spelling.specs.Spelling.{Assembled, assembled};
 
     ghost Value = { Assembled };
 

@@ -1,11 +1,11 @@
 // Transactions' records.
 ghost use Rattle.std.specs.Prelude.{◌≡◌, false, IfOk, vec_len};
-ghost use Rattle.record_spelling.specs.Spelling.{is_assembled_switch};
+ghost use Rattle.wal_spelling.specs.Spelling.{is_assembled_switch};
 
 use crate::insertion::Insertion;
 use crate::worker::{Job, LogCall};
-use record_spelling::{Body, BodyErr};
 use std::alloc::Global;
+use wal_spelling::{Body, BodyErr};
 use wal_types::{BlockList, Bytes, Record, Xid};
 
 /// A transaction's record of 34 bytes, which takes up 40 of the log: a header of 24, one of 2, and

@@ -12,16 +12,16 @@ use Rattle.wal_types.specs.declared.record.Record.{Record}
 use Rattle.wal_page.proofs.PlaceLaws.{end-whole_from}
 use Rattle.wal_page.proofs.PaddingLaws.{room_at-whole}
 use Rattle.wal_page.proofs.WordPositions.{position_of-whole}
-use Rattle.wal_core.specs.declared.setup.Setup.{Setup}
-use Rattle.wal_core.specs.Words.{lock_word, written_word, flushed_word, position_word, prev_word, write_turn, end_form, mapping_turn_number, write_turn_number, initialised_number, written_number, flushed_number, moment_number, down_number, ends_number, lock_number, order_end, last_start}
-use Rattle.wal_core.specs.Views.{HasAt, Place, Locked, Taken, Plain, Lent, Hold, Idle, Turned, Out, Watching, View, reserving_of, writer_of}
-use Rattle.wal_core.specs.Ordered.{AtPlace}
-use Rattle.wal_core.specs.Aligned.{AlignmentHolds, IsKnownAligned, LearnsAligned, TellsAligned}
-use Rattle.wal_core.specs.Moves.{CallOutcome, Done, Failed, is_done, after_join, after_store_position, begun, copied_below, hardened, is_own, split_off, unlocked, visited_on, with_hold, with_lent, with_outcome, with_place, with_seen, with_stage, with_working}
-use Rattle.wal_core.specs.Steps.{StepKind, MayStep, number_lent, word_of_step, view_behind, with_slot, with_call_on, load_position, take_write_turn, slot_out, slot_in, release_write_turn, lock_position, load_prev, store_prev, store_position, give_position_back, stay, load_lock, take_lock, advance, release, load_buffer_end, store_ring_word, load_ring_word, load_written, load_flushed, load_moment, load_down, store_written, store_moment, store_flushed, set_down, load_async, raise_async, take_mapping_turn, load_initialised_end, clear_end, zero_ring_word, publish_end, publish_initialised_end, release_mapping_turn, create, write, sync}
-use Rattle.wal_core.specs.Sound.{IsSound}
-use Rattle.wal_core.proofs.Lists.{one_set, part_at}
-use Rattle.wal_core.proofs.WordLists.{lock_else, lock_set, locks_else, single_set, word_again, word_else}
+use Rattle.machine_state.specs.declared.setup.Setup.{Setup}
+use Rattle.machine_state.specs.Words.{lock_word, written_word, flushed_word, position_word, prev_word, write_turn, end_form, mapping_turn_number, write_turn_number, initialised_number, written_number, flushed_number, moment_number, down_number, ends_number, lock_number, order_end, last_start}
+use Rattle.machine_state.specs.Views.{HasAt, Place, Locked, Taken, Plain, Lent, Hold, Idle, Turned, Out, Watching, View, reserving_of, writer_of}
+use Rattle.machine_state.specs.Ordered.{AtPlace}
+use Rattle.machine_state.specs.Aligned.{AlignmentHolds, IsKnownAligned, LearnsAligned, TellsAligned}
+use Rattle.machine_state.specs.Moves.{CallOutcome, Done, Failed, is_done, after_join, after_store_position, begun, copied_below, hardened, is_own, split_off, unlocked, visited_on, with_hold, with_lent, with_outcome, with_place, with_seen, with_stage, with_working}
+use Rattle.machine_state.specs.Steps.{StepKind, MayStep, number_lent, word_of_step, view_behind, with_slot, with_call_on, load_position, take_write_turn, slot_out, slot_in, release_write_turn, lock_position, load_prev, store_prev, store_position, give_position_back, stay, load_lock, take_lock, advance, release, load_buffer_end, store_ring_word, load_ring_word, load_written, load_flushed, load_moment, load_down, store_written, store_moment, store_flushed, set_down, load_async, raise_async, take_mapping_turn, load_initialised_end, clear_end, zero_ring_word, publish_end, publish_initialised_end, release_mapping_turn, create, write, sync}
+use Rattle.machine_state.specs.Sound.{IsSound}
+use Rattle.machine_state.proofs.Lists.{one_set, part_at}
+use Rattle.machine_state.proofs.WordLists.{lock_else, lock_set, locks_else, single_set, word_again, word_else}
 use Rattle.machine_laws.specs.LocksBehind.{writer_behind}
 use Rattle.machine_laws.proofs.DurableAssured.{stands_out}
 use Rattle.machine_laws.proofs.Frames.{Moved, moved, later, views_later}
@@ -198,7 +198,7 @@ module _ {first : DiskState} (words : List ℕ) (home : Option Plain) (views : L
   setup = (v.opening).setup
 
   abbrev size : ℕ
-  size = setup.segment_size
+  size = setup.seg_size
 
   valid : IsSegmentSize size
   valid = (k.setup_is).size

@@ -5,15 +5,15 @@ use Rattle.std.proofs.Common.{◌≡◌, ℕ, ◌+◌, ◌<◌, IsTrue, Contains
 use mathlib.Core.Option.{Option}
 use Rattle.segment_disk.specs.Tape.{DiskState}
 use Rattle.wal_types.specs.declared.record.Record.{Record}
-use Rattle.record_spelling.specs.Record.{is_switch}
+use Rattle.wal_spelling.specs.Record.{is_switch}
 use Rattle.wal_page.specs.EntryWords.{words_owned}
-use Rattle.wal_core.specs.Views.{HasAt, Copy, Copying, Flight, Landed, Place, Plain, View, Working, flight_of, working_of}
-use Rattle.wal_core.specs.Locked.{StandsAlone, SwitchesStandAlone}
-use Rattle.wal_core.specs.Moves.{after_join, after_split, after_store_position, entry_reserved, landed, one_more, orphan_of, spent, split_off, with_place, without_work}
-use Rattle.wal_core.specs.Steps.{StepKind, MayStep, word_of_step, view_behind, store_position}
-use Rattle.wal_core.specs.Sound.{IsSound}
-use Rattle.wal_core.proofs.Landing.{landed_was, none_lands}
-use Rattle.wal_core.proofs.Lists.{one_added, one_set, part_at, part_set}
+use Rattle.machine_state.specs.Views.{HasAt, Copy, Copying, Flight, Landed, Place, Plain, View, Working, flight_of, working_of}
+use Rattle.machine_state.specs.Locked.{StandsAlone, SwitchesStandAlone}
+use Rattle.machine_state.specs.Moves.{after_join, after_split, after_store_position, entry_reserved, landed, one_more, orphan_of, spent, split_off, with_place, without_work}
+use Rattle.machine_state.specs.Steps.{StepKind, MayStep, word_of_step, view_behind, store_position}
+use Rattle.machine_state.specs.Sound.{IsSound}
+use Rattle.machine_state.proofs.Landing.{landed_was, none_lands}
+use Rattle.machine_state.proofs.Lists.{one_added, one_set, part_at, part_set}
 use Rattle.machine_laws.specs.Locks.{idle}
 use Rattle.machine_laws.proofs.HeldLaws.{copying_same}
 use Rattle.machine_laws.proofs.LeftSteps.{by_copies, flight_left}
@@ -72,7 +72,7 @@ module _ (size : ℕ) where
 module _ {first : DiskState} (words : List ℕ) (home : Option Plain) (views : List View) (id : ℕ)
     (v : View) (k : IsSound first v.opening words home views) (here : HasAt views id v) where
   abbrev size : ℕ
-  size = ((v.opening).setup).segment_size
+  size = ((v.opening).setup).seg_size
 
   abbrev works : List Working
   works = map working_of views

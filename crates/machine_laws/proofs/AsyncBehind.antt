@@ -7,15 +7,15 @@ use Rattle.segment_disk.specs.Tape.{DiskState}
 use Rattle.byte_position.proofs.EndAddresses.{end_address_of-mono}
 use Rattle.wal_page.specs.Order.{Entry}
 use Rattle.wal_page.proofs.OrderLaws.{rooms_of_push}
-use Rattle.wal_core.specs.declared.setup.Setup.{Setup}
-use Rattle.wal_core.specs.Words.{async_number, async_word, end_form, mapping_turn_number, write_turn_number, ends_number, lock_number, order_end}
-use Rattle.wal_core.specs.Views.{HasAt, Taken, Plain, Hold, Idle, Turned, Out, Locked, View, reserving_of, async_met_of}
-use Rattle.wal_core.specs.Async.{AsyncHolds}
-use Rattle.wal_core.specs.Moves.{entry_reserved, with_hold, with_place, with_stage, with_working}
-use Rattle.wal_core.specs.Steps.{StepKind, MayStep, place_at, ring_place, page_mapped, words_zeroed, word_of_step, view_behind, with_slot, with_call_on, load_position, take_write_turn, slot_out, slot_in, release_write_turn, lock_position, load_prev, store_prev, store_position, give_position_back, stay, load_lock, take_lock, advance, release, load_buffer_end, store_ring_word, load_ring_word, load_written, load_flushed, load_moment, load_down, store_written, store_moment, store_flushed, set_down, load_async, raise_async, take_mapping_turn, load_initialised_end, clear_end, zero_ring_word, publish_end, publish_initialised_end, release_mapping_turn, create, write, sync}
-use Rattle.wal_core.specs.Sound.{IsSound}
-use Rattle.wal_core.proofs.Lists.{one_set, part_at, view_from}
-use Rattle.wal_core.proofs.WordLists.{word_again, word_else, word_set}
+use Rattle.machine_state.specs.declared.setup.Setup.{Setup}
+use Rattle.machine_state.specs.Words.{async_number, async_word, end_form, mapping_turn_number, write_turn_number, ends_number, lock_number, order_end}
+use Rattle.machine_state.specs.Views.{HasAt, Taken, Plain, Hold, Idle, Turned, Out, Locked, View, reserving_of, async_met_of}
+use Rattle.machine_state.specs.Async.{AsyncHolds}
+use Rattle.machine_state.specs.Moves.{entry_reserved, with_hold, with_place, with_stage, with_working}
+use Rattle.machine_state.specs.Steps.{StepKind, MayStep, place_at, ring_place, page_mapped, words_zeroed, word_of_step, view_behind, with_slot, with_call_on, load_position, take_write_turn, slot_out, slot_in, release_write_turn, lock_position, load_prev, store_prev, store_position, give_position_back, stay, load_lock, take_lock, advance, release, load_buffer_end, store_ring_word, load_ring_word, load_written, load_flushed, load_moment, load_down, store_written, store_moment, store_flushed, set_down, load_async, raise_async, take_mapping_turn, load_initialised_end, clear_end, zero_ring_word, publish_end, publish_initialised_end, release_mapping_turn, create, write, sync}
+use Rattle.machine_state.specs.Sound.{IsSound}
+use Rattle.machine_state.proofs.Lists.{one_set, part_at, view_from}
+use Rattle.machine_state.proofs.WordLists.{word_again, word_else, word_set}
 use Rattle.machine_laws.specs.LocksBehind.{order_behind}
 use Rattle.machine_laws.proofs.Frames.{Moved, moved, later, views_later, same_either}
 use Rattle.machine_laws.proofs.LocksKept.{met_cases}
@@ -44,7 +44,7 @@ module _ {first : DiskState} (words : List ℕ) (home : Option Plain) (views : L
   setup = (v.opening).setup
 
   abbrev size : ℕ
-  size = setup.segment_size
+  size = setup.seg_size
 
   abbrev async : ℕ
   async = async_word setup words

@@ -4,8 +4,8 @@ use Rattle.std.proofs.Math.Nat.{mod-lt}
 use mathlib.Core.Logic.{dite}
 use native.Mathlib.Decide.{dec_le}
 use Rattle.atomic_table.proofs.Lists.{one_turn}
-use Rattle.wal_core.specs.Views.{Stage, Away, Taken, Looked, Ready, Zeroing, Published}
-use Rattle.wal_core.specs.Paged.{AtStage, HoldsPage, PagesHold}
+use Rattle.machine_state.specs.Views.{Stage, Away, Taken, Looked, Ready, Zeroing, Published}
+use Rattle.machine_state.specs.Paged.{AtStage, HoldsPage, PagesHold}
 
 -- pages less than a ring's length apart lie in two buffers
 pub apart : (pages p q : ℕ) → p < q → q < p + pages → p % pages ≢ q % pages

@@ -3,16 +3,16 @@ use Rattle.std.proofs.Common.{◌≡◌, ◌≢◌, ◌⊎◌, inl, inr, ⊎_eli
 use mathlib.Core.Logic.{dite}
 use mathlib.Core.Option.{Option, some, some-injective, some-ne-none}
 use native.Mathlib.Decide.{ℕ_discrete, dec_le}
-use Rattle.wal_core.specs.Words.{Opening, position_word, lock_word, mapping_turn, write_turn, initialised_word, written_word, flushed_word, moment_word, down_word, word_of_ring}
-use Rattle.wal_core.specs.Views.{HasAt, Flight, Landed, Copying, Away, Published, Plain, Receipts, Reserving, Working, View, reserving_of, working_of, flight_of, receipts_of}
-use Rattle.wal_core.specs.Ordered.{entries_under, Role, active, spare, ended, unborn, IsUnused, TookIn}
-use Rattle.wal_core.specs.Locked.{HasTurn}
-use Rattle.wal_core.specs.Ringed.{IsAwaited}
-use Rattle.wal_core.specs.Paged.{AtStage}
-use Rattle.wal_core.specs.Shown.{IsPublished}
-use Rattle.wal_core.specs.Durable.{DurabilityHolds, IsToldRightly, one_if_some, setters_among, setters_of}
-use Rattle.wal_core.specs.Sound.{IsSound}
-use Rattle.wal_core.proofs.Lists.{part_at, view_from}
+use Rattle.machine_state.specs.Words.{Opening, position_word, lock_word, mapping_turn, write_turn, initialised_word, written_word, flushed_word, moment_word, down_word, word_of_ring}
+use Rattle.machine_state.specs.Views.{HasAt, Flight, Landed, Copying, Away, Published, Plain, Receipts, Reserving, Working, View, reserving_of, working_of, flight_of, receipts_of}
+use Rattle.machine_state.specs.Ordered.{entries_under, Role, active, spare, ended, unborn, IsUnused, TookIn}
+use Rattle.machine_state.specs.Locked.{HasTurn}
+use Rattle.machine_state.specs.Ringed.{IsAwaited}
+use Rattle.machine_state.specs.Paged.{AtStage}
+use Rattle.machine_state.specs.Shown.{IsPublished}
+use Rattle.machine_state.specs.Durable.{DurabilityHolds, IsToldRightly, one_if_some, setters_among, setters_of}
+use Rattle.machine_state.specs.Sound.{IsSound}
+use Rattle.machine_state.proofs.Lists.{part_at, view_from}
 use Rattle.machine_laws.specs.SharedOrders.{OrderIsShared}
 use Rattle.machine_laws.specs.LonePasses.{HasAllThatIsHeld, IsLone}
 use Rattle.machine_laws.proofs.LoneLaws as lone
@@ -48,7 +48,7 @@ module _ {first : DiskState} (opening : Opening) (words : List ℕ) (home : Opti
     (k : IsSound first opening words home views) (id : ℕ) (v : View) (here : HasAt views id v)
     (last : IsLastPass opening v) where
   abbrev size : ℕ
-  size = (opening.setup).segment_size
+  size = (opening.setup).seg_size
 
   abbrev order_is : OrderIsShared opening k.order words views
   order_is = shared opening words home views k

@@ -7,12 +7,12 @@ use mathlib.Core.Logic.{dite}
 use mathlib.Core.Option.{Option, none, some}
 use native.Mathlib.Decide.{ℕ_discrete}
 use Rattle.wal_types.specs.declared.record.Record.{Record}
-use Rattle.wal_core.specs.Words.{Opening}
-use Rattle.wal_core.specs.Views.{Place, Free, Locked, Loaded, Stored, Joined, Hold, Idle, Turned, Out, Plain, Reserving, View}
-use Rattle.wal_core.specs.Ordered.{TookIn}
-use Rattle.wal_core.specs.Moves.{after_join, after_split, joined_of, split_off}
-use Rattle.wal_core.specs.Opened.{first_view}
-use Rattle.wal_core.specs.Steps.{StepKind, view_behind, with_call_on, with_slot, load_position, take_write_turn, slot_out, slot_in, release_write_turn, lock_position, load_prev, store_prev, store_position, give_position_back, stay, load_lock, take_lock, advance, release, load_buffer_end, store_ring_word, load_ring_word, load_written, load_flushed, load_moment, load_down, store_written, store_moment, store_flushed, set_down, load_async, raise_async, take_mapping_turn, load_initialised_end, clear_end, zero_ring_word, publish_end, publish_initialised_end, release_mapping_turn, create, write, sync}
+use Rattle.machine_state.specs.Words.{Opening}
+use Rattle.machine_state.specs.Views.{Place, Free, Locked, Loaded, Stored, Joined, Hold, Idle, Turned, Out, Plain, Reserving, View}
+use Rattle.machine_state.specs.Ordered.{TookIn}
+use Rattle.machine_state.specs.Moves.{after_join, after_split, joined_of, split_off}
+use Rattle.machine_state.specs.Opened.{first_view}
+use Rattle.machine_state.specs.Steps.{StepKind, view_behind, with_call_on, with_slot, load_position, take_write_turn, slot_out, slot_in, release_write_turn, lock_position, load_prev, store_prev, store_position, give_position_back, stay, load_lock, take_lock, advance, release, load_buffer_end, store_ring_word, load_ring_word, load_written, load_flushed, load_moment, load_down, store_written, store_moment, store_flushed, set_down, load_async, raise_async, take_mapping_turn, load_initialised_end, clear_end, zero_ring_word, publish_end, publish_initialised_end, release_mapping_turn, create, write, sync}
 use Rattle.machine_laws.specs.SharedOrders.{HasNumber, IsSpare}
 use Rattle.machine_laws.specs.ClosedLogs.{HasAllNumbers}
 

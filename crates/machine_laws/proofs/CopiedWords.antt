@@ -3,28 +3,28 @@
 use Rattle.std.proofs.Common.{◌≡◌, ◌≢◌, ℕ, ◌*◌, ◌/◌, ◌%◌, ◌<◌, ◌≤◌, List, ◌∷◌, ◌++◌, Some, sym, ap, ◌∙◌, subst, ⊎_elim, arith}
 use Rattle.std.proofs.lemmas.Option.{same_Some}
 use Rattle.byte_position.specs.Geometry.{IsSegmentSize}
-use Rattle.record_spelling.specs.Spelling.{assembled}
+use Rattle.wal_spelling.specs.Spelling.{assembled}
 use Rattle.wal_page.specs.Order.{Entry, finish_of}
 use Rattle.wal_page.specs.LogPlace.{IsPlace}
 use Rattle.wal_page.specs.EntryWords.{address_of_word, words_owned}
 use Rattle.wal_page.specs.Log.{owner_at}
 use Rattle.wal_page.proofs.OwnerLaws.{Owns-from_between}
 use Rattle.wal_page.proofs.PlaceLaws.{owner_at-entry_from_iff, start-whole_from}
-use Rattle.wal_core.specs.Views.{HasAt, Copy, Flight, Copying}
-use Rattle.wal_core.specs.Ringed.{log_word_of, IsAwaited, RingHolds}
-use Rattle.wal_core.proofs.Lists.{at_same}
+use Rattle.machine_state.specs.Views.{HasAt, Copy, Flight, Copying}
+use Rattle.machine_state.specs.Ringed.{log_word_of, IsAwaited, RingHolds}
+use Rattle.machine_state.proofs.Lists.{at_same}
 use Rattle.machine_laws.proofs.RingLaws.{first_word-whole, last_word-ends}
-use Rattle.wal_core.specs.Words.{GoesOnAtPlace, Opening}
+use Rattle.machine_state.specs.Words.{GoesOnAtPlace, Opening}
 
 -- an entry has the addresses from its first word up to its end
-owner_is : (opening : Opening) → IsSegmentSize opening.setup.segment_size → (order : List Entry)
+owner_is : (opening : Opening) → IsSegmentSize opening.setup.seg_size → (order : List Entry)
     → GoesOnAtPlace opening order → (front back : List Entry) (e : Entry)
     → order ≡ front ++ e ∷ back → (address : ℕ)
-    → address_of_word opening.setup.segment_size e 0 ≤ address
-    → address < finish_of opening.setup.segment_size e
-    → owner_at opening.setup.segment_size order address ≡ Some e
+    → address_of_word opening.setup.seg_size e 0 ≤ address
+    → address < finish_of opening.setup.seg_size e
+    → owner_at opening.setup.seg_size order address ≡ Some e
 owner_is opening valid order chain front back e are address from below =
-    let size = opening.setup.segment_size in
+    let size = opening.setup.seg_size in
     subst (λ (es : List Entry). owner_at size es address ≡ Some e) (sym are)
     ((owner_at-entry_from_iff size valid opening.place.position front back e
     (subst (GoesOnAtPlace opening) are chain) address).1
@@ -33,11 +33,11 @@ owner_is opening valid order chain front back e are address from below =
 module _ (opening : Opening) (order : List Entry) (reach : ℕ) (memory : ℕ → ℕ)
     (flights : List Flight)
     (k : RingHolds opening order reach memory flights)
-    (valid : IsSegmentSize opening.setup.segment_size)
-    (placed : IsPlace opening.setup.segment_size opening.place)
+    (valid : IsSegmentSize opening.setup.seg_size)
+    (placed : IsPlace opening.setup.seg_size opening.place)
     (chain : GoesOnAtPlace opening order) where
   abbrev size : ℕ
-  size = opening.setup.segment_size
+  size = opening.setup.seg_size
 
   module _ (front back : List Entry) (e : Entry) (are : order ≡ front ++ e ∷ back) (n : ℕ)
       (owned : n < words_owned size e) where

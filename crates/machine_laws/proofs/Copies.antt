@@ -1,10 +1,10 @@
 -- How far all is copied, as flights change.
 use Rattle.std.proofs.Common.{◌≡◌, ℕ, ◌+◌, ◌<◌, ◌≤◌, Bool, true, false, cond, List, [], ◌∷◌, ◌++◌, set, refl, subst, arith}
 use Rattle.wal_page.specs.EntryWords.{address_of_word, words_owned}
-use Rattle.wal_core.specs.Views.{HasAt, Copy, Flight, Landed, Copying, is_among}
-use Rattle.wal_core.specs.Moves.{landed, standing, without_lock, one_more}
-use Rattle.wal_core.specs.Positioned.{IsCopiedBelow}
-use Rattle.wal_core.proofs.Lists.{one_set, one_added}
+use Rattle.machine_state.specs.Views.{HasAt, Copy, Flight, Landed, Copying, is_among}
+use Rattle.machine_state.specs.Moves.{landed, standing, without_lock, one_more}
+use Rattle.machine_state.specs.Positioned.{IsCopiedBelow}
+use Rattle.machine_state.proofs.Lists.{one_set, one_added}
 
 -- a flight that has no word below an address to copy
 abbrev pub IsClear : ℕ → ℕ → Flight → Type 0

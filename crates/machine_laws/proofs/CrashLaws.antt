@@ -19,26 +19,26 @@ use Rattle.wal_page.specs.LogPlace.{IsPlace}
 use Rattle.wal_page.proofs.PlaceLaws.{word_from-before}
 use Rattle.segment_disk.specs.ImageWords.{HasPageAt, image_word, zero_word}
 use Rattle.flush_core.proofs.LawfulLaws.{word_fits, word_stands_at}
-use Rattle.wal_core.specs.Words.{Opening}
-use Rattle.wal_core.specs.Views.{HasAt, Hold, Out, Joined, Lent, Plain, FlushPromise, Receipts, View, writer_of}
-use Rattle.wal_core.specs.Locked.{IsWriteTurn}
-use Rattle.wal_core.specs.Moves.{fault_number, CallOutcome, with_outcome}
-use Rattle.wal_core.specs.Steps.{MayStep, create, number_lent, set_down, sync, value_behind, write}
-use Rattle.wal_core.specs.Durable.{AreKept, DurabilityHolds, IsFirm, IsPromiseKept, IsLawfulAt, IsLogBelow}
+use Rattle.machine_state.specs.Words.{Opening}
+use Rattle.machine_state.specs.Views.{HasAt, Hold, Out, Joined, Lent, Plain, FlushPromise, Receipts, View, writer_of}
+use Rattle.machine_state.specs.Locked.{IsWriteTurn}
+use Rattle.machine_state.specs.Moves.{fault_number, CallOutcome, with_outcome}
+use Rattle.machine_state.specs.Steps.{MayStep, create, number_lent, set_down, sync, value_behind, write}
+use Rattle.machine_state.specs.Durable.{AreKept, DurabilityHolds, IsFirm, IsPromiseKept, IsLawfulAt, IsLogBelow}
 use Rattle.machine_laws.specs.Crashes.{CrashesLeave, DownTells, HoldsPromise, IsLawfulBehind, LeavesLawful, PutsZeros}
 use Rattle.machine_laws.proofs.DurableAssured.{stands_out}
-use Rattle.wal_core.proofs.Tapes.{at_suited, at_told, began_still, counted_on, on_tape, told_suited}
-use Rattle.wal_core.specs.Suited.{tape_from, BeganSuited, IfSuited}
-use Rattle.wal_core.specs.Ringed.{log_bytes_of}
+use Rattle.machine_state.proofs.Tapes.{at_suited, at_told, began_still, counted_on, on_tape, told_suited}
+use Rattle.machine_state.specs.Suited.{tape_from, BeganSuited, IfSuited}
+use Rattle.machine_state.specs.Ringed.{log_bytes_of}
 
-module _ (opening : Opening) (valid : IsSegmentSize opening.setup.segment_size) (order : List Entry)
-    (placed : IsPlace opening.setup.segment_size opening.place) (image : DiskImage) where
+module _ (opening : Opening) (valid : IsSegmentSize opening.setup.seg_size) (order : List Entry)
+    (placed : IsPlace opening.setup.seg_size opening.place) (image : DiskImage) where
   abbrev size : ℕ
-  size = opening.setup.segment_size
+  size = opening.setup.seg_size
 
-  lawful_words : DiskImageFits opening.setup.segment_size IsNowhere (IsLawfulAt opening order) image
-      → (k : ℕ) → (image_word opening.setup.segment_size image (8 * k) ≡ zero_word)
-      ⊎ (image_word opening.setup.segment_size image (8 * k) ≡ log_bytes_of opening order (8 * k))
+  lawful_words : DiskImageFits opening.setup.seg_size IsNowhere (IsLawfulAt opening order) image
+      → (k : ℕ) → (image_word opening.setup.seg_size image (8 * k) ≡ zero_word)
+      ⊎ (image_word opening.setup.seg_size image (8 * k) ≡ log_bytes_of opening order (8 * k))
   lawful_words fits k =
       let place = word_stands_at size valid k in
       let segment = 8 * k / size in
@@ -49,8 +49,8 @@ module _ (opening : Opening) (valid : IsSegmentSize opening.setup.segment_size) 
             ⊎ (image_word size image (8 * k) ≡ log_bytes_of opening order a)) place.at there.1
       ]
 
-  module _ (upto : ℕ) (fits : DiskImageFits opening.setup.segment_size
-      (IsMadeUpto opening.setup.segment_size upto) (IsLogBelow opening order upto) image) where
+  module _ (upto : ℕ) (fits : DiskImageFits opening.setup.seg_size
+      (IsMadeUpto opening.setup.seg_size upto) (IsLogBelow opening order upto) image) where
     is_made : (k : ℕ) → size ≤ 8 * k → 8 * k < upto → IsMadeUpto size upto (8 * k / size)
     is_made k from below =
         let whole = segment_size_in_pages size valid in
@@ -85,7 +85,7 @@ module _ (opening : Opening) (valid : IsSegmentSize opening.setup.segment_size) 
           )
         ]
 
-    pub IsLawfulBehind-left : DiskImageFits opening.setup.segment_size IsNowhere
+    pub IsLawfulBehind-left : DiskImageFits opening.setup.seg_size IsNowhere
         (IsLawfulAt opening order) image
         → IsLawfulBehind opening order image upto
     IsLawfulBehind-left only = record {
@@ -96,12 +96,12 @@ module _ (opening : Opening) (valid : IsSegmentSize opening.setup.segment_size) 
 
 module _ {first : DiskState} (o : Opening) (order : List Entry) (flushed moment down : ℕ) (home : _) (writer : Plain)
     (parts : List Receipts) (h : DurabilityHolds first o order flushed moment down home writer parts)
-    (valid : IsSegmentSize (o.setup).segment_size)
-    (placed : IsPlace (o.setup).segment_size o.place) where
+    (valid : IsSegmentSize (o.setup).seg_size)
+    (placed : IsPlace (o.setup).seg_size o.place) where
   module _ (t : Tape) (is : tape_from first writer.calls ≡ Some t) (suited : BeganSuited o t) where
-    only_log : TapeAssures (o.setup).segment_size IsNowhere (IsLawfulAt o order) o.moment t
+    only_log : TapeAssures (o.setup).seg_size IsNowhere (IsLawfulAt o order) o.moment t
     only_log = at_suited first o writer
-        (TapeAssures (o.setup).segment_size IsNowhere (IsLawfulAt o order) o.moment)
+        (TapeAssures (o.setup).seg_size IsNowhere (IsLawfulAt o order) o.moment)
         t is suited h.lawful
 
     firm_lawful : (upto from : ℕ) → o.moment ≤ from → IsFirm o order upto from t
@@ -120,11 +120,11 @@ module _ {first : DiskState} (o : Opening) (order : List Entry) (flushed moment 
 
     -- nothing was put where the log has zeros
     puts_zeros : (geometry segment : ℕ) (kind : CallKind)
-        → KindFits (o.setup).segment_size (IsLawfulAt o order) geometry segment kind
+        → KindFits (o.setup).seg_size (IsLawfulAt o order) geometry segment kind
         → PutsZeros o order segment kind
     puts_zeros geometry segment (Create made) fits = tt
     puts_zeros geometry segment (Write page bytes) fits =
-        let size = (o.setup).segment_size in
+        let size = (o.setup).seg_size in
         let whole = segment_size_in_pages size valid in
         let product : segment * size ≡ segment * (8192 * pages_of size) =
         ap (λ (m : ℕ). segment * m) whole.0 in
@@ -147,7 +147,7 @@ module _ {first : DiskState} (o : Opening) (order : List Entry) (flushed moment 
       };
       flushed_kept = firm_lawful flushed moment h.begun
           (at_suited first o writer (IsFirm o order flushed moment) t is suited h.firm);
-      zeros = All-weaker (CallFits (o.setup).segment_size (IsLawfulAt o order))
+      zeros = All-weaker (CallFits (o.setup).seg_size (IsLawfulAt o order))
           (λ (c : Call). PutsZeros o order c.segment c.kind)
           (λ c fits. puts_zeros c.geometry c.segment c.kind fits) (drop o.moment t.calls)
           only_log.calls;

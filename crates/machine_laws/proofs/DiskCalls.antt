@@ -8,16 +8,16 @@ use Rattle.segment_disk.specs.Tape.{Segment, Tape, after_call, create_call, fail
 use Rattle.segment_disk.specs.declared.disk.Call.{Call}
 use Rattle.segment_disk.specs.DiskImage.{word_of}
 use Rattle.wal_page.specs.Order.{Entry}
-use Rattle.wal_core.specs.Views.{Plain}
-use Rattle.wal_core.specs.Moves.{CallOutcome, Done, Failed, is_done}
-use Rattle.wal_core.specs.Steps.{IsPageLoaded}
-use Rattle.wal_core.specs.Positioned.{ReadsBelow}
-use Rattle.wal_core.specs.Durable.{IsStaged}
-use Rattle.wal_core.proofs.Tapes.{state_behind, tape_behind}
+use Rattle.machine_state.specs.Views.{Plain}
+use Rattle.machine_state.specs.Moves.{CallOutcome, Done, Failed, is_done}
+use Rattle.machine_state.specs.Steps.{IsPageLoaded}
+use Rattle.machine_state.specs.Positioned.{ReadsBelow}
+use Rattle.machine_state.specs.Durable.{IsStaged}
+use Rattle.machine_state.proofs.Tapes.{state_behind, tape_behind}
 use Rattle.machine_laws.proofs.LoadedLast.{loaded_there}
 use Rattle.machine_laws.proofs.LogReading.{ReadsBelow-create, ReadsBelow-sync, ReadsBelow-write}
-use Rattle.wal_core.specs.Ringed.{log_bytes_of}
-use Rattle.wal_core.specs.Words.{Opening}
+use Rattle.machine_state.specs.Ringed.{log_bytes_of}
+use Rattle.machine_state.specs.Words.{Opening}
 
 -- the words of a page that were loaded are the log's, where all is copied below an address
 pub loaded_words : (opening : Opening) (order : List Entry) (known number : ℕ) (bytes : List ℕ)
@@ -33,10 +33,10 @@ loaded_words opening order known number bytes staged loaded all n low below =
     l.2 ∙ ap (to_le_bytes w64) (s.below (omega (arith, at, below)))
     ∙ ap (λ (a : ℕ). log_bytes_of opening order a) at
 
-module _ (opening : Opening) (valid : IsSegmentSize opening.setup.segment_size) (order : List Entry) (w : Plain)
+module _ (opening : Opening) (valid : IsSegmentSize opening.setup.seg_size) (order : List Entry) (w : Plain)
   where
     abbrev size : ℕ
-    size = opening.setup.segment_size
+    size = opening.setup.seg_size
 
     abbrev ReadUpto : ℕ → Tape → Type 0
     ReadUpto address t = ReadsBelow opening order address (state_now t)
@@ -69,14 +69,14 @@ module _ (opening : Opening) (valid : IsSegmentSize opening.setup.segment_size) 
         read_behind w.written t (failed_call made (sync_call size segment))
         (ReadsBelow-sync opening valid order (state_now t) w.written segment size false reads)
 
-    module _ (segment page upto : ℕ) (bytes : List ℕ) (within : page < pages_of opening.setup.segment_size)
-        (page_is : segment * pages_of opening.setup.segment_size + page ≡ w.written / 8192)
+    module _ (segment page upto : ℕ) (bytes : List ℕ) (within : page < pages_of opening.setup.seg_size)
+        (page_is : segment * pages_of opening.setup.seg_size + page ≡ w.written / 8192)
         (rises : w.written ≤ upto) (ends : upto ≤ (w.written / 8192 + 1) * 8192)
         (words : (n : ℕ) → n < 1024 → w.written / 8192 * 8192 + 8 * n < upto → word_of bytes n
         ≡ log_bytes_of opening order (w.written / 8192 * 8192 + 8 * n))
         (t : Tape) (reads : ReadUpto w.written t)
         (there : IsSomeAnd (state_now t segment)
-        (λ (s : Segment). s.pages ≡ pages_of opening.setup.segment_size)) where
+        (λ (s : Segment). s.pages ≡ pages_of opening.setup.seg_size)) where
       pub write_reads : (outcome : CallOutcome)
           → ReadUpto (if is_done outcome then upto else w.written)
           (tape_behind outcome (write_call size segment page bytes) t)

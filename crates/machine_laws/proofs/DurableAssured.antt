@@ -6,15 +6,15 @@ use Rattle.std.proofs.lemmas.Option.{none-some, slice_get_past}
 use mathlib.Core.Option.{none, some}
 use Rattle.segment_disk.specs.Tape.{DiskState, Tape}
 use Rattle.wal_page.specs.Order.{Entry}
-use Rattle.wal_core.specs.Words.{Opening}
-use Rattle.wal_core.specs.Views.{HasAt, Hold, Idle, Turned, Out, Joined, Lent, Plain, FlushPromise, Receipts, Writing}
-use Rattle.wal_core.specs.Moves.{no_writing, with_lent}
-use Rattle.wal_core.specs.Locked.{StandsTo}
-use Rattle.wal_core.specs.Durable.{AreKept, DurabilityHolds, IsToldRightly, IsFirm, IsInHand, IsPromiseKept, IsPromised, setters, setters_of}
+use Rattle.machine_state.specs.Words.{Opening}
+use Rattle.machine_state.specs.Views.{HasAt, Hold, Idle, Turned, Out, Joined, Lent, Plain, FlushPromise, Receipts, Writing}
+use Rattle.machine_state.specs.Moves.{no_writing, with_lent}
+use Rattle.machine_state.specs.Locked.{StandsTo}
+use Rattle.machine_state.specs.Durable.{AreKept, DurabilityHolds, IsToldRightly, IsFirm, IsInHand, IsPromiseKept, IsPromised, setters, setters_of}
 use Rattle.machine_laws.proofs.Setters.{setters_added, setters_moved, setters_still}
-use Rattle.wal_core.proofs.Lists.{one_added, one_set}
-use Rattle.wal_core.proofs.Tapes.{told_suited, at_suited}
-use Rattle.wal_core.specs.Suited.{IfSuited}
+use Rattle.machine_state.proofs.Lists.{one_added, one_set}
+use Rattle.machine_state.proofs.Tapes.{told_suited, at_suited}
+use Rattle.machine_state.specs.Suited.{IfSuited}
 
 -- a pass's part, by its own parts
 abbrev pub told : List Entry → List Joined → Writing → Receipts

@@ -8,19 +8,19 @@ use Rattle.segment_disk.specs.Cause.{Rose}
 use Rattle.segment_disk.specs.Tape.{DiskState, create_call, state_now, sync_call, write_call}
 use Rattle.segment_disk.specs.Assured.{IsNowhere, TapeAssures}
 use Rattle.wal_page.specs.Order.{Entry}
-use Rattle.wal_core.specs.Words.{Opening}
-use Rattle.wal_core.specs.Views.{HasAt, Flight, Hold, Out, Lent, Plain, Receipts, View, Writing, receipts_of, writer_of}
-use Rattle.wal_core.specs.Moves.{CallOutcome, Done, Failed, after_create, after_sync, after_write}
-use Rattle.wal_core.specs.Locked.{IsWriteTurn}
-use Rattle.wal_core.specs.Positioned.{PositionsHold, ReadsBelow}
-use Rattle.wal_core.specs.Durable.{DurabilityHolds, IsLawfulAt}
-use Rattle.wal_core.specs.Sound.{IsSetup}
-use Rattle.wal_core.specs.Steps.{IsNextWrite, MayStep, create, sync, view_behind, write}
+use Rattle.machine_state.specs.Words.{Opening}
+use Rattle.machine_state.specs.Views.{HasAt, Flight, Hold, Out, Lent, Plain, Receipts, View, Writing, receipts_of, writer_of}
+use Rattle.machine_state.specs.Moves.{CallOutcome, Done, Failed, after_create, after_sync, after_write}
+use Rattle.machine_state.specs.Locked.{IsWriteTurn}
+use Rattle.machine_state.specs.Positioned.{PositionsHold, ReadsBelow}
+use Rattle.machine_state.specs.Durable.{DurabilityHolds, IsLawfulAt}
+use Rattle.machine_state.specs.Sound.{IsSetup}
+use Rattle.machine_state.specs.Steps.{IsNextWrite, MayStep, create, sync, view_behind, write}
 use Rattle.machine_laws.proofs.DurableAssured.{stands_out}
 use Rattle.machine_laws.proofs.DurableViews.{call_keeps, fault_rose, same_made, same_written}
 use Rattle.machine_laws.proofs.DurableSegments.{created_in_turn, others_in_turn}
 use Rattle.machine_laws.proofs.DurableCalls.{create_below, create_lawful, on_disk_created, on_disk_synced, on_disk_written, write_below, write_lawful}
-use Rattle.wal_core.proofs.Tapes.{at_suited}
+use Rattle.machine_state.proofs.Tapes.{at_suited}
 
 -- ---- all that is written lies in segments that are made, or in the next one
 
@@ -66,7 +66,7 @@ module _ {first : DiskState} (o : Opening) (order : List Entry) (flushed moment 
     (positions : PositionsHold first o order written flushed down home writer flights writings)
   where
     abbrev size : ℕ
-    size = (o.setup).segment_size
+    size = (o.setup).seg_size
 
     held : (l : Lent) → v.writing.hold ≡ Out l → (home ≡ none) × (l.writer ≡ writer)
     held l is = stands_out turn has.holder home writer id v.reserving.number v.writing.hold l is
@@ -81,7 +81,7 @@ module _ {first : DiskState} (o : Opening) (order : List Entry) (flushed moment 
     pub create_keeps : (segment : ℕ) (outcome : CallOutcome) (met : ℕ)
         → MayStep v (create segment outcome)
         → DurabilityHolds first o order flushed moment down home
-        (after_create segment (create_call (o.setup).segment_size segment) outcome writer)
+        (after_create segment (create_call (o.setup).seg_size segment) outcome writer)
         (set parts id (receipts_of (view_behind v (create segment outcome) met home)))
     create_keeps segment outcome met may =
         let l = may.0.0 in
@@ -91,7 +91,7 @@ module _ {first : DiskState} (o : Opening) (order : List Entry) (flushed moment 
         (may.0.2).next ∙ ap (λ (p : Plain). p.made + 1) holds.1 in
         let up : writer.fault ≡ none = ap (λ (p : Plain). p.fault) (sym holds.1) ∙ (may.0.2).up in
         let behind : segment * size ≤ writer.written = subst
-        (λ (x : Opening × Plain). segment * ((x.0).setup).segment_size ≤ (x.1).written)
+        (λ (x : Opening × Plain). segment * ((x.0).setup).seg_size ≤ (x.1).written)
         (λ j. (opening j, holds.1 j)) (may.0.2).behind in
         call_keeps o order flushed moment down home writer parts h low call outcome
         (after_create segment call outcome writer)
@@ -110,13 +110,13 @@ module _ {first : DiskState} (o : Opening) (order : List Entry) (flushed moment 
         up holds.0
         (λ f is. subst (λ (q : Opening). Rose q.faults f) opening
         (fault_rose v call outcome writer up may.1 f is))
-        (after_create segment (create_call ((v.opening).setup).segment_size segment) outcome)
+        (after_create segment (create_call ((v.opening).setup).seg_size segment) outcome)
         id v l here may.0.1
 
     pub write_keeps : (segment page upto : ℕ) (bytes : List ℕ) (outcome : CallOutcome) (met : ℕ)
         → MayStep v (write segment page upto bytes outcome)
         → DurabilityHolds first o order flushed moment down home
-        (after_write segment upto (write_call (o.setup).segment_size segment page bytes) outcome
+        (after_write segment upto (write_call (o.setup).seg_size segment page bytes) outcome
         writer)
         (set parts id (receipts_of (view_behind v (write segment page upto bytes outcome) met home)))
     write_keeps segment page upto bytes outcome met may =
@@ -164,13 +164,13 @@ module _ {first : DiskState} (o : Opening) (order : List Entry) (flushed moment 
         up holds.0
         (λ f is. subst (λ (q : Opening). Rose q.faults f) opening
         (fault_rose v call outcome writer up may.1 f is))
-        (after_write segment upto (write_call ((v.opening).setup).segment_size segment page bytes)
+        (after_write segment upto (write_call ((v.opening).setup).seg_size segment page bytes)
         outcome)
         id v l here may.0.1
 
     pub sync_keeps : (segment : ℕ) (outcome : CallOutcome) (met : ℕ) → MayStep v (sync segment outcome)
         → DurabilityHolds first o order flushed moment down home
-        (after_sync (sync_call (o.setup).segment_size segment) outcome writer)
+        (after_sync (sync_call (o.setup).seg_size segment) outcome writer)
         (set parts id (receipts_of (view_behind v (sync segment outcome) met home)))
     sync_keeps segment outcome met may =
         let l = may.0.0 in
@@ -199,5 +199,5 @@ module _ {first : DiskState} (o : Opening) (order : List Entry) (flushed moment 
         up holds.0
         (λ f is. subst (λ (q : Opening). Rose q.faults f) opening
         (fault_rose v call outcome writer up may.1 f is))
-        (after_sync (sync_call ((v.opening).setup).segment_size segment) outcome)
+        (after_sync (sync_call ((v.opening).setup).seg_size segment) outcome)
         id v l here may.0.1

@@ -18,16 +18,16 @@ use Rattle.flush_core.proofs.StateLaws.{after_each}
 use Rattle.wal_page.specs.Order.{Entry}
 use Rattle.segment_disk.specs.ImageWords.{image_word, segment_word, zero_word}
 use Rattle.segment_disk.proofs.ZeroWords.{word_of-zero_page}
-use Rattle.wal_core.specs.Ringed.{log_word_of, log_bytes_of}
-use Rattle.wal_core.specs.Views.{Lent, Plain}
-use Rattle.wal_core.specs.Moves.{CallOutcome, Done, Failed, after_create, after_sync, after_write}
-use Rattle.wal_core.specs.Positioned.{ReadsBelow}
-use Rattle.wal_core.specs.Durable.{IsLawfulAt, IsLogBelow, IsOnDisk, IsStaged}
-use Rattle.wal_core.specs.Steps.{IsNextWrite}
+use Rattle.machine_state.specs.Ringed.{log_word_of, log_bytes_of}
+use Rattle.machine_state.specs.Views.{Lent, Plain}
+use Rattle.machine_state.specs.Moves.{CallOutcome, Done, Failed, after_create, after_sync, after_write}
+use Rattle.machine_state.specs.Positioned.{ReadsBelow}
+use Rattle.machine_state.specs.Durable.{IsLawfulAt, IsLogBelow, IsOnDisk, IsStaged}
+use Rattle.machine_state.specs.Steps.{IsNextWrite}
 use Rattle.machine_laws.proofs.LoadedLast.{loaded_there}
 use Rattle.machine_laws.proofs.SegmentStates.{SegmentAssures-weaker}
-use Rattle.wal_core.proofs.Tapes.{state_behind, tape_behind}
-use Rattle.wal_core.specs.Words.{Opening}
+use Rattle.machine_state.proofs.Tapes.{state_behind, tape_behind}
+use Rattle.machine_state.specs.Words.{Opening}
 
 -- ---- where a word stands
 
@@ -71,9 +71,9 @@ module _ (size : ℕ) (valid : IsSegmentSize size) (segment page word : ℕ)
       ∙ ap (λ (n : ℕ). word_of (i.page n) (offset % 8192 / 8)) own
       ∙ ap (word_of (i.page page)) number
 
-module _ (opening : Opening) (valid : IsSegmentSize opening.setup.segment_size) (order : List Entry) where
+module _ (opening : Opening) (valid : IsSegmentSize opening.setup.seg_size) (order : List Entry) where
   abbrev size : ℕ
-  size = opening.setup.segment_size
+  size = opening.setup.seg_size
 
   -- ---- what is put fits
 
@@ -168,7 +168,7 @@ module _ (opening : Opening) (valid : IsSegmentSize opening.setup.segment_size) 
   -- ---- a create
 
   module _ (segment : ℕ) (w : Plain) (next : segment ≡ w.made + 1)
-      (reached : w.written ≤ w.made * opening.setup.segment_size + opening.setup.segment_size) where
+      (reached : w.written ≤ w.made * opening.setup.seg_size + opening.setup.seg_size) where
     creating : Bool → Bool → Call
     creating any done =
         record { geometry = size; segment = segment; kind = Create any; done = done }
@@ -224,8 +224,8 @@ module _ (opening : Opening) (valid : IsSegmentSize opening.setup.segment_size) 
   whole_written page bytes done (Some s) whole = whole
 
   module _ (segment page upto : ℕ) (bytes : List ℕ) (w : Plain)
-      (page_is : segment * pages_of opening.setup.segment_size + page ≡ w.written / 8192)
-      (on_segment : page < pages_of opening.setup.segment_size)
+      (page_is : segment * pages_of opening.setup.seg_size + page ≡ w.written / 8192)
+      (on_segment : page < pages_of opening.setup.seg_size)
       (alone : (w.waiting ≡ none) ⊎ (w.waiting ≡ some segment)) (rises : w.written ≤ upto)
       (behind_start : w.written / 8192 * 8192 < upto)
       (within_page : upto ≤ (w.written / 8192 + 1) * 8192) where
@@ -327,9 +327,9 @@ module _ (opening : Opening) (valid : IsSegmentSize opening.setup.segment_size) 
   assures_unsynced a segment (Some s) assures = assures
 
   module _ (segment : ℕ) (w : Plain) (waits : w.waiting ≡ some segment)
-      (reached : w.written ≤ w.made * opening.setup.segment_size + opening.setup.segment_size) where
+      (reached : w.written ≤ w.made * opening.setup.seg_size + opening.setup.seg_size) where
     module _ (t : Tape) (d : IsOnDisk opening order w t)
-        (sized : (s : ℕ) → SegmentAssures opening.setup.segment_size IsNowhere (IsLawfulAt opening order) s
+        (sized : (s : ℕ) → SegmentAssures opening.setup.seg_size IsNowhere (IsLawfulAt opening order) s
         (state_now t s))
         (reads : ReadsBelow opening order w.written (state_now t)) where
       all_made : (s : ℕ) → IsMadeUpto size w.written s → IsWhole (state_now t s)

@@ -7,7 +7,7 @@ use Rattle.std.proofs.lemmas.List.Elements.{All-nil, All-weaker, All-take}
 use Rattle.byte_position.specs.Geometry.{IsSegmentSize, pages_of}
 use Rattle.byte_position.specs.Position.{end_address_of}
 use Rattle.byte_position.proofs.SegmentSizes.{segment_size_in_pages}
-use Rattle.record_spelling.specs.Spelling.{assembled}
+use Rattle.wal_spelling.specs.Spelling.{assembled}
 use Rattle.segment_disk.specs.declared.disk.Call.{Call}
 use Rattle.segment_disk.specs.declared.disk.CallKind.{CallKind}
 use Rattle.segment_disk.specs.declared.disk.CallKind.TheVariants.{Create, Write, Sync}
@@ -20,9 +20,9 @@ use Rattle.wal_page.specs.Placed.{Owns}
 use Rattle.wal_page.proofs.PlaceLaws.{word_from_push, word_from-behind}
 use Rattle.wal_page.proofs.OwnerLaws.{Owns-between}
 use Rattle.segment_disk.specs.ImageWords.{zero_word}
-use Rattle.wal_core.specs.Words.{end_form, order_end, GoesOnAtPlace, Opening}
-use Rattle.wal_core.specs.Ringed.{log_word_of}
-use Rattle.wal_core.specs.Durable.{IsFirm, IsLawfulAt, IsLogBelow, IsStaged, IsUnwritten, PutsNone}
+use Rattle.machine_state.specs.Words.{end_form, order_end, GoesOnAtPlace, Opening}
+use Rattle.machine_state.specs.Ringed.{log_word_of}
+use Rattle.machine_state.specs.Durable.{IsFirm, IsLawfulAt, IsLogBelow, IsStaged, IsUnwritten, PutsNone}
 
 -- what holds behind a place holds there up to any other
 pub All-between : {A : Type 0} (P : A → Type 0) (from upto : ℕ) (xs : List A) → All P (drop from xs)
@@ -42,12 +42,12 @@ IsMadeUpto-lower size low high le segment made =
 pub IsFirm-lower : (opening : Opening) (order : List Entry) (low high moment : ℕ) (t : Tape)
     → low ≤ high → IsFirm opening order high moment t → IsFirm opening order low moment t
 IsFirm-lower opening order low high moment t le firm =
-    TapeAssures-weaker opening.setup.segment_size (IsMadeUpto opening.setup.segment_size high)
-    (IsLogBelow opening order high) (IsMadeUpto opening.setup.segment_size low) (IsLogBelow opening order low)
-    (IsMadeUpto-lower opening.setup.segment_size low high le)
+    TapeAssures-weaker opening.setup.seg_size (IsMadeUpto opening.setup.seg_size high)
+    (IsLogBelow opening order high) (IsMadeUpto opening.setup.seg_size low) (IsLogBelow opening order low)
+    (IsMadeUpto-lower opening.setup.seg_size low high le)
     (λ page word bytes is below. is (omega arith)) moment t firm
 
-module _ (opening : Opening) (valid : IsSegmentSize opening.setup.segment_size) (order : List Entry)
+module _ (opening : Opening) (valid : IsSegmentSize opening.setup.seg_size) (order : List Entry)
     (e : Entry) (chained : GoesOnAtPlace opening order)
     (start : e.start ≡ order_end opening order) where
   abbrev longer : List Entry
@@ -56,19 +56,19 @@ module _ (opening : Opening) (valid : IsSegmentSize opening.setup.segment_size) 
   abbrev end : ℕ
   end = end_form opening.setup (order_end opening order)
 
-  entry_begins : end_address_of opening.setup.segment_size e.start ≡ end
-  entry_begins = ap (end_address_of opening.setup.segment_size) start
+  entry_begins : end_address_of opening.setup.seg_size e.start ≡ end
+  entry_begins = ap (end_address_of opening.setup.seg_size) start
 
   pub word_below : (a : ℕ) → a < end
       → log_word_of opening longer a ≡ log_word_of opening order a
   word_below a below =
-      word_from_push opening.setup.segment_size opening.setup.sysid valid opening.place order e chained start a
-      (λ (owns : Owns opening.setup.segment_size (assembled e.value) e.start a).
-      let between = Owns-between opening.setup.segment_size valid (assembled e.value) e.start a owns in
+      word_from_push opening.setup.seg_size opening.setup.sysid valid opening.place order e chained start a
+      (λ (owns : Owns opening.setup.seg_size (assembled e.value) e.start a).
+      let between = Owns-between opening.setup.seg_size valid (assembled e.value) e.start a owns in
       omega (arith, between.0, entry_begins))
 
   pub word_above : (a : ℕ) → end ≤ a → log_word_of opening order a ≡ 0
-  word_above a above = word_from-behind opening.setup.segment_size opening.setup.sysid valid opening.place order chained a above
+  word_above a above = word_from-behind opening.setup.seg_size opening.setup.sysid valid opening.place order chained a above
 
   -- a lawful word is 0 where the order has none
   pub lawful_is_zero : (page word : ℕ) (bytes : List ℕ) → end ≤ page * 8192 + 8 * word
@@ -89,10 +89,10 @@ module _ (opening : Opening) (valid : IsSegmentSize opening.setup.segment_size) 
   ]
 
   pub lawful_stays : (moment : ℕ) (t : Tape)
-      → TapeAssures opening.setup.segment_size IsNowhere (IsLawfulAt opening order) moment t
-      → TapeAssures opening.setup.segment_size IsNowhere (IsLawfulAt opening longer) moment t
+      → TapeAssures opening.setup.seg_size IsNowhere (IsLawfulAt opening order) moment t
+      → TapeAssures opening.setup.seg_size IsNowhere (IsLawfulAt opening longer) moment t
   lawful_stays moment t assures =
-      TapeAssures-weaker opening.setup.segment_size IsNowhere (IsLawfulAt opening order)
+      TapeAssures-weaker opening.setup.seg_size IsNowhere (IsLawfulAt opening order)
       IsNowhere (IsLawfulAt opening longer) (λ segment nowhere. nowhere) lawful_grows moment t assures
 
   pub below_grows : (upto : ℕ) → upto ≤ end → (page word : ℕ) (bytes : List ℕ)
@@ -104,8 +104,8 @@ module _ (opening : Opening) (valid : IsSegmentSize opening.setup.segment_size) 
   pub firm_stays : (upto moment : ℕ) (t : Tape) → upto ≤ end → IsFirm opening order upto moment t
       → IsFirm opening longer upto moment t
   firm_stays upto moment t low firm =
-      TapeAssures-weaker opening.setup.segment_size (IsMadeUpto opening.setup.segment_size upto)
-      (IsLogBelow opening order upto) (IsMadeUpto opening.setup.segment_size upto)
+      TapeAssures-weaker opening.setup.seg_size (IsMadeUpto opening.setup.seg_size upto)
+      (IsLogBelow opening order upto) (IsMadeUpto opening.setup.seg_size upto)
       (IsLogBelow opening longer upto) (λ segment made. made) (below_grows upto low) moment t firm
 
   pub staged_stays : (known : ℕ) (s : ℕ × ℕ) → known ≤ end → IsStaged opening order known s
@@ -126,27 +126,27 @@ module _ (opening : Opening) (valid : IsSegmentSize opening.setup.segment_size) 
 
   -- what was put before is 0 at the words of the entry
   puts_none : (geometry segment : ℕ) (kind : CallKind)
-      → KindFits opening.setup.segment_size (IsLawfulAt opening order) geometry segment kind
-      → PutsNone opening.setup.segment_size e segment kind
+      → KindFits opening.setup.seg_size (IsLawfulAt opening order) geometry segment kind
+      → PutsNone opening.setup.seg_size e segment kind
   puts_none geometry segment (Create made) fits = tt
   puts_none geometry segment (Write page bytes) fits =
-      let whole = segment_size_in_pages opening.setup.segment_size valid in
-      let product : segment * opening.setup.segment_size ≡ segment * (8192 * pages_of opening.setup.segment_size)
+      let whole = segment_size_in_pages opening.setup.seg_size valid in
+      let product : segment * opening.setup.seg_size ≡ segment * (8192 * pages_of opening.setup.seg_size)
       = ap (λ (m : ℕ). segment * m) whole.0 in
       λ n low from upto.
-      let at : (segment * pages_of opening.setup.segment_size + page) * 8192 + 8 * n
-      ≡ segment * opening.setup.segment_size + page * 8192 + 8 * n = omega arith in
-      lawful_is_zero (segment * pages_of opening.setup.segment_size + page) n _
+      let at : (segment * pages_of opening.setup.seg_size + page) * 8192 + 8 * n
+      ≡ segment * opening.setup.seg_size + page * 8192 + 8 * n = omega arith in
+      lawful_is_zero (segment * pages_of opening.setup.seg_size + page) n _
       (omega (arith, at, from, entry_begins)) (fits.2 n low)
   puts_none geometry segment Sync fits = tt
 
   pub IsUnwritten-new : (opened moment : ℕ) (t : Tape)
-      → TapeAssures opening.setup.segment_size IsNowhere (IsLawfulAt opening order) opened t
-      → IsUnwritten opening.setup.segment_size opened t moment e
+      → TapeAssures opening.setup.seg_size IsNowhere (IsLawfulAt opening order) opened t
+      → IsUnwritten opening.setup.seg_size opened t moment e
   IsUnwritten-new opened moment t assures =
-      All-weaker (CallFits opening.setup.segment_size (IsLawfulAt opening order))
-      (λ (c : Call). PutsNone opening.setup.segment_size e c.segment c.kind)
+      All-weaker (CallFits opening.setup.seg_size (IsLawfulAt opening order))
+      (λ (c : Call). PutsNone opening.setup.seg_size e c.segment c.kind)
       (λ c fits. puts_none c.geometry c.segment c.kind fits)
       (drop opened (take moment t.calls))
-      (All-between (CallFits opening.setup.segment_size (IsLawfulAt opening order)) opened moment t.calls
+      (All-between (CallFits opening.setup.seg_size (IsLawfulAt opening order)) opened moment t.calls
       assures.calls)

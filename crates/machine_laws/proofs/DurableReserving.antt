@@ -7,20 +7,20 @@ use Rattle.segment_disk.specs.Tape.{DiskState, Tape, state_now}
 use Rattle.segment_disk.specs.Assured.{IsMadeUpto, IsNowhere, TapeAssures}
 use Rattle.wal_types.specs.declared.record.Record.{Record}
 use Rattle.wal_page.specs.Order.{Entry}
-use Rattle.wal_core.specs.Words.{Opening, end_form, found_end, order_end, GoesOnAtPlace}
-use Rattle.wal_core.specs.Views.{HasAt, Flight, Out, Joined, Lent, Place, Stored, Plain, FlushPromise, Receipts, View, receipts_of, writing_of}
-use Rattle.wal_core.specs.Ordered.{AtPlace}
-use Rattle.wal_core.specs.Moves.{after_store_position, entry_reserved}
-use Rattle.wal_core.specs.Positioned.{PositionsHold}
-use Rattle.wal_core.specs.Durable.{AreKept, DurabilityHolds, IsToldRightly, IsPromiseKept, IsLawfulAt, IsLogBelow, IsOnDisk, IsPromised, IsStaged, IsUnwritten}
-use Rattle.wal_core.specs.Steps.{store_position, view_behind}
-use Rattle.wal_core.specs.Sound.{IsSetup}
-use Rattle.wal_core.proofs.Lists.{part_at, view_from}
+use Rattle.machine_state.specs.Words.{Opening, end_form, found_end, order_end, GoesOnAtPlace}
+use Rattle.machine_state.specs.Views.{HasAt, Flight, Out, Joined, Lent, Place, Stored, Plain, FlushPromise, Receipts, View, receipts_of, writing_of}
+use Rattle.machine_state.specs.Ordered.{AtPlace}
+use Rattle.machine_state.specs.Moves.{after_store_position, entry_reserved}
+use Rattle.machine_state.specs.Positioned.{PositionsHold}
+use Rattle.machine_state.specs.Durable.{AreKept, DurabilityHolds, IsToldRightly, IsPromiseKept, IsLawfulAt, IsLogBelow, IsOnDisk, IsPromised, IsStaged, IsUnwritten}
+use Rattle.machine_state.specs.Steps.{store_position, view_behind}
+use Rattle.machine_state.specs.Sound.{IsSetup}
+use Rattle.machine_state.proofs.Lists.{part_at, view_from}
 use Rattle.machine_laws.proofs.DurableAssured.{told, view_set}
 use Rattle.machine_laws.proofs.DurableGrowth.{IsUnwritten-new, below_grows, firm_stays, lawful_stays, staged_stays}
 use Rattle.machine_laws.proofs.SegmentStates.{All-both, SegmentAssures-weaker}
-use Rattle.wal_core.proofs.Tapes.{told_suited, at_suited}
-use Rattle.wal_core.specs.Suited.{tape_from, BeganSuited}
+use Rattle.machine_state.proofs.Tapes.{told_suited, at_suited}
+use Rattle.machine_state.specs.Suited.{tape_from, BeganSuited}
 
 got_cases : (es : List Entry) (e f : Entry) (k : ℕ) → slice_get (es ++ e ∷ []) k ≡ Some f
     → (slice_get es k ≡ Some f) ⊎ (e ≡ f)
@@ -60,7 +60,7 @@ reserved_is v locks value at prev is = rw is refl
 module _ {first : DiskState} (o : Opening) (order : List Entry) (flushed moment down : ℕ) (home : _)
     (writer : Plain) (parts : List Receipts)
     (h : DurabilityHolds first o order flushed moment down home writer parts)
-    (valid : IsSegmentSize (o.setup).segment_size) (e : Entry)
+    (valid : IsSegmentSize (o.setup).seg_size) (e : Entry)
     (chained : GoesOnAtPlace o order)
     (start : e.start ≡ order_end o order) where
   abbrev longer : List Entry
@@ -85,7 +85,7 @@ module _ {first : DiskState} (o : Opening) (order : List Entry) (flushed moment 
     }
 
     kept_more : (t : Tape) (es : List Entry) (p : FlushPromise)
-        → TapeAssures (o.setup).segment_size IsNowhere (IsLawfulAt o order) opened t
+        → TapeAssures (o.setup).seg_size IsNowhere (IsLawfulAt o order) opened t
         → IsPromiseKept o order t es p → IsPromised flushed moment p → IsPromiseKept o longer t
         (es ++ e ∷ []) p
     kept_more t es p lawful kept promised = record {
@@ -93,7 +93,7 @@ module _ {first : DiskState} (o : Opening) (order : List Entry) (flushed moment 
       firm = (kept_longer t es p kept promised).firm;
       later = λ k f from there. elim (got_cases es e f k there) [
         | inl before ↦ kept.later k f from before
-        | inr new ↦ subst (IsUnwritten (o.setup).segment_size opened t p.moment) new
+        | inr new ↦ subst (IsUnwritten (o.setup).seg_size opened t p.moment) new
             (IsUnwritten-new o valid order e chained start opened p.moment t lawful)
       ];
     }
@@ -144,9 +144,9 @@ module _ {first : DiskState} (o : Opening) (order : List Entry) (flushed moment 
 
     on_disk_longer : (t : Tape) → IsOnDisk o order writer t → IsOnDisk o longer writer t
     on_disk_longer t is = record {
-      firm = λ segment apart. SegmentAssures-weaker (o.setup).segment_size
-          (IsMadeUpto (o.setup).segment_size writer.written)
-          (IsMadeUpto (o.setup).segment_size writer.written)
+      firm = λ segment apart. SegmentAssures-weaker (o.setup).seg_size
+          (IsMadeUpto (o.setup).seg_size writer.written)
+          (IsMadeUpto (o.setup).seg_size writer.written)
           (IsLogBelow o order writer.written) (IsLogBelow o longer writer.written)
           segment (λ made. made)
           (λ page word within small bytes below.
@@ -187,7 +187,7 @@ module _ {first : DiskState} (o : Opening) (order : List Entry) (flushed moment 
         (told (x.entries ++ e ∷ []) x.joined x.writing) all_longer here refl
         (longer_assured x (x.entries ++ e ∷ []) (known id x here)
         (λ t is suited p. kept_more t x.entries p (at_suited first o writer
-        (TapeAssures (o.setup).segment_size IsNowhere (IsLawfulAt o order) opened)
+        (TapeAssures (o.setup).seg_size IsNowhere (IsLawfulAt o order) opened)
         t is suited h.lawful))
         (h.views id x here))
 
@@ -197,7 +197,7 @@ pub store_position_keeps : {first : DiskState} (o : Opening) (order : List Entry
     (at prev : ℕ) (last word locked holder written : ℕ) (flights : List Flight)
     → DurabilityHolds first o order flushed moment down home writer (map receipts_of views)
     → HasAt views id v → IsSetup o.setup → GoesOnAtPlace o order
-    → AtPlace (o.setup).segment_size (order_end o order) last word locked
+    → AtPlace (o.setup).seg_size (order_end o order) last word locked
     holder id (v.reserving).place
     → PositionsHold first o order written flushed down home writer flights (map writing_of views)
     → (v.reserving).place ≡ Stored at prev
@@ -208,7 +208,7 @@ pub store_position_keeps : {first : DiskState} (o : Opening) (order : List Entry
 store_position_keeps {first} o order flushed moment down home writer views id met locks value v at prev
     last word locked holder written flights h here setup chained stands positions is =
     let e = entry_reserved (v.reserving).number at value in
-    let start = at_end (o.setup).segment_size (order_end o order) last word
+    let start = at_end (o.setup).seg_size (order_end o order) last word
     locked holder id (v.reserving).place at prev is stands in
     subst (λ (x : Receipts). DurabilityHolds first o (order ++ e ∷ []) flushed moment down home writer
     (set (map receipts_of views) id x)) (sym (reserved_is v locks value at prev is))

@@ -8,11 +8,11 @@ use Rattle.segment_disk.specs.declared.disk.CallKind.{CallKind}
 use Rattle.segment_disk.specs.declared.disk.CallKind.TheVariants.{Create, Write, Sync}
 use Rattle.segment_disk.specs.Present.{MakesNone}
 use Rattle.segment_disk.specs.Tape.{create_call, failed_call}
-use Rattle.wal_core.specs.Words.{Opening}
-use Rattle.wal_core.specs.Views.{Plain}
-use Rattle.wal_core.specs.Moves.{CallOutcome, Done, Failed, after_create, one_call_more, with_outcome}
-use Rattle.wal_core.specs.Made.{MakeInTurn, MakesNext, last_behind}
-use Rattle.wal_core.specs.Durable.{IsMadeInTurn}
+use Rattle.machine_state.specs.Words.{Opening}
+use Rattle.machine_state.specs.Views.{Plain}
+use Rattle.machine_state.specs.Moves.{CallOutcome, Done, Failed, after_create, one_call_more, with_outcome}
+use Rattle.machine_state.specs.Made.{MakeInTurn, MakesNext, last_behind}
+use Rattle.machine_state.specs.Durable.{IsMadeInTurn}
 
 -- one call more
 in_turn_more : (from last : ℕ) (calls : List Call) (call : Call) → MakeInTurn from calls last
@@ -57,13 +57,13 @@ module _ (opening : Opening) where
   })
 
   abbrev size : ℕ
-  size = (opening.setup).segment_size
+  size = (opening.setup).seg_size
 
   one_more : (w n : Plain) (calls : List Call) (call : Call) → opening.moment ≤ length calls
       → (m : IsMadeInTurn opening w calls) → MakesNext m.last call.segment call.kind
       → (n.fault ≡ none → last_behind m.last call.kind ≡ n.made)
       → (last_behind m.last call.kind ≡ opening.made)
-      ⊎ (last_behind m.last call.kind * (opening.setup).segment_size ≤ n.written)
+      ⊎ (last_behind m.last call.kind * (opening.setup).seg_size ≤ n.written)
       → IsMadeInTurn opening n (calls ++ call ∷ [])
   one_more w n calls call within m next known low = record {
     last = last_behind m.last call.kind;
@@ -94,7 +94,7 @@ module _ (opening : Opening) where
     -- ---- a create
 
     module _ (segment : ℕ) (next : segment ≡ w.made + 1)
-        (behind : segment * (opening.setup).segment_size ≤ w.written) where
+        (behind : segment * (opening.setup).seg_size ≤ w.written) where
       abbrev create : Call
       create = create_call size segment
 
@@ -105,7 +105,7 @@ module _ (opening : Opening) where
       is_last calls m = omega (arith, next, m.known up)
 
       starts_low : (calls : List Call) (m : IsMadeInTurn opening w calls)
-          → (m.last + 1) * (opening.setup).segment_size ≤ w.written
+          → (m.last + 1) * (opening.setup).seg_size ≤ w.written
       starts_low calls m =
           subst (λ (n : ℕ). n * size ≤ w.written) (is_last calls m) behind
 
@@ -127,7 +127,7 @@ module _ (opening : Opening) where
           m (is_last calls m) (is_failed faults (some false) m.last) m.low
 
       pub created_in_turn : (outcome : CallOutcome)
-          → (let n = after_create segment (create_call (opening.setup).segment_size segment) outcome
+          → (let n = after_create segment (create_call (opening.setup).seg_size segment) outcome
           w in IfSome n.calls (IsMadeInTurn opening n))
       created_in_turn Done = told_more (created Done) create (λ calls m within.
           one_more w (created Done) calls create within m (is_last calls m)

@@ -9,10 +9,10 @@ use Rattle.segment_disk.specs.Assured.{CallFits, TapeAssures}
 use Rattle.segment_disk.proofs.Fronts.{take-before}
 use Rattle.flush_core.proofs.LeftLaws.{TapeAssures-with_call, TapeAssures-failed}
 use Rattle.wal_page.specs.Order.{Entry}
-use Rattle.wal_core.specs.Views.{Plain}
-use Rattle.wal_core.specs.Moves.{CallOutcome, Done, Failed, one_call_more, with_outcome}
-use Rattle.wal_core.proofs.Tapes.{tape_behind}
-use Rattle.wal_core.specs.Durable.{IsUnwritten, PutsNone}
+use Rattle.machine_state.specs.Views.{Plain}
+use Rattle.machine_state.specs.Moves.{CallOutcome, Done, Failed, one_call_more, with_outcome}
+use Rattle.machine_state.proofs.Tapes.{tape_behind}
+use Rattle.machine_state.specs.Durable.{IsUnwritten, PutsNone}
 
 -- what holds behind a place holds behind a later one
 pub All-later : {A : Type 0} (P : A → Type 0) (m n : ℕ) (xs : List A) → m ≤ n

@@ -8,20 +8,20 @@ use Rattle.segment_disk.specs.Tape.{DiskState}
 use Rattle.segment_disk.specs.Assured.{IsMadeUpto}
 use Rattle.flush_core.proofs.LeftLaws.{TapeAssures-now}
 use Rattle.wal_page.specs.Order.{Entry}
-use Rattle.wal_core.specs.Words.{Opening}
-use Rattle.wal_core.specs.Views.{HasAt, Hold, Idle, Turned, Out, Joined, Lent, Plain, Receipts, View, receipts_of, writer_of}
-use Rattle.wal_core.specs.Moves.{fault_number, joined_of, lent, after_join, after_split, no_writing, orphan_of, split_off, spent, with_hold, with_lent, without_work, after_load_down, after_load_flushed, after_load_moment, after_load_word, after_load_written, after_set_down, after_slot_out, after_store_flushed, after_store_moment, after_store_written, after_take_write_turn, hardened}
-use Rattle.wal_core.specs.Locked.{IsWriteTurn}
-use Rattle.wal_core.specs.Durable.{DurabilityHolds, one_if_some, setters_of, IsToldRightly, IsFirm, IsInHand, IsLogBelow, IsOnDisk, IsStaged}
-use Rattle.wal_core.specs.Steps.{MayStep, home_behind, number_lent, returned, value_behind, view_behind, with_slot, set_down, slot_in, slot_out, store_flushed, store_moment}
+use Rattle.machine_state.specs.Words.{Opening}
+use Rattle.machine_state.specs.Views.{HasAt, Hold, Idle, Turned, Out, Joined, Lent, Plain, Receipts, View, receipts_of, writer_of}
+use Rattle.machine_state.specs.Moves.{fault_number, joined_of, lent, after_join, after_split, no_writing, orphan_of, split_off, spent, with_hold, with_lent, without_work, after_load_down, after_load_flushed, after_load_moment, after_load_word, after_load_written, after_set_down, after_slot_out, after_store_flushed, after_store_moment, after_store_written, after_take_write_turn, hardened}
+use Rattle.machine_state.specs.Locked.{IsWriteTurn}
+use Rattle.machine_state.specs.Durable.{DurabilityHolds, one_if_some, setters_of, IsToldRightly, IsFirm, IsInHand, IsLogBelow, IsOnDisk, IsStaged}
+use Rattle.machine_state.specs.Steps.{MayStep, home_behind, number_lent, returned, value_behind, view_behind, with_slot, set_down, slot_in, slot_out, store_flushed, store_moment}
 use Rattle.machine_laws.proofs.DurableAssured.{did_set_down, with_down, with_words, is_joined, is_new, is_promised, is_taken_in, lent_cases, met_down, rebuilt, stands_out, stands_turned, taken_out, told, view_added, view_set}
 use Rattle.machine_laws.proofs.Setters.{setters_append, setters_low, setters_set}
 use Rattle.machine_laws.proofs.DurableGrowth.{IsFirm-lower}
-use Rattle.wal_core.proofs.Lists.{one_set}
+use Rattle.machine_state.proofs.Lists.{one_set}
 use Rattle.std.proofs.lemmas.Bool.{cases_eq}
-use Rattle.wal_core.proofs.Tapes.{counted_on, told_suited, at_suited}
+use Rattle.machine_state.proofs.Tapes.{counted_on, told_suited, at_suited}
 use Rattle.machine_laws.proofs.DurableTapes.{TapeAssures-later}
-use Rattle.wal_core.specs.Suited.{tape_from, IfSuited}
+use Rattle.machine_state.specs.Suited.{tape_from, IfSuited}
 
 -- no view but this one has the writer in hand
 abbrev pub IsAloneOut : List Receipts → ℕ → Type 0
@@ -263,8 +263,8 @@ module _ {first : DiskState} (o : Opening) (order : List Entry) (flushed moment 
       all_firm : writer.waiting ≡ none
           → IfSuited first o writer (IsFirm o order writer.written writer.moment)
       all_firm nothing = told_suited first o writer (λ t is suited.
-          TapeAssures-now o.setup.segment_size
-          (IsMadeUpto o.setup.segment_size writer.written)
+          TapeAssures-now o.setup.seg_size
+          (IsMadeUpto o.setup.seg_size writer.written)
           (IsLogBelow o order writer.written) writer.moment t
           (counted_on first writer.moment writer.calls t is h.counted)
           (λ segment. (at_suited first o writer
@@ -277,7 +277,7 @@ module _ {first : DiskState} (o : Opening) (order : List Entry) (flushed moment 
       store_moment_keeps met may =
           let l = may.0 in
           let holds = held l may.1 in
-          let size = o.setup.segment_size in
+          let size = o.setup.seg_size in
           let nothing : writer.waiting ≡ none =
           ap (λ (p : Plain). p.waiting) (sym holds.1) ∙ may.2.1 in
           let number : value_behind v store_moment met ≡ writer.moment =
@@ -351,7 +351,7 @@ module _ {first : DiskState} (o : Opening) (order : List Entry) (flushed moment 
             found_low = omega (arith, h.found_low, up);
             found = h.found;
             firm = IfSome_then (tape_from first writer.calls) (hand.firm some_hard) (λ t firm suited.
-                TapeAssures-later o.setup.segment_size (IsMadeUpto o.setup.segment_size l.hard)
+                TapeAssures-later o.setup.seg_size (IsMadeUpto o.setup.seg_size l.hard)
                 (IsLogBelow o order l.hard) l.hard_moment moment t hand.moment_low
                 (firm suited));
             on_disk = h.on_disk;

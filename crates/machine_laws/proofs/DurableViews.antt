@@ -6,16 +6,16 @@ use Rattle.segment_disk.specs.Cause.{Rose}
 use Rattle.segment_disk.specs.Tape.{DiskState, Tape}
 use Rattle.segment_disk.specs.Assured.{CallFits, IsMadeUpto, IsNowhere, TapeAssures}
 use Rattle.wal_page.specs.Order.{Entry}
-use Rattle.wal_core.specs.Words.{Opening, found_end}
-use Rattle.wal_core.specs.Views.{HasAt, Hold, Out, Joined, Lent, Plain, FlushPromise, Receipts, View, receipts_of}
-use Rattle.wal_core.specs.Moves.{CallOutcome, Done, Failed, with_lent, with_outcome}
-use Rattle.wal_core.specs.Durable.{AreKept, DurabilityHolds, IsToldRightly, IsFirm, IsInHand, IsMadeInTurn, IsPromiseKept, IsLawfulAt, IsLogBelow, IsOnDisk, IsPromised}
-use Rattle.wal_core.specs.Steps.{IsCallFault, with_call_on}
+use Rattle.machine_state.specs.Words.{Opening, found_end}
+use Rattle.machine_state.specs.Views.{HasAt, Hold, Out, Joined, Lent, Plain, FlushPromise, Receipts, View, receipts_of}
+use Rattle.machine_state.specs.Moves.{CallOutcome, Done, Failed, with_lent, with_outcome}
+use Rattle.machine_state.specs.Durable.{AreKept, DurabilityHolds, IsToldRightly, IsFirm, IsInHand, IsMadeInTurn, IsPromiseKept, IsLawfulAt, IsLogBelow, IsOnDisk, IsPromised}
+use Rattle.machine_state.specs.Steps.{IsCallFault, with_call_on}
 use Rattle.machine_laws.proofs.DurableAssured.{lent_cases, rebuilt, told, view_set}
 use Rattle.machine_laws.proofs.SegmentStates.{All-both}
-use Rattle.wal_core.proofs.Tapes.{counted_on, on_tape, tape_behind, began_behind, at_suited}
+use Rattle.machine_state.proofs.Tapes.{counted_on, on_tape, tape_behind, began_behind, at_suited}
 use Rattle.machine_laws.proofs.DurableTapes.{IsUnwritten-behind, TapeAssures-behind, counted_behind, moment_rises}
-use Rattle.wal_core.specs.Suited.{tape_from, BeganSuited, IfSuited}
+use Rattle.machine_state.specs.Suited.{tape_from, BeganSuited, IfSuited}
 
 -- a call leaves of the writer all but its tape, its moment and its fault
 pub same_written : (call : Call) (outcome : CallOutcome) (w : Plain)
@@ -51,11 +51,11 @@ module _ {first : DiskState} (o : Opening) (order : List Entry) (flushed moment 
     (h : DurabilityHolds first o order flushed moment down home w parts)
     (low : flushed ≤ w.written) (call : Call) (outcome : CallOutcome) (n : Plain)
     (is : ComesBehind call outcome w n)
-    (lawful : CallFits (o.setup).segment_size (IsLawfulAt o order) call)
+    (lawful : CallFits (o.setup).seg_size (IsLawfulAt o order) call)
     (fits : (a : ℕ) → a ≤ w.written
-    → CallFits (o.setup).segment_size (IsLogBelow o order a) call) where
+    → CallFits (o.setup).seg_size (IsLogBelow o order a) call) where
   abbrev size : ℕ
-  size = (o.setup).segment_size
+  size = (o.setup).seg_size
 
   behind : (Q : Tape → Type 0)
       → ((t : Tape) → tape_from first w.calls ≡ Some t → Q (tape_behind outcome call t)) → IfSome (tape_from first n.calls) Q
@@ -130,7 +130,7 @@ module _ {first : DiskState} (o : Opening) (order : List Entry) (flushed moment 
     up_in_hand = a.up_in_hand;
   }
 
-  module _ (reached : n.written ≤ n.made * (o.setup).segment_size + (o.setup).segment_size)
+  module _ (reached : n.written ≤ n.made * (o.setup).seg_size + (o.setup).seg_size)
       (made : IfSome n.calls (IsMadeInTurn o n))
       (disk : (t : Tape) → tape_from first w.calls ≡ Some t → BeganSuited o t → IsOnDisk o order w t
       → IsOnDisk o order n (tape_behind outcome call t))

@@ -9,22 +9,22 @@ use native.Mathlib.Decide.{ℕ_discrete}
 use Rattle.byte_position.specs.Geometry.{IsSegmentSize}
 use Rattle.byte_position.specs.Position.{end_address_of}
 use Rattle.byte_position.proofs.EndAddresses.{end_address_of-mono_lt}
-use Rattle.record_spelling.specs.Spelling.{assembled}
+use Rattle.wal_spelling.specs.Spelling.{assembled}
 use Rattle.wal_page.specs.Log.{owner_at}
 use Rattle.wal_page.specs.Order.{Entry, position_behind}
 use Rattle.wal_page.specs.EntryWords.{address_of_word}
 use Rattle.wal_page.proofs.OrderLaws.{room_at-pos}
 use Rattle.wal_page.proofs.OwnerLaws.{Owns-from_between}
 use Rattle.wal_page.proofs.PlaceLaws.{owner_at-entry_from_iff}
-use Rattle.wal_core.specs.declared.setup.Setup.{Setup}
-use Rattle.wal_core.specs.Words.{Opening, end_form, lock_word, order_end, GoesOnAtPlace}
-use Rattle.wal_core.specs.Views.{HasAt, Copy, Flight, Landed, Copying, Plain, View, working_of, flight_of}
-use Rattle.wal_core.specs.Locked.{most_told}
-use Rattle.wal_core.specs.Ringed.{IsOfOrder}
-use Rattle.wal_core.specs.Shown.{IsInNoFlight}
-use Rattle.wal_core.specs.Sound.{IsSound}
-use Rattle.wal_core.proofs.Landing.{among_cases, none_lands}
-use Rattle.wal_core.proofs.Lists.{part_at}
+use Rattle.machine_state.specs.declared.setup.Setup.{Setup}
+use Rattle.machine_state.specs.Words.{Opening, end_form, lock_word, order_end, GoesOnAtPlace}
+use Rattle.machine_state.specs.Views.{HasAt, Copy, Flight, Landed, Copying, Plain, View, working_of, flight_of}
+use Rattle.machine_state.specs.Locked.{most_told}
+use Rattle.machine_state.specs.Ringed.{IsOfOrder}
+use Rattle.machine_state.specs.Shown.{IsInNoFlight}
+use Rattle.machine_state.specs.Sound.{IsSound}
+use Rattle.machine_state.proofs.Landing.{among_cases, none_lands}
+use Rattle.machine_state.proofs.Lists.{part_at}
 use Rattle.machine_laws.proofs.RingLaws.{copy-whole, last_word-ends}
 use Rattle.machine_laws.proofs.ShownLaws.{entries_are_copied}
 use Rattle.machine_laws.specs.SoundLocks.{SomeView, HasInFlight, IsToldAhead, IsToldBy, LocksTellCopies, IsCopiedWhole, EntriesAreWholeOrInFlight}
@@ -48,11 +48,11 @@ around e (x ∷ xs) has = ⊎_elim
     (Contains-append_cases (x ∷ []) xs e has)
 
 -- an entry owns the address at which it begins; so one that starts where another does is that one
-module _ (opening : Opening) (valid : IsSegmentSize opening.setup.segment_size)
+module _ (opening : Opening) (valid : IsSegmentSize opening.setup.seg_size)
     (order : List Entry) (chain : GoesOnAtPlace opening order)
   where
     abbrev segment : ℕ
-    segment = opening.setup.segment_size
+    segment = opening.setup.seg_size
 
     owns_start : (front back : List Entry) (e : Entry) → order ≡ front ++ e ∷ back
         → owner_at segment order (end_address_of segment e.start) ≡ Some e
@@ -122,7 +122,7 @@ module _ {first : DiskState} (opening : Opening) (words : List ℕ) (home : Opti
   setup = opening.setup
 
   abbrev size : ℕ
-  size = (opening.setup).segment_size
+  size = (opening.setup).seg_size
 
   abbrev chain : GoesOnAtPlace opening k.order
   chain = (k.reserved).chained

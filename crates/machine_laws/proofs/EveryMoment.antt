@@ -3,14 +3,14 @@ use Rattle.std.proofs.Common.{◌≡◌, ℕ, zero, suc, List, [], ◌∷◌, �
 use mathlib.Core.Logic.{dite}
 use native.Mathlib.Decide.{ℕ_discrete}
 use mathlib.Core.Option.{Option, some-injective, some-ne-none}
-use Rattle.wal_core.specs.Words.{Opening, flushed_word, moment_word, write_turn}
-use Rattle.wal_core.specs.Views.{HasAt, Hold, Idle, Turned, Out, Plain, View, writer_of}
-use Rattle.wal_core.specs.Locked.{HasWriteTurn, IsWriteTurn, StandsTo}
-use Rattle.wal_core.specs.Moves.{after_split, split_off, after_join, spent, without_work, orphan_of}
-use Rattle.wal_core.specs.Opened.{first_view}
-use Rattle.wal_core.specs.Steps.{StepKind, State, MachineStep, Makes, Splits, Joins, GivesUp, Moves, SplitsOff, TakesIn, Abandons, word_of_step, value_behind, home_behind, view_behind}
-use Rattle.wal_core.specs.Sound.{IsSound}
-use Rattle.wal_core.proofs.Lists.{part_at}
+use Rattle.machine_state.specs.Words.{Opening, flushed_word, moment_word, write_turn}
+use Rattle.machine_state.specs.Views.{HasAt, Hold, Idle, Turned, Out, Plain, View, writer_of}
+use Rattle.machine_state.specs.Locked.{HasWriteTurn, IsWriteTurn, StandsTo}
+use Rattle.machine_state.specs.Moves.{after_split, split_off, after_join, spent, without_work, orphan_of}
+use Rattle.machine_state.specs.Opened.{first_view}
+use Rattle.machine_state.specs.Steps.{StepKind, State, MachineStep, Makes, Splits, Joins, GivesUp, Moves, SplitsOff, TakesIn, Abandons, word_of_step, value_behind, home_behind, view_behind}
+use Rattle.machine_state.specs.Sound.{IsSound}
+use Rattle.machine_state.proofs.Lists.{part_at}
 use Rattle.machine_laws.specs.LocksBehind.{views_behind, words_behind, writer_behind}
 use Rattle.machine_laws.proofs.LockPassSteps.{turns_give_up, turns_join, turns_split}
 use Rattle.machine_laws.proofs.SoundLockSteps.{locks_behind, turns_now}

@@ -2,18 +2,18 @@
 -- invariant is kept.
 use Rattle.std.proofs.Common.{◌≡◌, ◌≢◌, ℕ, ◌<◌, ◌≤◌, true, List, [], ◌∷◌, ◌++◌, map, max, set, refl, sym, subst, ⊎_elim, arith}
 use mathlib.Core.Option.{Option}
-use Rattle.wal_core.specs.Words.{Opening, position_word, prev_word, written_word, flushed_word, down_word, async_word, end_form}
-use Rattle.wal_core.specs.Views.{HasAt, Flight, Plain, Reserving, View, Writing, reserving_of, flight_of, working_of, writing_of}
-use Rattle.wal_core.specs.Ordered.{OrderHolds}
-use Rattle.wal_core.specs.Locked.{SwitchesStandAlone}
-use Rattle.wal_core.specs.Positioned.{PositionsHold}
-use Rattle.wal_core.specs.Reading.{ReadingHolds}
-use Rattle.wal_core.specs.Moves.{after_split, split_off, after_join, spent, without_work, orphan_of}
-use Rattle.wal_core.specs.Steps.{State, Splits, IsResting, Joins, IsStranded, GivesUp}
-use Rattle.wal_core.specs.Aligned.{LearnsAligned}
-use Rattle.wal_core.specs.Failed.{FaultIsKnown}
-use Rattle.wal_core.specs.Sound.{IsGrounded, IsSound}
-use Rattle.wal_core.proofs.Lists.{one_set, one_added, part_at}
+use Rattle.machine_state.specs.Words.{Opening, position_word, prev_word, written_word, flushed_word, down_word, async_word, end_form}
+use Rattle.machine_state.specs.Views.{HasAt, Flight, Plain, Reserving, View, Writing, reserving_of, flight_of, working_of, writing_of}
+use Rattle.machine_state.specs.Ordered.{OrderHolds}
+use Rattle.machine_state.specs.Locked.{SwitchesStandAlone}
+use Rattle.machine_state.specs.Positioned.{PositionsHold}
+use Rattle.machine_state.specs.Reading.{ReadingHolds}
+use Rattle.machine_state.specs.Moves.{after_split, split_off, after_join, spent, without_work, orphan_of}
+use Rattle.machine_state.specs.Steps.{State, Splits, IsResting, Joins, IsStranded, GivesUp}
+use Rattle.machine_state.specs.Aligned.{LearnsAligned}
+use Rattle.machine_state.specs.Failed.{FaultIsKnown}
+use Rattle.machine_state.specs.Sound.{IsGrounded, IsSound}
+use Rattle.machine_state.proofs.Lists.{one_set, one_added, part_at}
 use Rattle.machine_laws.specs.OrderParts.{TakesPart}
 use Rattle.machine_laws.proofs.OrderKept as order
 use Rattle.machine_laws.specs.LocksBehind.{WorksHold, TurnsHold}
@@ -77,7 +77,7 @@ module _ {first : DiskState} (words : List ℕ) (home : Option Plain) (views : L
         → (rs : List Reserving) → map reserving_of changed ≡ rs → HasOrderWith rs
         → WorksHold v.opening k.order words changed
         → TurnsHold words home k.stage k.writer changed
-        → SwitchesStandAlone ((v.opening).setup).segment_size (map working_of changed)
+        → SwitchesStandAlone ((v.opening).setup).seg_size (map working_of changed)
         → HasRingWith v.opening words home views k changed
         → HasPagesWith v.opening words home views k changed
         → (fs : List Flight) → map flight_of changed ≡ fs

@@ -1,10 +1,10 @@
 -- Every step keeps the invariant, and every run.
 use Rattle.std.proofs.Common.{◌≡◌, ℕ, zero, suc, List, set, sym, ap, ◌∙◌, subst}
 use mathlib.Core.Option.{Option}
-use Rattle.wal_core.specs.Words.{Opening}
-use Rattle.wal_core.specs.Views.{Plain, View}
-use Rattle.wal_core.specs.Steps.{StepKind, State, MachineStep, Makes, Moves, SplitsOff, TakesIn, Abandons, word_of_step, value_behind, view_behind}
-use Rattle.wal_core.specs.Sound.{IsSound}
+use Rattle.machine_state.specs.Words.{Opening}
+use Rattle.machine_state.specs.Views.{Plain, View}
+use Rattle.machine_state.specs.Steps.{StepKind, State, MachineStep, Makes, Moves, SplitsOff, TakesIn, Abandons, word_of_step, value_behind, view_behind}
+use Rattle.machine_state.specs.Sound.{IsSound}
 use Rattle.machine_laws.specs.InvariantKept.{KeepsSound, number_met}
 use Rattle.machine_laws.specs.Runs.{Runs}
 use Rattle.machine_laws.proofs.WholeInvariant.{sound_behind}

@@ -5,14 +5,14 @@ use mathlib.Core.Logic.{dite}
 use mathlib.Core.Option.{Option, none, some}
 use native.Mathlib.Decide.{ℕ_discrete}
 use Rattle.segment_disk.specs.Tape.{DiskState}
-use Rattle.wal_core.specs.Words.{down_word, mapping_turn_number, write_turn_number, down_number, lock_number}
-use Rattle.wal_core.specs.Views.{HasAt, Hold, Idle, Locked, Out, Plain, Taken, Turned, View}
-use Rattle.wal_core.specs.Failed.{FaultIsKnown, KnowsOfFault, SomeKnowsOfFault}
-use Rattle.wal_core.specs.Moves.{after_join, after_split, orphan_of, spent, split_off, with_hold, with_place, with_stage, with_working, without_work}
-use Rattle.wal_core.specs.Steps.{StepKind, MayStep, word_of_step, view_behind, with_slot, with_call_on, load_position, take_write_turn, slot_out, slot_in, release_write_turn, lock_position, load_prev, store_prev, store_position, give_position_back, stay, load_lock, take_lock, advance, release, load_buffer_end, store_ring_word, load_ring_word, load_written, load_flushed, load_moment, load_down, store_written, store_moment, store_flushed, set_down, load_async, raise_async, take_mapping_turn, load_initialised_end, clear_end, zero_ring_word, publish_end, publish_initialised_end, release_mapping_turn, create, write, sync}
-use Rattle.wal_core.specs.Sound.{IsSound}
-use Rattle.wal_core.proofs.Lists.{at_else, at_front, at_place, at_same}
-use Rattle.wal_core.proofs.WordLists.{single_set, word_again, word_else}
+use Rattle.machine_state.specs.Words.{down_word, mapping_turn_number, write_turn_number, down_number, lock_number}
+use Rattle.machine_state.specs.Views.{HasAt, Hold, Idle, Locked, Out, Plain, Taken, Turned, View}
+use Rattle.machine_state.specs.Failed.{FaultIsKnown, KnowsOfFault, SomeKnowsOfFault}
+use Rattle.machine_state.specs.Moves.{after_join, after_split, orphan_of, spent, split_off, with_hold, with_place, with_stage, with_working, without_work}
+use Rattle.machine_state.specs.Steps.{StepKind, MayStep, word_of_step, view_behind, with_slot, with_call_on, load_position, take_write_turn, slot_out, slot_in, release_write_turn, lock_position, load_prev, store_prev, store_position, give_position_back, stay, load_lock, take_lock, advance, release, load_buffer_end, store_ring_word, load_ring_word, load_written, load_flushed, load_moment, load_down, store_written, store_moment, store_flushed, set_down, load_async, raise_async, take_mapping_turn, load_initialised_end, clear_end, zero_ring_word, publish_end, publish_initialised_end, release_mapping_turn, create, write, sync}
+use Rattle.machine_state.specs.Sound.{IsSound}
+use Rattle.machine_state.proofs.Lists.{at_else, at_front, at_place, at_same}
+use Rattle.machine_state.proofs.WordLists.{single_set, word_again, word_else}
 use Rattle.machine_laws.proofs.Frames.{Moved, moved, later, same_either, views_later}
 use Rattle.machine_laws.proofs.PositionsBehind.{lock_low}
 

@@ -4,16 +4,16 @@ use Rattle.std.proofs.Common.{◌≡◌, ◌≢◌, ℕ, ◌≤◌, Bool, cond, 
 use mathlib.Core.Option.{Option}
 use Rattle.byte_position.specs.Geometry.{IsSegmentSize}
 use Rattle.byte_position.proofs.EndAddresses.{end_address_of-mono}
-use Rattle.wal_core.specs.declared.setup.Setup.{Setup}
-use Rattle.wal_core.specs.Words.{Opening, position_word, prev_word, written_word, flushed_word, down_word, word_count, end_form, written_number, flushed_number, down_number}
-use Rattle.wal_core.specs.Views.{HasAt, Plain, View, reserving_of, flight_of, writing_of}
-use Rattle.wal_core.specs.Ordered.{OrderHolds}
-use Rattle.wal_core.specs.Positioned.{PositionsHold}
-use Rattle.wal_core.specs.Steps.{StepKind, word_of_step, value_behind, view_behind}
+use Rattle.machine_state.specs.declared.setup.Setup.{Setup}
+use Rattle.machine_state.specs.Words.{Opening, position_word, prev_word, written_word, flushed_word, down_word, word_count, end_form, written_number, flushed_number, down_number}
+use Rattle.machine_state.specs.Views.{HasAt, Plain, View, reserving_of, flight_of, writing_of}
+use Rattle.machine_state.specs.Ordered.{OrderHolds}
+use Rattle.machine_state.specs.Positioned.{PositionsHold}
+use Rattle.machine_state.specs.Steps.{StepKind, word_of_step, value_behind, view_behind}
 use Rattle.machine_laws.specs.InvariantKept.{number_met}
-use Rattle.wal_core.specs.Sound.{IsGrounded, IsSound}
-use Rattle.wal_core.proofs.Lists.{one_set, part_same}
-use Rattle.wal_core.proofs.WordLists.{word_else, wide_still}
+use Rattle.machine_state.specs.Sound.{IsGrounded, IsSound}
+use Rattle.machine_state.proofs.Lists.{one_set, part_same}
+use Rattle.machine_state.proofs.WordLists.{word_else, wide_still}
 use Rattle.segment_disk.specs.Tape.{DiskState}
 
 -- a step of one pass: the state before, which keeps the invariant, and the word that it stores with
@@ -56,10 +56,10 @@ same_either part true x y same = same
 same_either part false x y same = refl
 
 -- whoever has seen more reserved may watch for as much
-pub watches_still : (setup : Setup) → IsSegmentSize setup.segment_size → (end seen more : ℕ)
+pub watches_still : (setup : Setup) → IsSegmentSize setup.seg_size → (end seen more : ℕ)
     → end ≤ end_form setup seen → seen ≤ more → end ≤ end_form setup more
 watches_still setup valid end seen more low up =
-    let rises = end_address_of-mono setup.segment_size valid seen more up in omega arith
+    let rises = end_address_of-mono setup.seg_size valid seen more up in omega arith
 
 -- a live view that knows what is fixed, and watches for no more than it has seen
 pub grounded_live : (opening : Opening) (down : ℕ) (w : View) → w.opening ≡ opening

@@ -4,14 +4,14 @@ use Rattle.std.proofs.Common.{◌≡◌, ◌≢◌, ℕ, ◌≤◌, Bool, cond, 
 use mathlib.Core.Option.{Option, none, some}
 use Rattle.wal_types.specs.declared.record.Record.{Record}
 use Rattle.wal_page.specs.Order.{Entry, position_behind}
-use Rattle.wal_core.specs.Words.{Opening, down_word, end_form, write_turn, mapping_turn_number, write_turn_number, down_number, lock_number, order_end, last_start}
-use Rattle.wal_core.specs.Views.{HasAt, Place, Locked, Stored, Plain, Hold, Idle, Turned, Out, Taken, Watching, View, reserving_of, writer_of}
-use Rattle.wal_core.specs.Ordered.{AtPlace}
-use Rattle.wal_core.specs.Moves.{fault_number, after_store_position, begun, entry_reserved, is_own, visited_on, with_hold, with_place, with_stage, with_working}
-use Rattle.wal_core.specs.Steps.{StepKind, MayStep, number_lent, value_behind, word_of_step, view_behind, load_position, take_write_turn, slot_out, slot_in, release_write_turn, lock_position, load_prev, store_prev, store_position, give_position_back, stay, load_lock, take_lock, advance, release, load_buffer_end, store_ring_word, load_ring_word, load_written, load_flushed, load_moment, load_down, store_written, store_moment, store_flushed, set_down, load_async, raise_async, take_mapping_turn, load_initialised_end, clear_end, zero_ring_word, publish_end, publish_initialised_end, release_mapping_turn, create, write, sync, with_slot, with_call_on}
-use Rattle.wal_core.specs.Sound.{IsGrounded, IsSound}
-use Rattle.wal_core.proofs.Lists.{part_at}
-use Rattle.wal_core.proofs.WordLists.{single_set, word_again, word_else}
+use Rattle.machine_state.specs.Words.{Opening, down_word, end_form, write_turn, mapping_turn_number, write_turn_number, down_number, lock_number, order_end, last_start}
+use Rattle.machine_state.specs.Views.{HasAt, Place, Locked, Stored, Plain, Hold, Idle, Turned, Out, Taken, Watching, View, reserving_of, writer_of}
+use Rattle.machine_state.specs.Ordered.{AtPlace}
+use Rattle.machine_state.specs.Moves.{fault_number, after_store_position, begun, entry_reserved, is_own, visited_on, with_hold, with_place, with_stage, with_working}
+use Rattle.machine_state.specs.Steps.{StepKind, MayStep, number_lent, value_behind, word_of_step, view_behind, load_position, take_write_turn, slot_out, slot_in, release_write_turn, lock_position, load_prev, store_prev, store_position, give_position_back, stay, load_lock, take_lock, advance, release, load_buffer_end, store_ring_word, load_ring_word, load_written, load_flushed, load_moment, load_down, store_written, store_moment, store_flushed, set_down, load_async, raise_async, take_mapping_turn, load_initialised_end, clear_end, zero_ring_word, publish_end, publish_initialised_end, release_mapping_turn, create, write, sync, with_slot, with_call_on}
+use Rattle.machine_state.specs.Sound.{IsGrounded, IsSound}
+use Rattle.machine_state.proofs.Lists.{part_at}
+use Rattle.machine_state.proofs.WordLists.{single_set, word_again, word_else}
 use Rattle.machine_laws.proofs.DurableAssured.{stands_out}
 use Rattle.machine_laws.proofs.Frames.{Moved, moved, later, grounded_live, watches_still}
 use Rattle.machine_laws.proofs.PositionsBehind.{lock_low}
@@ -84,7 +84,7 @@ module _ {first : DiskState} (words : List ℕ) (home : Option Plain) (views : L
     reserved : (locks : List ℕ) (value : Record) → MayStep v (store_position locks value)
         → IsGrounded v.opening down (behind (store_position locks value))
     reserved locks value may =
-        let size : ℕ = ((v.opening).setup).segment_size in
+        let size : ℕ = ((v.opening).setup).seg_size in
         let mine = part_at reserving_of views id v here in
         let seen = ((k.reserved).views id v.reserving mine live).seen in
         let place = subst

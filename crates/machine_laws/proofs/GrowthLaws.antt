@@ -17,12 +17,12 @@ use Rattle.segment_disk.proofs.Fronts.{take-before}
 use Rattle.flush_core.proofs.LeftLaws.{read_word}
 use Rattle.flush_core.proofs.SettledPages.{after_calls-append}
 use Rattle.flush_core.proofs.StateLaws.{after_each}
-use Rattle.wal_core.specs.Words.{Opening}
-use Rattle.wal_core.specs.Views.{Plain, View}
-use Rattle.wal_core.specs.Sound.{IsSound}
-use Rattle.wal_core.specs.Suited.{IfSuited, IsLogAt, IsSuited, tape_from}
+use Rattle.machine_state.specs.Words.{Opening}
+use Rattle.machine_state.specs.Views.{Plain, View}
+use Rattle.machine_state.specs.Sound.{IsSound}
+use Rattle.machine_state.specs.Suited.{IfSuited, IsLogAt, IsSuited, tape_from}
 use Rattle.segment_disk.specs.Assured.{SegmentAssures}
-use Rattle.wal_core.specs.Growing.{AddsTo, AllOnlyAdd, IsZeroOr, KindAdds, LosesOnly, OnlyAdds, OnlyAddsSince, PageLosesOnly, ReadsWhole, SegmentLosesOnly}
+use Rattle.machine_state.specs.Growing.{AddsTo, AllOnlyAdd, IsZeroOr, KindAdds, LosesOnly, OnlyAdds, OnlyAddsSince, PageLosesOnly, ReadsWhole, SegmentLosesOnly}
 use Rattle.machine_laws.specs.Growth.{LosesOnlySince, StaysWholeSince}
 use Rattle.machine_laws.proofs.LogReading.{read_elsewhere, read_here}
 
@@ -219,17 +219,17 @@ reads_whole size moment m t low since each =
 
 -- there each word is the log's, and so is what is read
 pub suited_loses_only : (opening : Opening) (state : DiskState) → IsSuited opening state
-    → LosesOnly (opening.setup).segment_size state
+    → LosesOnly (opening.setup).seg_size state
 suited_loses_only opening state suited segment = of_segment (state segment) (suited segment)
   where
-    of_segment : (s : OptionOf Segment) → SegmentAssures (opening.setup).segment_size
+    of_segment : (s : OptionOf Segment) → SegmentAssures (opening.setup).seg_size
         (λ n. (1 ≤ n) × (n ≤ opening.made)) (IsLogAt opening []) segment s
-        → IfSome s (SegmentLosesOnly (opening.setup).segment_size)
+        → IfSome s (SegmentLosesOnly (opening.setup).seg_size)
     of_segment None holds = tt
     of_segment (Some s) holds = (
       holds.0,
       λ page within word low found may.
-          let on : page < pages_of (opening.setup).segment_size =
+          let on : page < pages_of (opening.setup).seg_size =
           subst (λ (n : ℕ). page < n) holds.0 within in
           let read = word_of (page_as_read s page) word in
           inr (holds.1 page word on low found may
@@ -242,16 +242,16 @@ suited_loses_only opening state suited segment = of_segment (state segment) (sui
 module _ {first : DiskState} (opening : Opening) (words : List ℕ) (home : Option Plain)
     (views : List View) (k : IsSound first opening words home views) where
   abbrev segment : ℕ
-  segment = (opening.setup).segment_size
+  segment = (opening.setup).seg_size
 
   pub logs_lose_only : IfSuited first opening k.writer
-      (LosesOnlySince (opening.setup).segment_size opening.moment)
+      (LosesOnlySince (opening.setup).seg_size opening.moment)
   logs_lose_only = IfSome_then (tape_from first (k.writer).calls) (k.reading).adds
       (λ t adds suited m low. loses_only segment opening.moment m t low (adds suited)
       (suited_loses_only opening (state_at t opening.moment) suited))
 
   pub logs_stay_whole : IfSuited first opening k.writer
-      (StaysWholeSince (opening.setup).segment_size opening.moment)
+      (StaysWholeSince (opening.setup).seg_size opening.moment)
   logs_stay_whole = IfSome_then (tape_from first (k.writer).calls) (k.reading).adds
       (λ t adds suited whole m low.
       reads_whole segment opening.moment m t low (adds suited) whole)

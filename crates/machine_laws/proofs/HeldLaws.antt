@@ -5,13 +5,13 @@ use Rattle.std.proofs.lemmas.List.Elements.{Contains-append_left, Contains-push,
 use mathlib.Core.Logic.{dite}
 use native.Mathlib.Decide.{ℕ_discrete}
 use Rattle.atomic_table.proofs.Lists.{set_else, set_again, at_longer, at_last}
-use Rattle.wal_core.specs.Views.{HasAt, Copy, Flight, Landed, Copying, Working, AreSomeOf, View, working_of}
-use Rattle.wal_core.specs.Locked.{AreHeld}
-use Rattle.wal_core.specs.Moves.{landed, without_lock, one_more, with_working, after_take_lock}
-use Rattle.wal_core.specs.Steps.{exchanged}
+use Rattle.machine_state.specs.Views.{HasAt, Copy, Flight, Landed, Copying, Working, AreSomeOf, View, working_of}
+use Rattle.machine_state.specs.Locked.{AreHeld}
+use Rattle.machine_state.specs.Moves.{landed, without_lock, one_more, with_working, after_take_lock}
+use Rattle.machine_state.specs.Steps.{exchanged}
 use Rattle.machine_laws.specs.Locks.{ChangesAt, idle}
-use Rattle.wal_core.proofs.Landing.{landed_was, none_lands}
-use Rattle.wal_core.proofs.Lists.{one_set, one_added, at_same, at_place}
+use Rattle.machine_state.proofs.Landing.{landed_was, none_lands}
+use Rattle.machine_state.proofs.Lists.{one_set, one_added, at_same, at_place}
 use Rattle.machine_laws.proofs.LocksKept.{met_cases, kept, kept_was, none_in_nothing, two_set_again}
 
 -- the locks but one: what is left was there, and what was there is left

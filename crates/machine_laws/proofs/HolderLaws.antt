@@ -3,11 +3,11 @@ use Rattle.std.proofs.Common.{◌≡◌, ◌≢◌, ◌⊎◌, inl, inr, ⊎_eli
 use mathlib.Core.Logic.{dite}
 use mathlib.Core.Option.{Option, none, some, some-ne-none}
 use native.Mathlib.Decide.{ℕ_discrete}
-use Rattle.wal_core.specs.Words.{Opening, lock_word, mapping_turn, write_turn}
-use Rattle.wal_core.specs.Views.{HasAt, Stage, Hold, Idle, Turned, Out, Lent, Plain, View, Working, working_of, mapper_of, writer_of}
-use Rattle.wal_core.specs.Locked.{AreHeld, HasTurn, HasWriteTurn, IsMappingTurn, IsWriteTurn, StandsTo}
-use Rattle.wal_core.specs.Sound.{IsSound}
-use Rattle.wal_core.proofs.Lists.{part_at, view_from}
+use Rattle.machine_state.specs.Words.{Opening, lock_word, mapping_turn, write_turn}
+use Rattle.machine_state.specs.Views.{HasAt, Stage, Hold, Idle, Turned, Out, Lent, Plain, View, Working, working_of, mapper_of, writer_of}
+use Rattle.machine_state.specs.Locked.{AreHeld, HasTurn, HasWriteTurn, IsMappingTurn, IsWriteTurn, StandsTo}
+use Rattle.machine_state.specs.Sound.{IsSound}
+use Rattle.machine_state.proofs.Lists.{part_at, view_from}
 use Rattle.machine_laws.specs.SoundLocks.{SomeView, HoldsLock, LocksHaveHolders, HasMappingTurn, HasTurnToWrite, HasWriterOut, TurnHasHolder, TurnsHaveHolders}
 use Rattle.machine_laws.specs.SoundPositions.{IsTheWriter, KeepsWriter}
 use Rattle.segment_disk.specs.Tape.{DiskState}

@@ -1,10 +1,10 @@
 -- What the laws of positions and of durability start from, of a state that keeps the invariant.
 use Rattle.std.proofs.Common.{ℕ, List, map}
 use mathlib.Core.Option.{Option}
-use Rattle.wal_core.specs.Words.{write_turn, written_word, flushed_word, down_word}
-use Rattle.wal_core.specs.Views.{HasAt, Plain, View, flight_of, writer_of, writing_of, receipts_of}
-use Rattle.wal_core.specs.Sound.{IsSound}
-use Rattle.wal_core.proofs.Lists.{part_at}
+use Rattle.machine_state.specs.Words.{write_turn, written_word, flushed_word, down_word}
+use Rattle.machine_state.specs.Views.{HasAt, Plain, View, flight_of, writer_of, writing_of, receipts_of}
+use Rattle.machine_state.specs.Sound.{IsSound}
+use Rattle.machine_state.proofs.Lists.{part_at}
 use Rattle.machine_laws.specs.PositionParts.{Positions, HasPositions}
 use Rattle.segment_disk.specs.Tape.{DiskState}
 

@@ -3,15 +3,15 @@ use Rattle.std.proofs.Common.{◌≡◌, ◌⊎◌, inl, inr, ℕ, ◌+◌, ◌<
 use Rattle.std.specs.Prelude.{Contains, ◌==◌}
 use mathlib.Core.Option.{Option, none, some}
 use Rattle.wal_types.specs.declared.record.Record.{Record}
-use Rattle.wal_core.specs.Words.{initialised_word, written_word, end_word, word_of_ring, async_number, initialised_number, written_number, flushed_number, ends_number}
-use Rattle.wal_core.specs.Views.{HasAt, Place, Free, Locked, Loaded, Stored, StopCause, LogFull, AtSegmentStart, Flight, Taken, Reserving, Plain, Hold, Idle, Turned, Out, Writing, View, working_of, flight_of, confirmed_of}
-use Rattle.wal_core.specs.Ringed.{RingHolds}
-use Rattle.wal_core.specs.Paged.{PagesHold}
-use Rattle.wal_core.specs.Moves.{with_reserving, with_place, with_writing, with_working, with_hold, with_stage, after_load_prev, after_store_prev, after_store_position, after_stop}
-use Rattle.wal_core.specs.Steps.{StepKind, MayStep, word_of_step, value_behind, view_behind, with_slot, with_call_on, load_position, take_write_turn, slot_out, slot_in, release_write_turn, lock_position, load_prev, store_prev, store_position, give_position_back, stay, load_lock, take_lock, advance, release, load_buffer_end, store_ring_word, load_ring_word, load_written, load_flushed, load_moment, load_down, store_written, store_moment, store_flushed, set_down, load_async, raise_async, take_mapping_turn, load_initialised_end, clear_end, zero_ring_word, publish_end, publish_initialised_end, release_mapping_turn, create, write, sync, ring_place}
-use Rattle.wal_core.specs.Sound.{IsSound}
-use Rattle.wal_core.proofs.Lists.{part_at, part_same}
-use Rattle.wal_core.proofs.WordLists.{word_again, word_else, ends_before, ring_before}
+use Rattle.machine_state.specs.Words.{initialised_word, written_word, end_word, word_of_ring, async_number, initialised_number, written_number, flushed_number, ends_number}
+use Rattle.machine_state.specs.Views.{HasAt, Place, Free, Locked, Loaded, Stored, StopCause, LogFull, AtSegmentStart, Flight, Taken, Reserving, Plain, Hold, Idle, Turned, Out, Writing, View, working_of, flight_of, confirmed_of}
+use Rattle.machine_state.specs.Ringed.{RingHolds}
+use Rattle.machine_state.specs.Paged.{PagesHold}
+use Rattle.machine_state.specs.Moves.{with_reserving, with_place, with_writing, with_working, with_hold, with_stage, after_load_prev, after_store_prev, after_store_position, after_stop}
+use Rattle.machine_state.specs.Steps.{StepKind, MayStep, word_of_step, value_behind, view_behind, with_slot, with_call_on, load_position, take_write_turn, slot_out, slot_in, release_write_turn, lock_position, load_prev, store_prev, store_position, give_position_back, stay, load_lock, take_lock, advance, release, load_buffer_end, store_ring_word, load_ring_word, load_written, load_flushed, load_moment, load_down, store_written, store_moment, store_flushed, set_down, load_async, raise_async, take_mapping_turn, load_initialised_end, clear_end, zero_ring_word, publish_end, publish_initialised_end, release_mapping_turn, create, write, sync, ring_place}
+use Rattle.machine_state.specs.Sound.{IsSound}
+use Rattle.machine_state.proofs.Lists.{part_at, part_same}
+use Rattle.machine_state.proofs.WordLists.{word_again, word_else, ends_before, ring_before}
 use Rattle.machine_laws.proofs.Buffers.{pages_alike}
 use Rattle.machine_laws.specs.RingBehind.{met_by, words_behind, HasPages, HasRing}
 use Rattle.machine_laws.specs.RingLeft.{LeavesCopies, LeavesPages}

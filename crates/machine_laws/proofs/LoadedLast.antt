@@ -1,6 +1,6 @@
 -- The word of the log that was loaded last, among all that were loaded for a write.
 use Rattle.std.proofs.Common.{◌≡◌, inl, inr, ℕ, suc, List, [], ◌∷◌, Contains, sym, ◌∙◌, arith}
-use Rattle.wal_core.specs.Views.{IsLoadedLast}
+use Rattle.machine_state.specs.Views.{IsLoadedLast}
 
 -- it is among them
 pub loaded_there : (k word : ℕ) (staged : List (ℕ × ℕ)) → IsLoadedLast k word staged

@@ -8,13 +8,13 @@ use Rattle.byte_position.specs.Geometry.{IsSegmentSize}
 use Rattle.byte_position.proofs.SegmentSizes.{segment_size_in_pages}
 use Rattle.wal_page.specs.Order.{Entry}
 use Rattle.wal_page.specs.LogPlace.{IsPlace}
-use Rattle.wal_core.specs.Words.{Opening, end_form, order_end, GoesOnAtPlace}
-use Rattle.wal_core.specs.Views.{HasAt, Flight, Stage, Plain, Lent, Out, Writing}
-use Rattle.wal_core.specs.Ringed.{IsAwaited, RingHolds}
-use Rattle.wal_core.specs.Paged.{PagesHold}
-use Rattle.wal_core.specs.Positioned.{IsCopiedBelow, PositionsHold}
-use Rattle.wal_core.specs.Durable.{IsStaged}
-use Rattle.wal_core.specs.Steps.{IsToBeWritten, ring_place}
+use Rattle.machine_state.specs.Words.{Opening, end_form, order_end, GoesOnAtPlace}
+use Rattle.machine_state.specs.Views.{HasAt, Flight, Stage, Plain, Lent, Out, Writing}
+use Rattle.machine_state.specs.Ringed.{IsAwaited, RingHolds}
+use Rattle.machine_state.specs.Paged.{PagesHold}
+use Rattle.machine_state.specs.Positioned.{IsCopiedBelow, PositionsHold}
+use Rattle.machine_state.specs.Durable.{IsStaged}
+use Rattle.machine_state.specs.Steps.{IsToBeWritten, ring_place}
 use Rattle.machine_laws.proofs.RingLaws.{awaited-left}
 use Rattle.machine_laws.proofs.PageLaws.{not_given_up}
 use Rattle.segment_disk.specs.Tape.{DiskState}
@@ -22,12 +22,12 @@ use Rattle.segment_disk.specs.Tape.{DiskState}
 module _ (opening : Opening) (order : List Entry) (reach : ℕ) (memory : ℕ → ℕ)
     (flights : List Flight)
     (k : RingHolds opening order reach memory flights)
-    (valid : IsSegmentSize opening.setup.segment_size)
-    (placed : IsPlace opening.setup.segment_size opening.place)
+    (valid : IsSegmentSize opening.setup.seg_size)
+    (placed : IsPlace opening.setup.seg_size opening.place)
     (chain : GoesOnAtPlace opening order)
-    (known : ℕ) (copied : IsCopiedBelow opening.setup.segment_size flights known) where
+    (known : ℕ) (copied : IsCopiedBelow opening.setup.seg_size flights known) where
   abbrev size : ℕ
-  size = opening.setup.segment_size
+  size = opening.setup.seg_size
 
   -- what is copied is awaited by nobody
   pub not_awaited : (address : ℕ) → address < known → IsAwaited size flights address → ⊥
@@ -75,8 +75,8 @@ module _ {first : DiskState} (o : Opening) (order : List Entry) (reach : ℕ) (m
     (flights : List Flight) (stage : Stage) (initialised written flushed down : ℕ)
     (ends ring : ℕ → ℕ) (confirmed : List ℕ) (home : Option Plain) (writer : Plain)
     (parts : List Writing) (id n : ℕ) (x : Writing) (l : Lent)
-    (valid : IsSegmentSize (o.setup).segment_size)
-    (placed : IsPlace (o.setup).segment_size o.place) (chain : GoesOnAtPlace o order)
+    (valid : IsSegmentSize (o.setup).seg_size)
+    (placed : IsPlace (o.setup).seg_size o.place) (chain : GoesOnAtPlace o order)
     (k : RingHolds o order reach memory flights)
     (pages : PagesHold (o.setup).ring_pages reach stage initialised written ends ring memory
     confirmed)
@@ -84,7 +84,7 @@ module _ {first : DiskState} (o : Opening) (order : List Entry) (reach : ℕ) (m
     (here : HasAt parts id x) (out : x.hold ≡ Out l) (same : l.writer ≡ writer)
     (to_write : IsToBeWritten n l) where
   of_view : (l.known ≤ end_form o.setup (order_end o order))
-      × IsCopiedBelow (o.setup).segment_size flights l.known
+      × IsCopiedBelow (o.setup).seg_size flights l.known
   of_view = (positions.views id x here).known l out
 
   pub memory_loaded : ring (ring_place o.setup n) ≡ memory n

@@ -3,13 +3,13 @@
 use Rattle.std.proofs.Common.{◌≡◌, ◌≢◌, ℕ, List, [], ◌∷◌, ◌++◌, map, set, sym, refl, ap, ◌∙◌, subst}
 use mathlib.Core.Option.{Option}
 use Rattle.wal_page.specs.Order.{Entry}
-use Rattle.wal_core.specs.Words.{lock_word, mapping_turn, write_turn, end_form, order_end, Opening}
-use Rattle.wal_core.specs.Views.{HasAt, Stage, Away, Hold, Idle, Plain, Working, Watching, View, working_of, watching_of, mapper_of, writer_of}
-use Rattle.wal_core.specs.Locked.{AreHeld, ProgressHolds, IsMappingTurn, IsWriteTurn}
-use Rattle.wal_core.specs.Watched.{WatchHolds}
-use Rattle.wal_core.specs.Moves.{after_split, split_off, after_join, spent, without_work, orphan_of}
-use Rattle.wal_core.specs.Steps.{IsResting}
-use Rattle.wal_core.proofs.Lists.{part_same, part_set, part_at, part_added}
+use Rattle.machine_state.specs.Words.{lock_word, mapping_turn, write_turn, end_form, order_end, Opening}
+use Rattle.machine_state.specs.Views.{HasAt, Stage, Away, Hold, Idle, Plain, Working, Watching, View, working_of, watching_of, mapper_of, writer_of}
+use Rattle.machine_state.specs.Locked.{AreHeld, ProgressHolds, IsMappingTurn, IsWriteTurn}
+use Rattle.machine_state.specs.Watched.{WatchHolds}
+use Rattle.machine_state.specs.Moves.{after_split, split_off, after_join, spent, without_work, orphan_of}
+use Rattle.machine_state.specs.Steps.{IsResting}
+use Rattle.machine_state.proofs.Lists.{part_same, part_set, part_at, part_added}
 use Rattle.machine_laws.specs.Locks.{idle, unwatching}
 use Rattle.machine_laws.specs.LocksBehind.{WorksHold, TurnsHold}
 use Rattle.machine_laws.proofs.HeldLaws.{held_added, held_taken_in, held_given_up}
@@ -44,7 +44,7 @@ module _ {W : Type 0} (f : View → W) (views : List View) (id : ℕ) (v : View)
 module _ (opening : Opening) (order : List Entry) (words : List ℕ) (views : List View) (id : ℕ)
     (v : View) (here : HasAt views id v) (k : WorksHold opening order words views) where
   abbrev size : ℕ
-  size = opening.setup.segment_size
+  size = opening.setup.seg_size
 
   abbrev works : List Working
   works = map working_of views

@@ -5,7 +5,7 @@ use Rattle.std.proofs.lemmas.List.Elements.{All-contains, All-contains_itself, A
 use mathlib.Core.Logic.{dite}
 use native.Mathlib.Decide.{ℕ_discrete}
 use Rattle.atomic_table.proofs.Lists.{set_again}
-use Rattle.wal_core.specs.Views.{HasAt}
+use Rattle.machine_state.specs.Views.{HasAt}
 
 -- ---- choices by an equality of numbers
 

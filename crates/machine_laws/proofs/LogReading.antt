@@ -17,9 +17,9 @@ use Rattle.segment_disk.proofs.Reading.{kept_write, kept_other_write}
 use Rattle.flush_core.proofs.StateLaws.{after_each}
 use Rattle.wal_page.specs.Order.{Entry}
 use Rattle.segment_disk.specs.ImageWords.{segment_word, zero_word}
-use Rattle.wal_core.specs.Positioned.{ReadsBelow}
-use Rattle.wal_core.specs.Ringed.{log_bytes_of}
-use Rattle.wal_core.specs.Words.{Opening}
+use Rattle.machine_state.specs.Positioned.{ReadsBelow}
+use Rattle.machine_state.specs.Ringed.{log_bytes_of}
+use Rattle.machine_state.specs.Words.{Opening}
 
 -- ---- a page of a segment, read behind a write
 
@@ -125,29 +125,29 @@ abbrev pub writing : ℕ → ℕ → ℕ → PageBytes → Bool → Call
 writing geometry segment page bytes done =
     record { geometry = geometry; segment = segment; kind = Write page bytes; done = done }
 
-module _ (opening : Opening) (valid : IsSegmentSize opening.setup.segment_size) (order : List Entry)
+module _ (opening : Opening) (valid : IsSegmentSize opening.setup.seg_size) (order : List Entry)
     (state : DiskState) where
   abbrev IsLogIn : ℕ → Option Segment → Type 0
-  IsLogIn address s = word_in opening.setup.segment_size s address
+  IsLogIn address s = word_in opening.setup.seg_size s address
       ≡ log_bytes_of opening order address
 
   behind_call : (high : ℕ) (call : Call)
-      → ((k : ℕ) → 8 * k < high → 8 * k / opening.setup.segment_size ≡ call.segment
+      → ((k : ℕ) → 8 * k < high → 8 * k / opening.setup.seg_size ≡ call.segment
       → IsLogIn (8 * k) (segment_after call.kind call.geometry call.done
-      (state (8 * k / opening.setup.segment_size))))
-      → ((k : ℕ) → 8 * k < high → 8 * k / opening.setup.segment_size ≢ call.segment
-      → IsLogIn (8 * k) (state (8 * k / opening.setup.segment_size)))
+      (state (8 * k / opening.setup.seg_size))))
+      → ((k : ℕ) → 8 * k < high → 8 * k / opening.setup.seg_size ≢ call.segment
+      → IsLogIn (8 * k) (state (8 * k / opening.setup.seg_size)))
       → ReadsBelow opening order high (after_call state call)
   behind_call high call here elsewhere k below =
-      after_each state call (IsLogIn (8 * k)) (8 * k / opening.setup.segment_size) (here k below)
+      after_each state call (IsLogIn (8 * k)) (8 * k / opening.setup.seg_size) (here k below)
       (elsewhere k below)
 
   pub ReadsBelow-create : (upto segment geometry : ℕ) (made done : Bool)
-      → upto ≤ segment * opening.setup.segment_size → ReadsBelow opening order upto state
+      → upto ≤ segment * opening.setup.seg_size → ReadsBelow opening order upto state
       → ReadsBelow opening order upto (after_call state (creating geometry segment made done))
   ReadsBelow-create upto segment geometry made done above reads =
       behind_call upto (creating geometry segment made done)
-      (λ k below same. absurd (below_segment opening.setup.segment_size valid (8 * k) segment
+      (λ k below same. absurd (below_segment opening.setup.seg_size valid (8 * k) segment
       (omega (arith, below, above)) same))
       (λ k below other. reads k below)
 
@@ -156,23 +156,23 @@ module _ (opening : Opening) (valid : IsSegmentSize opening.setup.segment_size) 
       → ReadsBelow opening order upto (after_call state (syncing geometry segment done))
   ReadsBelow-sync upto segment geometry done reads =
       behind_call upto (syncing geometry segment done)
-      (λ k below same. word_synced opening.setup.segment_size geometry (8 * k) done
-      (state (8 * k / opening.setup.segment_size)) ∙ reads k below)
+      (λ k below same. word_synced opening.setup.seg_size geometry (8 * k) done
+      (state (8 * k / opening.setup.seg_size)) ∙ reads k below)
       (λ k below other. reads k below)
 
   -- a page of the log is written: the words below an address on it, and those before it, are the
   -- log's
   module _ (segment page number low high geometry : ℕ) (bytes : PageBytes) (done : Bool)
-      (within : page < pages_of opening.setup.segment_size)
-      (number_is : segment * pages_of opening.setup.segment_size + page ≡ number)
+      (within : page < pages_of opening.setup.seg_size)
+      (number_is : segment * pages_of opening.setup.seg_size + page ≡ number)
       (there : IsSomeAnd (state segment)
-      (λ (s : Segment). s.pages ≡ pages_of opening.setup.segment_size))
+      (λ (s : Segment). s.pages ≡ pages_of opening.setup.seg_size))
       (reaches : number * 8192 ≤ low) (ends : high ≤ (number + 1) * 8192)
       (words : (n : ℕ) → n < 1024 → number * 8192 + 8 * n < high → word_of bytes.bytes n
       ≡ log_bytes_of opening order (number * 8192 + 8 * n))
       (reads : ReadsBelow opening order low state) where
     abbrev size : ℕ
-    size = opening.setup.segment_size
+    size = opening.setup.seg_size
 
     on_page : (k : ℕ) → 8 * k < high → 8 * k / 8192 ≡ number
         → IsLogIn (8 * k) (segment_after (Write page bytes) geometry done (state (8 * k / size)))

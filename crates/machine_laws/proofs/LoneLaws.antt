@@ -6,13 +6,13 @@ use mathlib.Core.Option.{Option}
 use native.Mathlib.Decide.{ℕ_discrete}
 use Rattle.segment_disk.specs.Tape.{DiskState}
 use Rattle.wal_page.specs.Order.{Entry}
-use Rattle.wal_core.specs.Words.{Opening, position_word, lock_word, mapping_turn, write_turn, down_word, order_end}
-use Rattle.wal_core.specs.Views.{HasAt, Away, Free, Hold, Idle, Joined, Plain, Reserving, Stage, View, Working, reserving_of, working_of, mapper_of, writer_of}
-use Rattle.wal_core.specs.Failed.{KnowsOfFault}
-use Rattle.wal_core.specs.Ordered.{entries_under, Role, active, spare, ended, unborn, IsUnused, TookIn}
-use Rattle.wal_core.specs.Locked.{HasTurn, HasWriteTurn}
-use Rattle.wal_core.specs.Sound.{IsSound}
-use Rattle.wal_core.proofs.Lists.{at_same, view_from}
+use Rattle.machine_state.specs.Words.{Opening, position_word, lock_word, mapping_turn, write_turn, down_word, order_end}
+use Rattle.machine_state.specs.Views.{HasAt, Away, Free, Hold, Idle, Joined, Plain, Reserving, Stage, View, Working, reserving_of, working_of, mapper_of, writer_of}
+use Rattle.machine_state.specs.Failed.{KnowsOfFault}
+use Rattle.machine_state.specs.Ordered.{entries_under, Role, active, spare, ended, unborn, IsUnused, TookIn}
+use Rattle.machine_state.specs.Locked.{HasTurn, HasWriteTurn}
+use Rattle.machine_state.specs.Sound.{IsSound}
+use Rattle.machine_state.proofs.Lists.{at_same, view_from}
 use Rattle.machine_laws.specs.LonePasses.{HasAllThatIsHeld, HasSameEntries, IsLone}
 use Rattle.machine_laws.specs.SharedOrders.{HasItsPart, OrderIsShared}
 use Rattle.machine_laws.specs.SoundLocks.{HasMappingTurn, HasTurnToWrite, HoldsLock}

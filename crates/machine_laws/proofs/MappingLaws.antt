@@ -2,12 +2,12 @@
 -- turn's word, a view's stage, or the views that there are. A mapper is a view's number and stage.
 use Rattle.std.proofs.Common.{◌⊎◌, inl, inr, Bool, cond, eqb, ◌≡◌, ◌≢◌, ℕ, ◌+◌, List, [], ◌∷◌, ◌++◌, set, sym, refl, ap, ◌∙◌, subst, arith}
 use Rattle.atomic_table.proofs.Lists.{at_longer, set_again}
-use Rattle.wal_core.specs.Views.{HasAt, Stage, Away, Taken, Looked, Ready, Zeroing, Published, View, mapper_of}
-use Rattle.wal_core.specs.Locked.{HasTurn, IsMappingTurn}
-use Rattle.wal_core.specs.Paged.{IsOpen}
-use Rattle.wal_core.specs.Moves.{looked, ready, with_stage, after_take_mapping_turn}
-use Rattle.wal_core.specs.Steps.{exchanged}
-use Rattle.wal_core.proofs.Lists.{one_set, one_added, at_place}
+use Rattle.machine_state.specs.Views.{HasAt, Stage, Away, Taken, Looked, Ready, Zeroing, Published, View, mapper_of}
+use Rattle.machine_state.specs.Locked.{HasTurn, IsMappingTurn}
+use Rattle.machine_state.specs.Paged.{IsOpen}
+use Rattle.machine_state.specs.Moves.{looked, ready, with_stage, after_take_mapping_turn}
+use Rattle.machine_state.specs.Steps.{exchanged}
+use Rattle.machine_state.proofs.Lists.{one_set, one_added, at_place}
 use Rattle.machine_laws.proofs.LocksKept.{met_cases, two_set_again}
 
 pub open_has : (s : Stage) → IsOpen s → HasTurn s

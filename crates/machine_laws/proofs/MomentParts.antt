@@ -2,9 +2,9 @@
 use Rattle.std.proofs.Common.{◌≡◌, ◌≢◌, ℕ, ◌<◌, ◌≤◌, All, List, [], ◌∷◌, ◌++◌, length, set, refl, sym, ◌∙◌, subst, arith}
 use Rattle.std.proofs.lemmas.List.Elements.{All-append, All-cons, All-nil}
 use Rattle.wal_page.specs.Order.{Entry, finish_of}
-use Rattle.wal_core.specs.Words.{Opening}
-use Rattle.wal_core.specs.Views.{HasAt, FlushPromise, Joined, Plain}
-use Rattle.wal_core.proofs.Lists.{one_added, one_set}
+use Rattle.machine_state.specs.Words.{Opening}
+use Rattle.machine_state.specs.Views.{HasAt, FlushPromise, Joined, Plain}
+use Rattle.machine_state.proofs.Lists.{one_added, one_set}
 use Rattle.machine_laws.specs.RisingMoments.{LogsRise, Promised, PromisesRise, NextRises, RisesForEach, RisesHold, with_opening}
 use Rattle.machine_laws.proofs.MomentRises.{next_first, next_grown, next_later, next_told, next_weaker, promises_first, promises_grown, promises_told}
 
@@ -149,7 +149,7 @@ module _ (opening : Opening) where
 
     -- a part has an entry more, which ends above all that is written, and all that was promised
     pub grows : (id : ℕ) (x : Promised) → HasAt parts id x → (e : Entry)
-        → flushed ≤ writer.written → writer.written < finish_of (opening.setup).segment_size e
+        → flushed ≤ writer.written → writer.written < finish_of (opening.setup).seg_size e
         → ((j : ℕ) (y : Promised) → HasAt parts j y → y.hard ≤ writer.written)
         → All (λ (p : FlushPromise). p.upto ≤ flushed) (with_opening opening x.promises)
         → RisesHold opening flushed moment writer (set parts id (with_entry e x))

@@ -5,8 +5,8 @@ use Rattle.std.proofs.lemmas.List.Elements.{All-cons, All-nil, All-push, All-wea
 use Rattle.std.proofs.lemmas.List.Quantifiers.{all_pairs_push}
 use Rattle.std.proofs.lemmas.Option.{none-some, slice_get_past}
 use Rattle.wal_page.specs.Order.{Entry, finish_of}
-use Rattle.wal_core.specs.Words.{Opening}
-use Rattle.wal_core.specs.Views.{FlushPromise}
+use Rattle.machine_state.specs.Words.{Opening}
+use Rattle.machine_state.specs.Views.{FlushPromise}
 use Rattle.machine_laws.specs.RisingMoments.{RisesAbove, Rises, with_opening, PromisesRise, NextRises}
 
 -- what is found in a longer list was there, or is the new one
@@ -58,7 +58,7 @@ module _ (size : ℕ) (es : List Entry) where
 
 module _ (opening : Opening) (es : List Entry) (ps : List FlushPromise) where
   abbrev size : ℕ
-  size = (opening.setup).segment_size
+  size = (opening.setup).seg_size
 
   abbrev Next : ℕ → ℕ → Type 0
   Next upto moment = NextRises opening es ps upto moment
@@ -111,13 +111,13 @@ pub next_first : (opening : Opening) (upto moment : ℕ) → opening.moment ≤ 
     → NextRises opening [] [] upto moment
 next_first opening upto moment late =
     let first : FlushPromise = record {
-      upto = (opening.setup).segment_size;
+      upto = (opening.setup).seg_size;
       moment = opening.moment;
       entries = 0;
     } in
-    All-cons (λ p. RisesAbove (opening.setup).segment_size [] p upto moment) first []
-    (above_last (opening.setup).segment_size [] first upto moment (omega arith) late)
-    (All-nil (λ p. RisesAbove (opening.setup).segment_size [] p upto moment))
+    All-cons (λ p. RisesAbove (opening.setup).seg_size [] p upto moment) first []
+    (above_last (opening.setup).seg_size [] first upto moment (omega arith) late)
+    (All-nil (λ p. RisesAbove (opening.setup).seg_size [] p upto moment))
 
 pub promises_first : (opening : Opening) → PromisesRise opening [] []
 promises_first opening = λ i j d before within. absurd (omega arith)

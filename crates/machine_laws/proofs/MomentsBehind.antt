@@ -9,17 +9,17 @@ use Rattle.byte_position.proofs.SegmentSizes.{segment_size_in_pages}
 use Rattle.wal_types.specs.declared.record.Record.{Record}
 use Rattle.wal_page.specs.Order.{Entry, position_behind}
 use Rattle.wal_page.proofs.OrderLaws.{room_at-pos}
-use Rattle.wal_core.specs.Words.{flushed_word, moment_word, write_turn, mapping_turn_number, write_turn_number, flushed_number, moment_number, lock_number, order_end, last_start}
-use Rattle.wal_core.specs.Views.{HasAt, FlushPromise, Place, Locked, Plain, Lent, Hold, Idle, Turned, Out, Taken, View, reserving_of, receipts_of, working_of, writer_of, writing_of}
-use Rattle.wal_core.specs.Ordered.{AtPlace}
-use Rattle.wal_core.specs.Locked.{StandsTo}
-use Rattle.wal_core.specs.Durable.{IsPromised}
-use Rattle.wal_core.specs.Moves.{CallOutcome, Done, Failed, after_store_position, after_write, entry_reserved, hardened, with_hold, with_lent, with_outcome, with_place, with_stage, with_working}
+use Rattle.machine_state.specs.Words.{flushed_word, moment_word, write_turn, mapping_turn_number, write_turn_number, flushed_number, moment_number, lock_number, order_end, last_start}
+use Rattle.machine_state.specs.Views.{HasAt, FlushPromise, Place, Locked, Plain, Lent, Hold, Idle, Turned, Out, Taken, View, reserving_of, receipts_of, working_of, writer_of, writing_of}
+use Rattle.machine_state.specs.Ordered.{AtPlace}
+use Rattle.machine_state.specs.Locked.{StandsTo}
+use Rattle.machine_state.specs.Durable.{IsPromised}
+use Rattle.machine_state.specs.Moves.{CallOutcome, Done, Failed, after_store_position, after_write, entry_reserved, hardened, with_hold, with_lent, with_outcome, with_place, with_stage, with_working}
 use Rattle.segment_disk.specs.declared.disk.Call.{Call}
-use Rattle.wal_core.specs.Steps.{StepKind, MayStep, word_of_step, value_behind, number_lent, load_position, take_write_turn, slot_out, slot_in, release_write_turn, lock_position, load_prev, store_prev, store_position, give_position_back, stay, load_lock, take_lock, advance, release, load_buffer_end, store_ring_word, load_ring_word, load_written, load_flushed, load_moment, load_down, store_written, store_moment, store_flushed, set_down, load_async, raise_async, take_mapping_turn, load_initialised_end, clear_end, zero_ring_word, publish_end, publish_initialised_end, release_mapping_turn, create, write, sync, with_slot, with_call_on}
-use Rattle.wal_core.specs.Sound.{IsSound}
-use Rattle.wal_core.proofs.Lists.{part_at, part_same, part_set, view_from}
-use Rattle.wal_core.proofs.WordLists.{single_set, word_again, word_else}
+use Rattle.machine_state.specs.Steps.{StepKind, MayStep, word_of_step, value_behind, number_lent, load_position, take_write_turn, slot_out, slot_in, release_write_turn, lock_position, load_prev, store_prev, store_position, give_position_back, stay, load_lock, take_lock, advance, release, load_buffer_end, store_ring_word, load_ring_word, load_written, load_flushed, load_moment, load_down, store_written, store_moment, store_flushed, set_down, load_async, raise_async, take_mapping_turn, load_initialised_end, clear_end, zero_ring_word, publish_end, publish_initialised_end, release_mapping_turn, create, write, sync, with_slot, with_call_on}
+use Rattle.machine_state.specs.Sound.{IsSound}
+use Rattle.machine_state.proofs.Lists.{part_at, part_same, part_set, view_from}
+use Rattle.machine_state.proofs.WordLists.{single_set, word_again, word_else}
 use Rattle.machine_laws.specs.LocksBehind.{view_left, views_behind, words_behind, writer_behind}
 use Rattle.machine_laws.specs.RisingMoments.{MomentsKeepRising, Promised, RisesHold, hard_in, hard_moment_in, promised_of, with_opening}
 use Rattle.machine_laws.proofs.MomentRises.{next_weaker}
@@ -94,7 +94,7 @@ module _ {first : DiskState} (words : List ℕ) (home : Option Plain) (views : L
     (k : IsSound first v.opening words home views) (here : HasAt views id v)
     (live : (v.reserving).live ≡ true) (now : MomentsKeepRising v.opening words home views k) where
   abbrev size : ℕ
-  size = ((v.opening).setup).segment_size
+  size = ((v.opening).setup).seg_size
 
   abbrev parts : List Promised
   parts = map promised_of views

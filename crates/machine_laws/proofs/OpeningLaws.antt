@@ -18,27 +18,27 @@ use Rattle.wal_page.proofs.WordPositions.{end_address_of-first_position}
 use Rattle.wal_page.proofs.PlaceLaws.{word_from-before, word_from-behind}
 use Rattle.byte_position.proofs.EndAddresses.{end_address_of-mono}
 use Rattle.byte_position.proofs.Words.{end_address_of-mod_word}
-use Rattle.wal_core.specs.declared.setup.Setup.{Setup}
-use Rattle.wal_core.specs.Words.{end_form, order_end, Opening, position_word, prev_word, lock_word, mapping_turn, write_turn, initialised_word, written_word, flushed_word, moment_word, down_word, end_word, word_of_ring, async_word, found_end, found_position, mapping_turn_number, write_turn_number, lock_number}
-use Rattle.wal_core.specs.Views.{HasAt, Plain, Away, Landed, Copying, IsLoadedLast, Out, AreSomeOf, View, mapper_of, receipts_of, writer_of}
-use Rattle.wal_core.specs.Opened.{AreFirstWords, IsFirstWriter, IsOpenable, first_view}
-use Rattle.wal_core.specs.Ordered.{HasLive, IsUnused, OrderHolds, Role, active, spare, ended, unborn}
-use Rattle.wal_core.specs.Locked.{LocksHold, ProgressHolds, StandsAlone, SwitchesStandAlone, most_told}
-use Rattle.wal_core.specs.Ringed.{RingHolds, IsOfOrder, log_word_of, log_bytes_of}
-use Rattle.wal_core.specs.Paged.{PagesHold}
-use Rattle.wal_core.specs.Watched.{IsCopiedToBound, WatchHolds}
-use Rattle.wal_core.specs.Positioned.{PositionsHold}
-use Rattle.wal_core.specs.Growing.{AllOnlyAdd, IsZeroOr}
-use Rattle.wal_core.specs.Reading.{IsLoadedRightly, ReadingHolds}
+use Rattle.machine_state.specs.declared.setup.Setup.{Setup}
+use Rattle.machine_state.specs.Words.{end_form, order_end, Opening, position_word, prev_word, lock_word, mapping_turn, write_turn, initialised_word, written_word, flushed_word, moment_word, down_word, end_word, word_of_ring, async_word, found_end, found_position, mapping_turn_number, write_turn_number, lock_number}
+use Rattle.machine_state.specs.Views.{HasAt, Plain, Away, Landed, Copying, IsLoadedLast, Out, AreSomeOf, View, mapper_of, receipts_of, writer_of}
+use Rattle.machine_state.specs.Opened.{AreFirstWords, IsFirstWriter, IsOpenable, first_view}
+use Rattle.machine_state.specs.Ordered.{HasLive, IsUnused, OrderHolds, Role, active, spare, ended, unborn}
+use Rattle.machine_state.specs.Locked.{LocksHold, ProgressHolds, StandsAlone, SwitchesStandAlone, most_told}
+use Rattle.machine_state.specs.Ringed.{RingHolds, IsOfOrder, log_word_of, log_bytes_of}
+use Rattle.machine_state.specs.Paged.{PagesHold}
+use Rattle.machine_state.specs.Watched.{IsCopiedToBound, WatchHolds}
+use Rattle.machine_state.specs.Positioned.{PositionsHold}
+use Rattle.machine_state.specs.Growing.{AllOnlyAdd, IsZeroOr}
+use Rattle.machine_state.specs.Reading.{IsLoadedRightly, ReadingHolds}
 use Rattle.machine_laws.proofs.AloneBehind.{landed_alone}
 use Rattle.machine_laws.proofs.Buffers.{one_page}
-use Rattle.wal_core.specs.Durable.{DurabilityHolds, one_if_some, IsToldRightly, IsLawfulAt, IsLogBelow}
+use Rattle.machine_state.specs.Durable.{DurabilityHolds, one_if_some, IsToldRightly, IsLawfulAt, IsLogBelow}
 use Rattle.segment_disk.specs.DiskImage.{image_as_read, word_of}
 use Rattle.segment_disk.specs.declared.disk.Call.{Call}
 use Rattle.segment_disk.specs.Tape.{DiskState, Segment, Tape, after_calls, page_as_read, state_at, state_now}
 use Rattle.std.proofs.Math.Seq.{take-length}
 use Rattle.flush_core.specs.Pages.{HoldsNothing}
-use Rattle.wal_core.specs.Suited.{BeganSuited, IsLogAt, IsSuited, tape_from}
+use Rattle.machine_state.specs.Suited.{BeganSuited, IsLogAt, IsSuited, tape_from}
 use Rattle.segment_disk.specs.ImageWords.{segment_word, zero_word}
 use Rattle.flush_core.proofs.LeftLaws.{read_word}
 use Rattle.machine_laws.proofs.SegmentStates.{SegmentAssures-weaker}
@@ -47,10 +47,10 @@ use Rattle.flush_core.proofs.LeftLaws.{TapeAssures-now}
 use Rattle.std.proofs.lemmas.Option.{IfSome_then}
 use Rattle.std.proofs.Math.Nat.{div-lt_iff_lt-mul}
 use Rattle.std.proofs.lemmas.Nat.{div-add-mod'}
-use Rattle.wal_core.specs.Async.{AsyncHolds}
-use Rattle.wal_core.specs.Aligned.{AlignmentHolds, LearnsAligned}
-use Rattle.wal_core.specs.Sound.{IsSetup, IsSound}
-use Rattle.wal_core.proofs.Tapes.{counted_tape}
+use Rattle.machine_state.specs.Async.{AsyncHolds}
+use Rattle.machine_state.specs.Aligned.{AlignmentHolds, LearnsAligned}
+use Rattle.machine_state.specs.Sound.{IsSetup, IsSound}
+use Rattle.machine_state.proofs.Tapes.{counted_tape}
 use Rattle.machine_laws.proofs.DurableSegments.{found_in_turn}
 
 -- what holds of the one element of a list holds of each
@@ -186,16 +186,16 @@ module _ (opening : Opening) (words : List ℕ) (writer : Plain) (log : IsOpenab
     };
   }
 
-  progress_begins : ProgressHolds setup.segment_size (end_form setup (order_end opening none))
+  progress_begins : ProgressHolds setup.seg_size (end_form setup (order_end opening none))
       (lock_word words) (view.working ∷ [])
   progress_begins = λ id i w at. only_one view.working
       (λ j u. Contains u.locks i → lock_word words i
-      ≤ most_told setup.segment_size (end_form setup (order_end opening none)) i u.flight)
+      ≤ most_told setup.seg_size (end_form setup (order_end opening none)) i u.flight)
       (λ has. let none = has.1 in absurd (omega arith)) id w at
 
-  alone_begins : SwitchesStandAlone setup.segment_size (view.working ∷ [])
-  alone_begins = only_one view.working (λ j u. StandsAlone setup.segment_size u.flight)
-      (landed_alone setup.segment_size)
+  alone_begins : SwitchesStandAlone setup.seg_size (view.working ∷ [])
+  alone_begins = only_one view.working (λ j u. StandsAlone setup.seg_size u.flight)
+      (landed_alone setup.seg_size)
 
   -- how many pages lie below the one in which the log that was none ends, and the first page
   -- behind the ring's
@@ -207,16 +207,16 @@ module _ (opening : Opening) (words : List ℕ) (writer : Plain) (log : IsOpenab
 
   -- the log ends at a word, behind where it begins
   end_aligned : end % 8 ≡ 0
-  end_aligned = end_address_of-mod_word setup.segment_size valid.size (found_position opening)
+  end_aligned = end_address_of-mod_word setup.seg_size valid.size (found_position opening)
       log.placed.whole
 
-  end_high : setup.segment_size ≤ end
+  end_high : setup.seg_size ≤ end
   end_high =
-      let up : first_position setup.segment_size ≤ found_position opening =
+      let up : first_position setup.seg_size ≤ found_position opening =
       omega (arith, log.placed.from) in
-      let start = end_address_of-first_position setup.segment_size valid.size in
-      let rises = end_address_of-mono setup.segment_size valid.size
-      (first_position setup.segment_size) (found_position opening) up in
+      let start = end_address_of-first_position setup.seg_size valid.size in
+      let rises = end_address_of-mono setup.seg_size valid.size
+      (first_position setup.seg_size) (found_position opening) up in
       omega (arith, start, rises)
 
   -- the log's words in memory
@@ -225,11 +225,11 @@ module _ (opening : Opening) (words : List ℕ) (writer : Plain) (log : IsOpenab
 
   -- behind its end, and below its start, there is none
   none_behind : (k : ℕ) → end ≤ 8 * k → memory k ≡ 0
-  none_behind k behind = word_from-behind setup.segment_size setup.sysid valid.size opening.place
+  none_behind k behind = word_from-behind setup.seg_size setup.sysid valid.size opening.place
       none tt (8 * k) (omega (arith, none_ends_there, behind))
 
-  none_before : (k : ℕ) → 8 * k < setup.segment_size → memory k ≡ 0
-  none_before k before = word_from-before setup.segment_size setup.sysid valid.size opening.place
+  none_before : (k : ℕ) → 8 * k < setup.seg_size → memory k ≡ 0
+  none_before k before = word_from-before setup.seg_size setup.sysid valid.size opening.place
       log.placed none (8 * k) before
 
   ring_begins : RingHolds opening none reach memory (Landed ∷ [])
@@ -273,12 +273,12 @@ module _ (opening : Opening) (words : List ℕ) (writer : Plain) (log : IsOpenab
         mapping = (refl, zeroed.initialised);
       }
 
-  watching_begins : WatchHolds setup.segment_size (end_form setup (order_end opening none)) (view.working ∷ []) (view.watching ∷ [])
+  watching_begins : WatchHolds setup.seg_size (end_form setup (order_end opening none)) (view.working ∷ []) (view.watching ∷ [])
   watching_begins = record {
     reserved = only_one view.watching (λ id x. (x.end ≤ end_form setup (order_end opening none)) × (x.bound ≤ x.end))
         (omega arith, omega arith);
     behind = λ id j x w at there. only_one view.watching
-        (λ i y. IsCopiedToBound setup.segment_size y w)
+        (λ i y. IsCopiedToBound setup.seg_size y w)
         (λ c is under starts. omega arith) id x at;
   }
 
@@ -326,46 +326,46 @@ module _ (opening : Opening) (words : List ℕ) (writer : Plain) (log : IsOpenab
   WasMade segment = (1 ≤ segment) × (segment ≤ opening.made)
 
   abbrev Holds : ℕ → Option Segment → Type 0
-  Holds n o = SegmentAssures setup.segment_size WasMade (IsLogAt opening none) n o
+  Holds n o = SegmentAssures setup.seg_size WasMade (IsLogAt opening none) n o
 
   -- the segments that have bytes of it were made
-  made_below : (n upto : ℕ) → upto ≡ end → IsMadeUpto setup.segment_size upto n → WasMade n
+  made_below : (n upto : ℕ) → upto ≡ end → IsMadeUpto setup.seg_size upto n → WasMade n
   made_below n upto is made =
       let high = end_high in
       let within = log.reaches in
-      let some_size : 0 < setup.segment_size
-      = (let pages = segment_size_in_pages setup.segment_size valid.size in
+      let some_size : 0 < setup.seg_size
+      = (let pages = segment_size_in_pages setup.seg_size valid.size in
       omega (arith, pages.0, pages.1)) in
-      let quotient : (upto - 1) / setup.segment_size < opening.made + 1
+      let quotient : (upto - 1) / setup.seg_size < opening.made + 1
       = (div-lt_iff_lt-mul some_size).1 (omega arith) in
       (made.0, omega (arith, made.1, quotient))
 
   -- so the log is durable up to there
   firm_now : (upto : ℕ) → upto ≡ end → (t : Tape) → IsSuited opening (state_now t) → (n : ℕ)
-      → SegmentAssures setup.segment_size (IsMadeUpto setup.segment_size upto)
+      → SegmentAssures setup.seg_size (IsMadeUpto setup.seg_size upto)
       (IsLogBelow opening none upto) n (state_now t n)
-  firm_now upto is t suited n = SegmentAssures-weaker setup.segment_size WasMade
-      (IsMadeUpto setup.segment_size upto) (IsLogAt opening none) (IsLogBelow opening none upto) n
+  firm_now upto is t suited n = SegmentAssures-weaker setup.seg_size WasMade
+      (IsMadeUpto setup.seg_size upto) (IsLogAt opening none) (IsLogBelow opening none upto) n
       (λ made. made_below n upto is made) (λ page word within low bytes own below. own)
       (state_now t n) (suited n)
 
   lawful_now : (t : Tape) → IsSuited opening (state_now t) → (n : ℕ)
-      → SegmentAssures setup.segment_size IsNowhere (IsLawfulAt opening none) n (state_now t n)
-  lawful_now t suited n = SegmentAssures-weaker setup.segment_size WasMade IsNowhere
+      → SegmentAssures setup.seg_size IsNowhere (IsLawfulAt opening none) n (state_now t n)
+  lawful_now t suited n = SegmentAssures-weaker setup.seg_size WasMade IsNowhere
       (IsLogAt opening none) (IsLawfulAt opening none) n (λ nowhere. absurd nowhere)
       (λ page word within low bytes own. inr own) (state_now t n) (suited n)
 
   there_now : (n : ℕ) (o : Option Segment) → Holds n o → WasMade n
-      → IsSomeAnd o (λ (s : Segment). s.pages ≡ pages_of setup.segment_size)
+      → IsSomeAnd o (λ (s : Segment). s.pages ≡ pages_of setup.seg_size)
   there_now n None holds made = absurd (holds made)
   there_now n (Some s) holds made = holds.0
 
   -- as it is read, the disk holds the log in each segment that is there
-  read_there : (k : ℕ) (s : Segment) → Holds (8 * k / setup.segment_size) (Some s)
-      → segment_word (image_as_read (λ (n : ℕ). Some s) 0) (8 * k % setup.segment_size)
+  read_there : (k : ℕ) (s : Segment) → Holds (8 * k / setup.seg_size) (Some s)
+      → segment_word (image_as_read (λ (n : ℕ). Some s) 0) (8 * k % setup.seg_size)
       ≡ log_bytes_of opening none (8 * k)
   read_there k s holds =
-      let size = setup.segment_size in
+      let size = setup.seg_size in
       let whole = segment_size_in_pages size valid.size in
       let n = 8 * k / size in
       let offset = 8 * k % size in
@@ -388,11 +388,11 @@ module _ (opening : Opening) (words : List ℕ) (writer : Plain) (log : IsOpenab
 
   -- as it is read, the disk holds the log below its end
   reads_now : (k : ℕ) → 8 * k < end → (o : Option Segment)
-      → Holds (8 * k / setup.segment_size) o
-      → segment_word (image_as_read (λ (n : ℕ). o) 0) (8 * k % setup.segment_size)
+      → Holds (8 * k / setup.seg_size) o
+      → segment_word (image_as_read (λ (n : ℕ). o) 0) (8 * k % setup.seg_size)
       ≡ log_bytes_of opening none (8 * k)
   reads_now k below None holds =
-      let size = setup.segment_size in
+      let size = setup.seg_size in
       let high = log.reaches in
       let some_size : 0 < size = (let pages = segment_size_in_pages size valid.size in
       omega (arith, pages.0, pages.1)) in
@@ -408,9 +408,9 @@ module _ (opening : Opening) (words : List ℕ) (writer : Plain) (log : IsOpenab
   reads_now k below (Some s) holds = read_there k s holds
 
   -- and nothing but zeros in each other one
-  reads_at_most : (k : ℕ) (o : Option Segment) → Holds (8 * k / setup.segment_size) o
+  reads_at_most : (k : ℕ) (o : Option Segment) → Holds (8 * k / setup.seg_size) o
       → IsZeroOr (to_le_bytes w64 (log_word_of opening none (8 * k)))
-      (segment_word (image_as_read (λ (n : ℕ). o) 0) (8 * k % setup.segment_size))
+      (segment_word (image_as_read (λ (n : ℕ). o) 0) (8 * k % setup.seg_size))
   reads_at_most k None holds = inl refl
   reads_at_most k (Some s) holds = inr (read_there k s holds)
 
@@ -433,12 +433,12 @@ module _ (opening : Opening) (words : List ℕ) (writer : Plain) (log : IsOpenab
           at_home = λ home up. omega arith;
           reserved = omega (arith, none_ends_there, at_start);
           copied = λ id c at left. only_one Landed (λ j u. u ≡ Copying c
-              → writer.written ≤ address_of_word setup.segment_size c.entry c.copied) (λ is. absurd
+              → writer.written ≤ address_of_word setup.seg_size c.entry c.copied) (λ is. absurd
               (cc)) id (Copying c) at refl;
           reads = IfSome_then (tape_from first writer.calls) counted (λ t count suited k below.
               let held = suited_now t count suited in
               reads_now k (omega (arith, below, at_start))
-              (state_now t (8 * k / setup.segment_size)) (held (8 * k / setup.segment_size)));
+              (state_now t (8 * k / setup.seg_size)) (held (8 * k / setup.seg_size)));
           views = only_one view.writing _ (record {
             written_met = omega arith;
             flushed_met = omega arith;
@@ -451,13 +451,13 @@ module _ (opening : Opening) (words : List ℕ) (writer : Plain) (log : IsOpenab
         (view.writing ∷ [])
     reading_begins = record {
       adds = IfSome_then (tape_from first writer.calls) counted (λ t count suited.
-          subst (λ (calls : List Call). AllOnlyAdd setup.segment_size
+          subst (λ (calls : List Call). AllOnlyAdd setup.seg_size
           (state_at t opening.moment) calls)
           (sym (drop_all opening.moment t.calls (omega (arith, count, begins.moment_is)))) tt);
       reads = IfSome_then (tape_from first writer.calls) counted (λ t count suited k.
           let held = suited_now t count suited in
-          reads_at_most k (state_now t (8 * k / setup.segment_size))
-          (held (8 * k / setup.segment_size)));
+          reads_at_most k (state_now t (8 * k / setup.seg_size))
+          (held (8 * k / setup.seg_size)));
       staged = λ id x l at. only_one view.writing
           (λ j u. u.hold ≡ Out l → (k word : ℕ) → IsLoadedLast k word l.staged
           → IsLoadedRightly first opening (λ n. log_word_of opening none (8 * n)) writer k word)
@@ -484,22 +484,22 @@ module _ (opening : Opening) (words : List ℕ) (writer : Plain) (log : IsOpenab
       moment_low = (let moment = zeroed.moment in let same = begins.moment_is in omega arith);
       begun = (let moment = zeroed.moment in omega arith);
       reached = (let written = begins.written in let made = begins.made in let high = log.reaches in
-          let same : writer.made * setup.segment_size ≡ opening.made * setup.segment_size
-          = ap (λ (n : ℕ). n * setup.segment_size) made in omega arith);
+          let same : writer.made * setup.seg_size ≡ opening.made * setup.seg_size
+          = ap (λ (n : ℕ). n * setup.seg_size) made in omega arith);
       made = found_in_turn opening writer begins.made (IfSome_then writer.calls begins.counted
           (λ calls count. sym begins.moment_is ∙ count));
       lawful = IfSome_then (tape_from first writer.calls) counted (λ t count suited.
-          TapeAssures-now setup.segment_size IsNowhere (IsLawfulAt opening none) opening.moment t
+          TapeAssures-now setup.seg_size IsNowhere (IsLawfulAt opening none) opening.moment t
           (sym begins.moment_is ∙ count)
           (lawful_now t (suited_now t count suited)));
       found_low = omega (arith, zeroed.flushed);
       found = IfSome_then (tape_from first writer.calls) counted (λ t count suited.
-          TapeAssures-now setup.segment_size (IsMadeUpto setup.segment_size end)
+          TapeAssures-now setup.seg_size (IsMadeUpto setup.seg_size end)
           (IsLogBelow opening none end) opening.moment t (sym begins.moment_is ∙ count)
           (firm_now end refl t (suited_now t count suited)));
       firm = IfSome_then (tape_from first writer.calls) counted (λ t count suited.
-          TapeAssures-now setup.segment_size
-          (IsMadeUpto setup.segment_size (flushed_word words))
+          TapeAssures-now setup.seg_size
+          (IsMadeUpto setup.seg_size (flushed_word words))
           (IsLogBelow opening none (flushed_word words)) (moment_word words) t
           (zeroed.moment ∙ sym begins.moment_is ∙ count)
           (firm_now (flushed_word words) zeroed.flushed t (suited_now t count suited)));
@@ -524,10 +524,10 @@ suited_begins first opening writer none_made begins holds = both (tape_from firs
     (counted_tape first writer.moment writer.calls begins.counted) holds
   where
     nothing_is : (o : Option Segment) (n : ℕ) → o ≡ None
-        → SegmentAssures (opening.setup).segment_size
+        → SegmentAssures (opening.setup).seg_size
         (λ segment. (1 ≤ segment) × (segment ≤ opening.made))
         (IsLogAt opening []) n o
-    nothing_is o n is = subst (SegmentAssures (opening.setup).segment_size
+    nothing_is o n is = subst (SegmentAssures (opening.setup).seg_size
         (λ segment. (1 ≤ segment) × (segment ≤ opening.made))
         (IsLogAt opening []) n) (sym is) (λ made. omega (arith, made.0, made.1))
 

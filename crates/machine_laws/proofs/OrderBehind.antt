@@ -2,14 +2,14 @@
 use Rattle.std.proofs.Common.{◌≡◌, ℕ, ◌≤◌, true, List, [], ◌∷◌, ◌++◌, map, set, slice_index, refl, sym, subst, arith, eqb}
 use mathlib.Core.Option.{Option, none, some}
 use Rattle.wal_page.specs.Order.{Entry}
-use Rattle.wal_core.specs.Words.{position_word, prev_word, flushed_word, mapping_turn_number, write_turn_number, lock_number}
-use Rattle.wal_core.specs.Views.{HasAt, Plain, Reserving, Hold, Idle, Turned, Out, Taken, View, reserving_of}
-use Rattle.wal_core.specs.Ordered.{OrderHolds}
-use Rattle.wal_core.specs.Moves.{with_hold, with_stage, with_working}
-use Rattle.wal_core.specs.Steps.{StepKind, MayStep, word_of_step, number_lent, load_position, take_write_turn, slot_out, slot_in, release_write_turn, lock_position, load_prev, store_prev, store_position, give_position_back, stay, load_lock, take_lock, advance, release, load_buffer_end, store_ring_word, load_ring_word, load_written, load_flushed, load_moment, load_down, store_written, store_moment, store_flushed, set_down, load_async, raise_async, take_mapping_turn, load_initialised_end, clear_end, zero_ring_word, publish_end, publish_initialised_end, release_mapping_turn, create, write, sync, with_slot, with_call_on}
-use Rattle.wal_core.specs.Sound.{IsSound}
-use Rattle.wal_core.proofs.Lists.{part_at, part_set}
-use Rattle.wal_core.proofs.WordLists.{single_set, word_else}
+use Rattle.machine_state.specs.Words.{position_word, prev_word, flushed_word, mapping_turn_number, write_turn_number, lock_number}
+use Rattle.machine_state.specs.Views.{HasAt, Plain, Reserving, Hold, Idle, Turned, Out, Taken, View, reserving_of}
+use Rattle.machine_state.specs.Ordered.{OrderHolds}
+use Rattle.machine_state.specs.Moves.{with_hold, with_stage, with_working}
+use Rattle.machine_state.specs.Steps.{StepKind, MayStep, word_of_step, number_lent, load_position, take_write_turn, slot_out, slot_in, release_write_turn, lock_position, load_prev, store_prev, store_position, give_position_back, stay, load_lock, take_lock, advance, release, load_buffer_end, store_ring_word, load_ring_word, load_written, load_flushed, load_moment, load_down, store_written, store_moment, store_flushed, set_down, load_async, raise_async, take_mapping_turn, load_initialised_end, clear_end, zero_ring_word, publish_end, publish_initialised_end, release_mapping_turn, create, write, sync, with_slot, with_call_on}
+use Rattle.machine_state.specs.Sound.{IsSound}
+use Rattle.machine_state.proofs.Lists.{part_at, part_set}
+use Rattle.machine_state.proofs.WordLists.{single_set, word_else}
 use Rattle.machine_laws.specs.OrderParts.{TakesPart, HoldsWith}
 use Rattle.machine_laws.proofs.OrderKept as order
 use Rattle.machine_laws.proofs.PositionKept.{flushed_is_reserved, hard_is_reserved}

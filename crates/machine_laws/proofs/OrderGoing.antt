@@ -3,9 +3,9 @@
 use Rattle.std.proofs.Common.{◌≡◌, ◌≢◌, ℕ, true, Contains, List, [], ◌∷◌, ◌++◌, set, refl, sym, ◌∙◌, subst}
 use mathlib.Core.Logic.{dite}
 use native.Mathlib.Decide.{ℕ_discrete}
-use Rattle.wal_core.specs.Views.{HasAt, Free, Joined, Reserving}
-use Rattle.wal_core.specs.Ordered.{HasLive, TookIn}
-use Rattle.wal_core.proofs.Lists.{at_same, at_place, at_else, at_front}
+use Rattle.machine_state.specs.Views.{HasAt, Free, Joined, Reserving}
+use Rattle.machine_state.specs.Ordered.{HasLive, TookIn}
+use Rattle.machine_state.proofs.Lists.{at_same, at_place, at_else, at_front}
 
 -- a view that was live is so, by its number, with all that it took in
 pub record GoesOn (u x : Reserving) : Type 0 where

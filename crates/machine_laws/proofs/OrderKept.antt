@@ -8,11 +8,11 @@ use Rattle.wal_types.specs.declared.record.Record.{Record}
 use Rattle.byte_position.proofs.EndAddresses.{position_of-end_address_of}
 use Rattle.byte_position.proofs.Rising.{position_of-mono}
 use Rattle.wal_page.specs.Order.{Entry}
-use Rattle.wal_core.specs.Words.{end_form, order_end}
-use Rattle.wal_core.specs.Views.{HasAt, Place, Free, Locked, LogFull, AtSegmentStart, Plain, Reserving, View}
-use Rattle.wal_core.specs.Ordered.{OrderHolds}
-use Rattle.wal_core.specs.Moves.{with_place, entry_reserved, after_split, split_off, after_join, spent, without_work, orphan_of}
-use Rattle.wal_core.specs.Steps.{MayStep, place_at, load_position, load_flushed, store_position, value_behind, view_behind, lock_position, load_prev, store_prev, give_position_back, stay}
+use Rattle.machine_state.specs.Words.{end_form, order_end}
+use Rattle.machine_state.specs.Views.{HasAt, Place, Free, Locked, LogFull, AtSegmentStart, Plain, Reserving, View}
+use Rattle.machine_state.specs.Ordered.{OrderHolds}
+use Rattle.machine_state.specs.Moves.{with_place, entry_reserved, after_split, split_off, after_join, spent, without_work, orphan_of}
+use Rattle.machine_state.specs.Steps.{MayStep, place_at, load_position, load_flushed, store_position, value_behind, view_behind, lock_position, load_prev, store_prev, give_position_back, stay}
 use Rattle.machine_laws.specs.OrderParts.{TakesPart, HoldsWith}
 use Rattle.machine_laws.proofs.OrderSteps.{unlocked-is, sees, locks, loads_prev, stores_prev, gives_back, reserves, gives_up}
 use Rattle.machine_laws.proofs.OrderPassSteps.{splits, joins}
@@ -99,7 +99,7 @@ module _ (order : List Entry) (position prev : ℕ) (parts : List Reserving) (id
       → met ≤ end_form (v.opening).setup (order_end v.opening order)
       → HoldsWith order position prev parts id v (view_behind v load_flushed met home)
   load_flushed_keeps home met t low =
-      let size : ℕ = ((v.opening).setup).segment_size in
+      let size : ℕ = ((v.opening).setup).seg_size in
       sees v.opening order position prev parts t.holds id v.reserving t.here t.live _
       (omega (
         arith,

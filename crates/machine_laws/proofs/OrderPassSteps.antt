@@ -5,11 +5,11 @@ use Rattle.std.proofs.lemmas.List.Kept.{AllPairs-cons}
 use mathlib.Core.Logic.{dite}
 use native.Mathlib.Decide.{ℕ_discrete}
 use Rattle.wal_page.specs.Order.{Entry}
-use Rattle.wal_core.specs.Words.{Opening}
-use Rattle.wal_core.specs.Views.{HasAt, Free, Joined, FlushPromise, Reserving}
-use Rattle.wal_core.specs.Ordered.{entries_under, Role, active, spare, ended, unborn, IsUnused, FrontEndsAt, IsEnded, AreApart, HasLive, TookIn, OrderHolds}
-use Rattle.wal_core.specs.Moves.{has_spares}
-use Rattle.wal_core.proofs.Lists.{one_set, one_added, at_same, at_place, at_else, at_end}
+use Rattle.machine_state.specs.Words.{Opening}
+use Rattle.machine_state.specs.Views.{HasAt, Free, Joined, FlushPromise, Reserving}
+use Rattle.machine_state.specs.Ordered.{entries_under, Role, active, spare, ended, unborn, IsUnused, FrontEndsAt, IsEnded, AreApart, HasLive, TookIn, OrderHolds}
+use Rattle.machine_state.specs.Moves.{has_spares}
+use Rattle.machine_state.proofs.Lists.{one_set, one_added, at_same, at_place, at_else, at_end}
 use Rattle.machine_laws.proofs.OrderGoing.{GoesOn, StaysPlaced, placed_as, Each, each_set, each_added, each_goes_on, number_still, goes_by_still, took_in_still, held_still}
 use Rattle.machine_laws.proofs.OrderSteps.{IsPlaced, placed}
 

@@ -4,11 +4,11 @@ use Rattle.std.proofs.lemmas.Bool.{cases_lt}
 use Rattle.std.proofs.lemmas.List.Elements.{All-contains, All-weaker, Contains-append_cases, Contains-append_right, Contains-push_cases}
 use mathlib.Core.Option.{Option}
 use Rattle.wal_page.specs.Order.{Entry}
-use Rattle.wal_core.specs.Words.{Opening, position_word, prev_word, order_end, last_start}
-use Rattle.wal_core.specs.Views.{HasAt, Place, Free, Locked, Loaded, Stored, Joined, Plain, Reserving, View, reserving_of}
-use Rattle.wal_core.specs.Ordered.{is_pass, entries_under, Role, active, spare, ended, unborn, IsUnused, IsEnded, IsPartOf, HasLive, TookIn, FrontEndsAt, AtPlace, OrderHolds}
-use Rattle.wal_core.specs.Sound.{IsSound}
-use Rattle.wal_core.proofs.Lists.{part_at, view_from}
+use Rattle.machine_state.specs.Words.{Opening, position_word, prev_word, order_end, last_start}
+use Rattle.machine_state.specs.Views.{HasAt, Place, Free, Locked, Loaded, Stored, Joined, Plain, Reserving, View, reserving_of}
+use Rattle.machine_state.specs.Ordered.{is_pass, entries_under, Role, active, spare, ended, unborn, IsUnused, IsEnded, IsPartOf, HasLive, TookIn, FrontEndsAt, AtPlace, OrderHolds}
+use Rattle.machine_state.specs.Sound.{IsSound}
+use Rattle.machine_state.proofs.Lists.{part_at, view_from}
 use Rattle.machine_laws.specs.SharedOrders.{IsSpare, HasNumber, TellsLastStart, HasItsPart, OrderIsShared, SomeLive}
 use Rattle.machine_laws.proofs.OrderedEntries.{is_pass_own}
 use Rattle.machine_laws.proofs.OrderSteps.{end_even, unlocked-is}
@@ -56,7 +56,7 @@ among n e is (x ∷ xs) has = ⊎_elim
 -- the word of the last start stands
 module _ (opening : Opening) (order : List Entry) (prev locked holder id : ℕ) where
   abbrev IsAt : Place → Type 0
-  IsAt p = AtPlace opening.setup.segment_size (order_end opening order) (last_start opening order)
+  IsAt p = AtPlace opening.setup.seg_size (order_end opening order) (last_start opening order)
       prev locked holder id p
 
   bit_set : (p : Place) → p ≢ Free → IsAt p → locked ≡ 1

@@ -5,15 +5,15 @@ use Rattle.std.proofs.lemmas.List.Elements.{All-push, All-weaker}
 use Rattle.byte_position.specs.Geometry.{IsSegmentSize}
 use Rattle.byte_position.specs.Position.{address_of, end_address_of}
 use Rattle.wal_types.specs.declared.record.Record.{Record}
-use Rattle.record_spelling.specs.Spelling.{IsLogRecord}
+use Rattle.wal_spelling.specs.Spelling.{IsLogRecord}
 use Rattle.wal_page.specs.Order.{Entry, position_behind, room_at}
 use Rattle.wal_page.proofs.OrderLaws.{FollowsFrom_push, prev_of_push}
 use Rattle.wal_page.proofs.PlaceLaws.{end-whole_from}
-use Rattle.wal_core.specs.Words.{Opening, last_start, log_limit, order_end}
-use Rattle.wal_core.specs.Views.{HasAt, Place, Free, Locked, Loaded, Stored, AtSegmentStart, Stop, StopCause, Joined, Reserving}
-use Rattle.wal_core.specs.Ordered.{is_pass, Role, active, ended, IsUnused, FrontEndsAt, IsEnded, IsPartOf, HasLive, TookIn, AtPlace, OrderHolds}
-use Rattle.wal_core.specs.Moves.{entry_reserved}
-use Rattle.wal_core.proofs.Lists.{one_set, one_added, at_place}
+use Rattle.machine_state.specs.Words.{Opening, last_start, log_limit, order_end}
+use Rattle.machine_state.specs.Views.{HasAt, Place, Free, Locked, Loaded, Stored, AtSegmentStart, Stop, StopCause, Joined, Reserving}
+use Rattle.machine_state.specs.Ordered.{is_pass, Role, active, ended, IsUnused, FrontEndsAt, IsEnded, IsPartOf, HasLive, TookIn, AtPlace, OrderHolds}
+use Rattle.machine_state.specs.Moves.{entry_reserved}
+use Rattle.machine_state.proofs.Lists.{one_set, one_added, at_place}
 use Rattle.machine_laws.proofs.OrderGoing.{GoesOn, StaysPlaced, goes_as, placed_as, Each, each_set, each_added, each_goes_on, goes_by_still, took_in_still, held_still}
 use Rattle.machine_laws.proofs.OrderedEntries.{is_pass_own, is_pass_other, entries_of-hit, entries_of-miss, order_end_push, FrontEndsAt-longer, FrontEndsAt-more}
 
@@ -72,14 +72,14 @@ IsEnded-longer opening order e role n id is active_is by j h = record {
 pub record IsPlaced (opening : Opening) (order : List Entry) (prev : ℕ) (role : ℕ → Role)
     (locked holder keeper id : ℕ) (r : Reserving) : Type 0 where
   pub part : IsPartOf opening order role id r
-  pub place : AtPlace opening.setup.segment_size (order_end opening order)
+  pub place : AtPlace opening.setup.seg_size (order_end opening order)
       (last_start opening order) prev locked holder id r.place
   pub spare : r.spare < r.spare_end → id ≡ keeper
 
 module _ (opening : Opening) (order : List Entry) (position prev : ℕ) (parts : List Reserving)
     (k : OrderHolds opening order position prev parts) where
   abbrev size : ℕ
-  size = opening.setup.segment_size
+  size = opening.setup.seg_size
 
   abbrev Placed : ℕ → Reserving → Type 0
   Placed id r = r.live ≡ true
@@ -120,11 +120,11 @@ module _ (opening : Opening) (order : List Entry) (position prev : ℕ) (parts :
     held = λ is. held_still parts parts' on k.holder (k.held is);
   }
 
-  pub end_even : IsSegmentSize opening.setup.segment_size → order_end opening order % 8 ≡ 0
+  pub end_even : IsSegmentSize opening.setup.seg_size → order_end opening order % 8 ≡ 0
   end_even valid = end-whole_from size valid opening.place.position order k.chained k.placed.whole
 
   -- the position word without its lock bit is the order's end
-  pub unlocked-is : IsSegmentSize opening.setup.segment_size
+  pub unlocked-is : IsSegmentSize opening.setup.seg_size
       → position - position % 2 ≡ order_end opening order
   unlocked-is valid = omega (arith, end_even valid, k.position_is, k.one_bit)
 
@@ -134,9 +134,9 @@ module _ (opening : Opening) (order : List Entry) (position prev : ℕ) (parts :
 
     -- the place of a view, told what it is
     at : (p : Place) → r.place ≡ p
-        → AtPlace opening.setup.segment_size (order_end opening order)
+        → AtPlace opening.setup.seg_size (order_end opening order)
         (last_start opening order) prev k.locked k.holder id p
-    at p is = subst (λ (q : Place). AtPlace opening.setup.segment_size (order_end opening order)
+    at p is = subst (λ (q : Place). AtPlace opening.setup.seg_size (order_end opening order)
         (last_start opening order) prev k.locked k.holder id q) is mine.place
 
     moved_to : (p : Place)
@@ -194,7 +194,7 @@ module _ (opening : Opening) (order : List Entry) (position prev : ℕ) (parts :
         }))
 
     -- the even word becomes one more
-    pub locks : IsSegmentSize opening.setup.segment_size → (expected : ℕ) → position ≡ expected
+    pub locks : IsSegmentSize opening.setup.seg_size → (expected : ℕ) → position ≡ expected
         → expected % 2 ≡ 0
         → OrderHolds opening order (expected + 1) prev
         (set parts id (record r { place = Locked expected }))
@@ -260,12 +260,12 @@ module _ (opening : Opening) (order : List Entry) (position prev : ℕ) (parts :
 
     -- and the own start is stored there
     pub stores_prev : (expected met : ℕ) → r.place ≡ Loaded expected met
-        → OrderHolds opening order position (address_of opening.setup.segment_size expected)
+        → OrderHolds opening order position (address_of opening.setup.seg_size expected)
         (set parts id (record r { place = Stored expected met }))
     stores_prev expected met is =
         let pl = at (Loaded expected met) is in
         let each = one_set (λ (j : ℕ) (u : Reserving). u.live ≡ true
-        → IsPlaced opening order (address_of opening.setup.segment_size expected) k.role
+        → IsPlaced opening order (address_of opening.setup.seg_size expected) k.role
         k.locked k.holder k.keeper j u)
         parts id (record r { place = Stored expected met })
         (λ j u apart there alive. let t = placed j u there alive in record {
@@ -309,7 +309,7 @@ module _ (opening : Opening) (order : List Entry) (position prev : ℕ) (parts :
     -- the log is full, or stands at a segment's start: the position is as it was
     pub gives_back : (cause : StopCause) (expected : ℕ) → r.place ≡ Locked expected
         → (cause ≡ AtSegmentStart
-        → end_address_of opening.setup.segment_size expected % opening.setup.segment_size ≡ 0)
+        → end_address_of opening.setup.seg_size expected % opening.setup.seg_size ≡ 0)
         → OrderHolds opening order expected prev (set parts id (record r {
           stops = r.stops ++ (record {
             cause = cause;
@@ -384,7 +384,7 @@ module _ (opening : Opening) (order : List Entry) (position prev : ℕ) (parts :
     -- an entry is added at the end: the position is unlocked behind it
     module _ (value : Record) (expected met : ℕ) (is : r.place ≡ Stored expected met)
         (logged : IsLogRecord value)
-        (fits : expected + room_at opening.setup.segment_size expected value
+        (fits : expected + room_at opening.setup.seg_size expected value
         ≤ log_limit opening.setup) where
       abbrev e : Entry
       e = entry_reserved r.number expected value
@@ -423,7 +423,7 @@ module _ (opening : Opening) (order : List Entry) (position prev : ℕ) (parts :
       abbrev grown : Reserving
       grown = record r {
         entries = r.entries ++ e ∷ [];
-        seen = position_behind opening.setup.segment_size e;
+        seen = position_behind opening.setup.seg_size e;
         place = Free;
       }
 
@@ -448,7 +448,7 @@ module _ (opening : Opening) (order : List Entry) (position prev : ℕ) (parts :
       }
 
       pub reserves : OrderHolds opening longer
-          (expected + room_at opening.setup.segment_size expected value) prev (set parts id grown)
+          (expected + room_at opening.setup.seg_size expected value) prev (set parts id grown)
       reserves =
           let pl = at (Stored expected met) is in
           let each = one_set (λ (j : ℕ) (u : Reserving). u.live ≡ true

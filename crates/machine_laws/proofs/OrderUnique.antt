@@ -4,8 +4,8 @@ use Rattle.std.proofs.Common.{◌≡◌, ℕ, ◌≤◌, cond, Bool, true, false
 use Rattle.std.proofs.lemmas.List.Elements.{All-head, All-tail}
 use Rattle.wal_page.specs.Order.{Entry, FollowsFrom, position_behind}
 use Rattle.wal_page.proofs.OrderLaws.{room_at-pos}
-use Rattle.wal_core.specs.Words.{Opening, GoesOnAtPlace}
-use Rattle.wal_core.specs.Ordered.{is_pass, entries_under}
+use Rattle.machine_state.specs.Words.{Opening, GoesOnAtPlace}
+use Rattle.machine_state.specs.Ordered.{is_pass, entries_under}
 use Rattle.machine_laws.proofs.OrderedEntries.{is_pass_own}
 
 abbrev IsNamed : Entry → Type 0
@@ -91,4 +91,4 @@ pub one_order : (opening : Opening) (es fs : List Entry) → GoesOnAtPlace openi
     → GoesOnAtPlace opening fs → All IsNamed es → All IsNamed fs
     → ((n : ℕ) → entries_under n es ≡ entries_under n fs) → es ≡ fs
 one_order opening es fs c d p q same =
-    follows_one opening.setup.segment_size opening.place.position es fs c d p q same
+    follows_one opening.setup.seg_size opening.place.position es fs c d p q same

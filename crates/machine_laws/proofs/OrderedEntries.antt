@@ -3,9 +3,9 @@ use Rattle.std.proofs.Common.{◌≡◌, ◌≢◌, ℕ, ◌+◌, eq-eqb, ne_eqb
 use Rattle.std.proofs.lemmas.List.{take-append-le, length-append}
 use Rattle.wal_page.specs.Order.{Entry, room_at}
 use Rattle.wal_page.proofs.OrderLaws.{rooms_of_push}
-use Rattle.wal_core.specs.Views.{Stop}
-use Rattle.wal_core.specs.Ordered.{is_pass, entries_under, FrontEndsAt}
-use Rattle.wal_core.specs.Words.{Opening, order_end}
+use Rattle.machine_state.specs.Views.{Stop}
+use Rattle.machine_state.specs.Ordered.{is_pass, entries_under, FrontEndsAt}
+use Rattle.machine_state.specs.Words.{Opening, order_end}
 
 pub is_pass_own : (n : ℕ) → is_pass n (Some n) ≡ true
 is_pass_own n = eq-eqb n n refl
@@ -32,8 +32,8 @@ entries_of-miss n (x ∷ xs) e h =
     ap (λ (l : List Entry). cond (is_pass n x.pass) (x ∷ l) l) (entries_of-miss n xs e h)
 
 pub order_end_push : (opening : Opening) (es : List Entry) (e : Entry) → order_end opening
-    (es ++ e ∷ []) ≡ order_end opening es + room_at opening.setup.segment_size e.start e.value
-order_end_push opening es e = omega (arith, rooms_of_push opening.setup.segment_size es e)
+    (es ++ e ∷ []) ≡ order_end opening es + room_at opening.setup.seg_size e.start e.value
+order_end_push opening es e = omega (arith, rooms_of_push opening.setup.seg_size es e)
 
 -- a front of an order is one of a longer order, for a log that grew too
 pub FrontEndsAt-longer : (opening : Opening) (number : ℕ) (order back entries : List Entry)

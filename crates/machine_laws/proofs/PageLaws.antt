@@ -3,10 +3,10 @@ use Rattle.std.proofs.Common.{◌≡◌, ◌≢◌, ◌⊎◌, inl, inr, ℕ, �
 use Rattle.std.proofs.Math.Nat.{mod-lt, add-mod_right}
 use mathlib.Core.Logic.{dite}
 use native.Mathlib.Decide.{ℕ_discrete}
-use Rattle.wal_core.specs.Views.{HasAt, Stage, Away, Taken, Looked, Ready, Zeroing, Published}
-use Rattle.wal_core.specs.Paged.{IsOpen, AllPresent, AtStage, HoldsPage, PagesHold}
-use Rattle.wal_core.specs.Moves.{looked, ready}
-use Rattle.wal_core.proofs.Lists.{one_set, one_added}
+use Rattle.machine_state.specs.Views.{HasAt, Stage, Away, Taken, Looked, Ready, Zeroing, Published}
+use Rattle.machine_state.specs.Paged.{IsOpen, AllPresent, AtStage, HoldsPage, PagesHold}
+use Rattle.machine_state.specs.Moves.{looked, ready}
+use Rattle.machine_state.proofs.Lists.{one_set, one_added}
 use Rattle.machine_laws.proofs.Buffers.{apart, one_page, same_page}
 use Rattle.machine_laws.specs.WordsPut.{IsPut, put}
 

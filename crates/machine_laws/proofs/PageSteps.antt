@@ -5,18 +5,18 @@ use Rattle.std.specs.Prelude.{◌==◌, if◌then◌else◌}
 use mathlib.Core.Option.{Option}
 use mathlib.Core.Logic.{dite}
 use native.Mathlib.Decide.{ℕ_discrete}
-use Rattle.wal_core.specs.declared.setup.Setup.{Setup}
-use Rattle.wal_core.specs.Words.{initialised_word, written_word, mapping_turn, end_word, word_of_ring, mapping_turn_number, initialised_number, written_number, ends_number}
-use Rattle.wal_core.specs.Views.{HasAt, Flight, Copying, Stage, Away, Taken, Ready, Zeroing, Published, Plain, Lent, Out, View, flight_of, mapper_of, confirmed_of, writer_of, writing_of}
-use Rattle.wal_core.specs.Locked.{HasTurn, StandsTo}
-use Rattle.wal_core.specs.Paged.{IsOpen, PagesHold}
-use Rattle.wal_core.specs.Durable.{IsStaged}
-use Rattle.wal_core.specs.Moves.{with_stage, looked, ready}
-use Rattle.wal_core.specs.Steps.{StepKind, MayStep, word_of_step, value_behind, view_behind, load_buffer_end, store_ring_word, load_ring_word, load_written, store_written, take_mapping_turn, load_initialised_end, clear_end, zero_ring_word, publish_end, publish_initialised_end, release_mapping_turn, IsToBeWritten, buffer_of, number_lent, number_of_next, next_value, page_mapped, ring_place, words_zeroed}
-use Rattle.wal_core.specs.Sound.{IsSound}
-use Rattle.wal_core.proofs.Lists.{at_place, part_at, part_set}
-use Rattle.wal_core.proofs.Stages.{open_has}
-use Rattle.wal_core.proofs.WordLists.{word_again, word_else, single_set, ends_before, ring_before, ends_behind}
+use Rattle.machine_state.specs.declared.setup.Setup.{Setup}
+use Rattle.machine_state.specs.Words.{initialised_word, written_word, mapping_turn, end_word, word_of_ring, mapping_turn_number, initialised_number, written_number, ends_number}
+use Rattle.machine_state.specs.Views.{HasAt, Flight, Copying, Stage, Away, Taken, Ready, Zeroing, Published, Plain, Lent, Out, View, flight_of, mapper_of, confirmed_of, writer_of, writing_of}
+use Rattle.machine_state.specs.Locked.{HasTurn, StandsTo}
+use Rattle.machine_state.specs.Paged.{IsOpen, PagesHold}
+use Rattle.machine_state.specs.Durable.{IsStaged}
+use Rattle.machine_state.specs.Moves.{with_stage, looked, ready}
+use Rattle.machine_state.specs.Steps.{StepKind, MayStep, word_of_step, value_behind, view_behind, load_buffer_end, store_ring_word, load_ring_word, load_written, store_written, take_mapping_turn, load_initialised_end, clear_end, zero_ring_word, publish_end, publish_initialised_end, release_mapping_turn, IsToBeWritten, buffer_of, number_lent, number_of_next, next_value, page_mapped, ring_place, words_zeroed}
+use Rattle.machine_state.specs.Sound.{IsSound}
+use Rattle.machine_state.proofs.Lists.{at_place, part_at, part_set}
+use Rattle.machine_state.proofs.Stages.{open_has}
+use Rattle.machine_state.proofs.WordLists.{word_again, word_else, single_set, ends_before, ring_before, ends_behind}
 use Rattle.machine_laws.specs.WordsPut.{IsPut, put}
 use Rattle.machine_laws.specs.RingBehind.{met_by, words_behind, HasPages}
 use Rattle.machine_laws.proofs.PutWords.{put_is, end_put, ring_put, buffer-below, place-below, ring_place-below}

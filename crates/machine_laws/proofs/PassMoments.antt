@@ -1,11 +1,11 @@
 -- The moments behind a pass that is split off, is taken in, or gives up its copy.
 use Rattle.std.proofs.Common.{◌≡◌, ◌≢◌, ℕ, List, [], ◌∷◌, ◌++◌, map, set, refl, sym, ap, ◌∙◌, subst}
 use mathlib.Core.Option.{Option}
-use Rattle.wal_core.specs.Words.{Opening, flushed_word, moment_word}
-use Rattle.wal_core.specs.Views.{HasAt, Plain, View}
-use Rattle.wal_core.specs.Moves.{after_split, split_off, after_join, joined_of, spent, without_work, orphan_of}
-use Rattle.wal_core.specs.Sound.{IsSound}
-use Rattle.wal_core.proofs.Lists.{at_else, part_added, part_at, part_same, part_set}
+use Rattle.machine_state.specs.Words.{Opening, flushed_word, moment_word}
+use Rattle.machine_state.specs.Views.{HasAt, Plain, View}
+use Rattle.machine_state.specs.Moves.{after_split, split_off, after_join, joined_of, spent, without_work, orphan_of}
+use Rattle.machine_state.specs.Sound.{IsSound}
+use Rattle.machine_state.proofs.Lists.{at_else, part_added, part_at, part_same, part_set}
 use Rattle.machine_laws.specs.RisingMoments.{MomentsKeepRising, Promised, RisesHold, promised_of}
 use Rattle.machine_laws.proofs.MomentParts.{begins, ends, nothing_told, takes_in}
 use Rattle.segment_disk.specs.Tape.{DiskState}

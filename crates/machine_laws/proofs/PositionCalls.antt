@@ -6,15 +6,15 @@ use Rattle.byte_position.specs.Geometry.{pages_of}
 use Rattle.byte_position.proofs.SegmentSizes.{segment_size_in_pages}
 use Rattle.segment_disk.specs.declared.disk.Call.{Call}
 use Rattle.segment_disk.specs.Tape.{Tape, create_call, state_now, sync_call, write_call}
-use Rattle.wal_core.specs.declared.setup.Setup.{Setup}
-use Rattle.wal_core.specs.Words.{end_form, order_end}
-use Rattle.wal_core.specs.Views.{HasAt, Plain, Lent, Hold, Out, Receipts, View, flight_of, receipts_of}
-use Rattle.wal_core.specs.Suited.{tape_from, BeganSuited, IfSuited}
-use Rattle.wal_core.proofs.Tapes.{at_suited, counted_on, began_behind, on_tape, tape_behind}
-use Rattle.wal_core.specs.Positioned.{IsCopiedBelow, ReadsBelow}
-use Rattle.wal_core.specs.Durable.{DurabilityHolds, IsOnDisk}
-use Rattle.wal_core.specs.Moves.{CallOutcome, Done, Failed, is_done, with_hold, with_outcome, after_create, after_write, after_sync}
-use Rattle.wal_core.specs.Steps.{MayStep, IsNextWrite, view_behind, create, write, sync}
+use Rattle.machine_state.specs.declared.setup.Setup.{Setup}
+use Rattle.machine_state.specs.Words.{end_form, order_end}
+use Rattle.machine_state.specs.Views.{HasAt, Plain, Lent, Hold, Out, Receipts, View, flight_of, receipts_of}
+use Rattle.machine_state.specs.Suited.{tape_from, BeganSuited, IfSuited}
+use Rattle.machine_state.proofs.Tapes.{at_suited, counted_on, began_behind, on_tape, tape_behind}
+use Rattle.machine_state.specs.Positioned.{IsCopiedBelow, ReadsBelow}
+use Rattle.machine_state.specs.Durable.{DurabilityHolds, IsOnDisk}
+use Rattle.machine_state.specs.Moves.{CallOutcome, Done, Failed, is_done, with_hold, with_outcome, after_create, after_write, after_sync}
+use Rattle.machine_state.specs.Steps.{MayStep, IsNextWrite, view_behind, create, write, sync}
 use Rattle.machine_laws.specs.PositionParts.{Positions, HasPositions, HoldAmong, HoldBehind}
 use Rattle.machine_laws.proofs.Copies.{IsCopiedBelow-lower}
 use Rattle.machine_laws.proofs.DiskCalls.{create_reads, sync_reads, write_reads, loaded_words}
@@ -38,7 +38,7 @@ module _ (p : Positions) (id : ℕ) (v : View) (t : HasPositions p id v) where
   setup = (v.opening).setup
 
   abbrev size : ℕ
-  size = setup.segment_size
+  size = setup.seg_size
 
   abbrev ReadUpto : ℕ → Tape → Type 0
   ReadUpto address tape = ReadsBelow v.opening p.order address (state_now tape)

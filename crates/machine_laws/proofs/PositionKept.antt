@@ -6,18 +6,18 @@ use mathlib.Core.Option.{Option, none}
 use native.Mathlib.Decide.{ℕ_discrete}
 use Rattle.wal_types.specs.declared.record.Record.{Record}
 use Rattle.wal_page.specs.EntryWords.{address_of_word}
-use Rattle.wal_core.specs.declared.setup.Setup.{Setup}
-use Rattle.wal_core.specs.Words.{end_form, order_end, last_start}
-use Rattle.wal_core.specs.Views.{HasAt, Place, Reserving, Watching, Copying, Flight, Plain, Hold, Idle, Turned, Out, Lent, Writing, View, flight_of, working_of, watching_of, writing_of}
-use Rattle.wal_core.specs.Ordered.{OrderHolds, AtPlace}
-use Rattle.wal_core.specs.Locked.{AreHeld, StandsTo}
-use Rattle.wal_core.specs.Watched.{WatchHolds}
-use Rattle.wal_core.specs.Positioned.{IsCopiedBelow}
-use Rattle.wal_core.specs.Moves.{hardened, landed, one_more, with_place, with_hold, copied_below, lent, entry_reserved, after_split, split_off, after_join, spent, without_work, orphan_of, no_writing}
-use Rattle.wal_core.specs.Failed.{KnowsOfFault}
-use Rattle.wal_core.specs.Steps.{MayStep, number_lent, place_at, value_behind, view_behind, home_behind, take_write_turn, slot_out, slot_in, release_write_turn, store_position, release, store_ring_word, load_ring_word, load_written, load_flushed, load_moment, load_down, store_written, store_moment, store_flushed, set_down}
-use Rattle.wal_core.proofs.Landing.{lock_of}
-use Rattle.wal_core.proofs.Lists.{one_set, one_added, part_at, view_from}
+use Rattle.machine_state.specs.declared.setup.Setup.{Setup}
+use Rattle.machine_state.specs.Words.{end_form, order_end, last_start}
+use Rattle.machine_state.specs.Views.{HasAt, Place, Reserving, Watching, Copying, Flight, Plain, Hold, Idle, Turned, Out, Lent, Writing, View, flight_of, working_of, watching_of, writing_of}
+use Rattle.machine_state.specs.Ordered.{OrderHolds, AtPlace}
+use Rattle.machine_state.specs.Locked.{AreHeld, StandsTo}
+use Rattle.machine_state.specs.Watched.{WatchHolds}
+use Rattle.machine_state.specs.Positioned.{IsCopiedBelow}
+use Rattle.machine_state.specs.Moves.{hardened, landed, one_more, with_place, with_hold, copied_below, lent, entry_reserved, after_split, split_off, after_join, spent, without_work, orphan_of, no_writing}
+use Rattle.machine_state.specs.Failed.{KnowsOfFault}
+use Rattle.machine_state.specs.Steps.{MayStep, number_lent, place_at, value_behind, view_behind, home_behind, take_write_turn, slot_out, slot_in, release_write_turn, store_position, release, store_ring_word, load_ring_word, load_written, load_flushed, load_moment, load_down, store_written, store_moment, store_flushed, set_down}
+use Rattle.machine_state.proofs.Landing.{lock_of}
+use Rattle.machine_state.proofs.Lists.{one_set, one_added, part_at, view_from}
 use Rattle.machine_laws.specs.PositionParts.{Positions, HasPositions, HoldAmong, HoldBehind}
 use Rattle.machine_laws.proofs.Copies.{CopiedStill, one_more_still, landed_still, added_still, joined_still, given_up_still}
 use Rattle.machine_laws.proofs.PositionSteps.{KeepsKnown, KeepsKnown-idle, KeepsKnown-turned, KeepsKnown-lent, Within, both_change, none_within, view_changes, view_stays, goes_out, comes_home, tells_down, stores_written, stores_flushed, order_grows}
@@ -129,7 +129,7 @@ module _ (p : Positions) (id : ℕ) (v : View) (t : HasPositions p id v) where
 
   -- ---- copies
 
-  copied_still : (f : Flight) → CopiedStill setup.segment_size p.flights (set p.flights id f)
+  copied_still : (f : Flight) → CopiedStill setup.seg_size p.flights (set p.flights id f)
       → HoldAmong p v (set p.flights id f) (set p.parts id v.writing)
   copied_still f still = both_change v.opening p t.holds (set p.flights id f)
       (set p.parts id v.writing) still
@@ -138,11 +138,11 @@ module _ (p : Positions) (id : ℕ) (v : View) (t : HasPositions p id v) where
 
   pub release_keeps : (lock met : ℕ) → Still (view_behind v (release lock) met p.home)
   release_keeps lock met = copied_still (landed lock (flight_of v))
-      (landed_still setup.segment_size p.flights id (flight_of v) t.flight_here lock)
+      (landed_still setup.seg_size p.flights id (flight_of v) t.flight_here lock)
 
   pub store_word_keeps : (met : ℕ) → Still (view_behind v store_ring_word met p.home)
   store_word_keeps met = copied_still (one_more (flight_of v))
-      (one_more_still setup.segment_size p.flights id (flight_of v) t.flight_here)
+      (one_more_still setup.seg_size p.flights id (flight_of v) t.flight_here)
 
   -- ---- words that the one stores that has the writer in hand
 
@@ -217,17 +217,17 @@ module _ (p : Positions) (id : ℕ) (v : View) (t : HasPositions p id v) where
 
   pub slot_out_keeps : (lock : ℕ → ℕ) (views : List View) → p.flights ≡ map flight_of views
       → HasAt views id v → AreHeld lock (map working_of views)
-      → WatchHolds setup.segment_size
+      → WatchHolds setup.seg_size
       (end_form setup (order_end v.opening p.order)) (map working_of views)
       (map watching_of views)
       → MayStep v slot_out
       → HoldBehind (record p { home = home_behind v slot_out p.home }) id v
       (view_behind v slot_out p.turn p.home)
   slot_out_keeps lock views are here held watch may =
-      let known = watched_known setup.segment_size
+      let known = watched_known setup.seg_size
       (end_form setup (order_end v.opening p.order)) lock views id v here held watch in
       let copied = subst (λ (fs : List Flight).
-      IsCopiedBelow setup.segment_size fs (copied_below v.watching)) (sym are) known.1 in
+      IsCopiedBelow setup.seg_size fs (copied_below v.watching)) (sym are) known.1 in
       subst (λ (o : Option Plain). HoldBehind (record p { home = none }) id v
       (view_behind v slot_out p.turn o))
       (sym (stands Turned may).2)
@@ -258,7 +258,7 @@ module _ (p : Positions) (id : ℕ) (v : View) (t : HasPositions p id v) where
             ++ entry_reserved (v.reserving).number (place_at v (v.reserving).place) value ∷ [];
       }) id v (view_behind v (store_position locks value) position p.home)
   store_position_keeps position prev reservings locks value k there live may =
-      let size : ℕ = setup.segment_size in
+      let size : ℕ = setup.seg_size in
       let at = subst (λ (q : Place). AtPlace size (order_end v.opening p.order)
       (last_start v.opening p.order) prev k.locked k.holder id q) may.2
       (k.places id v.reserving there live) in
@@ -288,19 +288,19 @@ module _ (p : Positions) (id : ℕ) (v : View) (t : HasPositions p id v) where
       (set p.flights id (flight_of (after_split v)) ++ flight_of (split_off v) ∷ [])
       (set p.parts id (writing_of (after_split v)) ++ writing_of (split_off v) ∷ [])
   split_keeps = both_change v.opening p t.holds _ _
-      (added_still setup.segment_size p.flights id (flight_of v) t.flight_here) within_added
+      (added_still setup.seg_size p.flights id (flight_of v) t.flight_here) within_added
 
   pub give_up_keeps : HoldAmong p v
       (set p.flights id (flight_of (without_work v)) ++ flight_of (orphan_of v) ∷ [])
       (set p.parts id (writing_of (without_work v)) ++ writing_of (orphan_of v) ∷ [])
   give_up_keeps = both_change v.opening p t.holds _ _
-      (given_up_still setup.segment_size p.flights id (flight_of v) t.flight_here) within_added
+      (given_up_still setup.seg_size p.flights id (flight_of v) t.flight_here) within_added
 
   pub join_keeps : (other : ℕ) (w : View) → HoldAmong p v
       (set (set p.flights other (flight_of (spent w))) id (flight_of (after_join v w)))
       (set (set p.parts other (writing_of (spent w))) id (writing_of (after_join v w)))
   join_keeps other w = both_change v.opening p t.holds _ _
-      (joined_still setup.segment_size p.flights id (flight_of v) t.flight_here other)
+      (joined_still setup.seg_size p.flights id (flight_of v) t.flight_here other)
       (one_set (λ (j : ℕ) (u : Writing). Within v.opening p t.holds u)
       (set p.parts other no_writing) id (writing_of (after_join v w))
       (λ j u _ there. one_set (λ (j : ℕ) (u : Writing). Within v.opening p t.holds u) p.parts other

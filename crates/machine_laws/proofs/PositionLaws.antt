@@ -3,13 +3,13 @@ use Rattle.std.proofs.Common.{◌≡◌, inl, ℕ, ◌<◌, ◌≤◌, List, sym
 use mathlib.Core.Option.{Option, some}
 use Rattle.segment_disk.specs.Tape.{DiskState, state_now}
 use Rattle.wal_page.specs.EntryWords.{address_of_word, words_owned}
-use Rattle.wal_core.specs.Words.{Opening, written_word}
-use Rattle.wal_core.specs.Suited.{IfSuited}
-use Rattle.wal_core.specs.Views.{HasAt, Copy, Copying, Plain, View, writing_of, receipts_of}
-use Rattle.wal_core.specs.Positioned.{ReadsBelow}
-use Rattle.wal_core.specs.Sound.{IsSound}
-use Rattle.wal_core.proofs.Lists.{part_at}
-use Rattle.wal_core.proofs.Tapes.{at_suited, told_suited}
+use Rattle.machine_state.specs.Words.{Opening, written_word}
+use Rattle.machine_state.specs.Suited.{IfSuited}
+use Rattle.machine_state.specs.Views.{HasAt, Copy, Copying, Plain, View, writing_of, receipts_of}
+use Rattle.machine_state.specs.Positioned.{ReadsBelow}
+use Rattle.machine_state.specs.Sound.{IsSound}
+use Rattle.machine_state.proofs.Lists.{part_at}
+use Rattle.machine_state.proofs.Tapes.{at_suited, told_suited}
 use Rattle.machine_laws.specs.SoundPositions.{KnowsNoMore, PositionsAreOrdered}
 use Rattle.machine_laws.proofs.EntryLaws.{flies}
 use Rattle.machine_laws.proofs.HolderLaws.{is_writer, writer_is}
@@ -17,7 +17,7 @@ use Rattle.machine_laws.proofs.HolderLaws.{is_writer, writer_is}
 module _ {first : DiskState} (opening : Opening) (words : List ℕ) (home : Option Plain) (views : List View)
     (k : IsSound first opening words home views) where
   abbrev size : ℕ
-  size = (opening.setup).segment_size
+  size = (opening.setup).seg_size
 
   knows_no_more : (id : ℕ) (v : View) → HasAt views id v → KnowsNoMore words v
   knows_no_more id v here =

@@ -6,21 +6,21 @@ use mathlib.Core.Option.{Option, none, some, some-ne-none}
 use Rattle.atomic_table.proofs.Lists.{set_again}
 use Rattle.byte_position.specs.Geometry.{IsSegmentSize}
 use Rattle.byte_position.proofs.EndAddresses.{end_address_of-mono}
-use Rattle.record_spelling.specs.Spelling.{assembled}
+use Rattle.wal_spelling.specs.Spelling.{assembled}
 use Rattle.segment_disk.specs.Tape.{Tape, state_now}
 use Rattle.wal_page.specs.Order.{Entry}
 use Rattle.wal_page.specs.Placed.{Owns}
 use Rattle.wal_page.proofs.OrderLaws.{rooms_of_push}
 use Rattle.wal_page.proofs.OwnerLaws.{Owns-between}
 use Rattle.wal_page.proofs.PlaceLaws.{word_from_push}
-use Rattle.wal_core.specs.declared.setup.Setup.{Setup}
-use Rattle.wal_core.specs.Words.{Opening, end_form, order_end, GoesOnAtPlace}
-use Rattle.wal_core.specs.Suited.{tape_from, IfSuited}
-use Rattle.wal_core.specs.Views.{HasAt, Copy, Flight, Copying, Plain, Lent, Hold, Idle, Turned, Out, Writing}
-use Rattle.wal_core.specs.Moves.{no_writing, with_lent}
-use Rattle.wal_core.specs.Ringed.{log_bytes_of}
-use Rattle.wal_core.specs.Positioned.{IsCopiedBelow, ReadsBelow, IsWithin, PositionsHold}
-use Rattle.wal_core.proofs.Lists.{one_set}
+use Rattle.machine_state.specs.declared.setup.Setup.{Setup}
+use Rattle.machine_state.specs.Words.{Opening, end_form, order_end, GoesOnAtPlace}
+use Rattle.machine_state.specs.Suited.{tape_from, IfSuited}
+use Rattle.machine_state.specs.Views.{HasAt, Copy, Flight, Copying, Plain, Lent, Hold, Idle, Turned, Out, Writing}
+use Rattle.machine_state.specs.Moves.{no_writing, with_lent}
+use Rattle.machine_state.specs.Ringed.{log_bytes_of}
+use Rattle.machine_state.specs.Positioned.{IsCopiedBelow, ReadsBelow, IsWithin, PositionsHold}
+use Rattle.machine_state.proofs.Lists.{one_set}
 use Rattle.machine_laws.specs.PositionParts.{Positions}
 use Rattle.machine_laws.proofs.Copies.{CopiedStill, begun_clear, same_still}
 
@@ -80,12 +80,12 @@ module _ (opening : Opening) (p : Positions) (k : PositionsHold p.first opening 
   end = end_form setup (order_end opening order)
 
   abbrev pub Within : Writing → Type 0
-  Within x = IsWithin setup.segment_size end written flushed flights x
+  Within x = IsWithin setup.seg_size end written flushed flights x
 
   -- ---- only a view, or a flight, is another one
 
-  within_flights : (flights' : List Flight) → CopiedStill setup.segment_size flights flights'
-      → (x : Writing) → Within x → IsWithin setup.segment_size end written flushed flights' x
+  within_flights : (flights' : List Flight) → CopiedStill setup.seg_size flights flights'
+      → (x : Writing) → Within x → IsWithin setup.seg_size end written flushed flights' x
   within_flights flights' still x w = record {
     written_met = w.written_met;
     flushed_met = w.flushed_met;
@@ -94,7 +94,7 @@ module _ (opening : Opening) (p : Positions) (k : PositionsHold p.first opening 
   }
 
   pub both_change : (flights' : List Flight) (parts' : List Writing)
-      → CopiedStill setup.segment_size flights flights'
+      → CopiedStill setup.seg_size flights flights'
       → ((id : ℕ) (x : Writing) → HasAt parts' id x → Within x)
       → PositionsHold p.first opening order written flushed down home writer flights' parts'
   both_change flights' parts' still each = record {
@@ -132,7 +132,7 @@ module _ (opening : Opening) (p : Positions) (k : PositionsHold p.first opening 
           known = λ l is.
               let o = keeps l (sym is_h ∙ is) in
               let h = mine.known o.0 o.1 in
-              subst (λ (a : ℕ). (a ≤ end) × IsCopiedBelow setup.segment_size flights a)
+              subst (λ (a : ℕ). (a ≤ end) × IsCopiedBelow setup.seg_size flights a)
               (sym o.2) h;
           stored = λ l is.
               let o = keeps l (sym is_h ∙ is) in
@@ -144,7 +144,7 @@ module _ (opening : Opening) (p : Positions) (k : PositionsHold p.first opening 
         → PositionsHold p.first opening order written flushed down home writer (set flights id f)
         (set parts id y)
     view_changes f at y low_written low_flushed keeps = both_change (set flights id f)
-        (set parts id y) (same_still setup.segment_size flights id f at)
+        (set parts id y) (same_still setup.seg_size flights id f at)
         (one_set (λ (j : ℕ) (u : Writing). Within u) parts id y (λ j u _ there. k.views j u there)
         (hold_within y.written y.flushed y.hold low_written low_flushed keeps y refl refl refl))
 
@@ -158,11 +158,11 @@ module _ (opening : Opening) (p : Positions) (k : PositionsHold p.first opening 
     -- ---- the writer goes out, and home
 
     pub goes_out : (f : Flight) → HasAt flights id f → (met : ℕ) (l : Lent) → l.known ≤ end
-        → IsCopiedBelow setup.segment_size flights l.known → l.stored ≤ written
+        → IsCopiedBelow setup.seg_size flights l.known → l.stored ≤ written
         → PositionsHold p.first opening order written flushed down none writer (set flights id f)
         (set parts id (record x { down_met = met; hold = Out l }))
     goes_out f at met l low copied stored =
-        let still = same_still setup.segment_size flights id f at in
+        let still = same_still setup.seg_size flights id f at in
         let y : Writing = record x { down_met = met; hold = Out l } in
         record {
           begun = k.begun;
@@ -181,7 +181,7 @@ module _ (opening : Opening) (p : Positions) (k : PositionsHold p.first opening 
                 known = λ n is.
                     let same : l ≡ n = cc in
                     subst (λ (m : Lent). (m.known ≤ end)
-                    × IsCopiedBelow setup.segment_size flights m.known) same (low, copied);
+                    × IsCopiedBelow setup.seg_size flights m.known) same (low, copied);
                 stored = λ n is.
                     let same : l ≡ n = cc in
                     subst (λ (m : Lent). m.stored ≤ written) same stored;
@@ -189,8 +189,8 @@ module _ (opening : Opening) (p : Positions) (k : PositionsHold p.first opening 
         }
 
     module _ (f : Flight) (at : HasAt flights id f) where
-      still : CopiedStill setup.segment_size flights (set flights id f)
-      still = same_still setup.segment_size flights id f at
+      still : CopiedStill setup.seg_size flights (set flights id f)
+      still = same_still setup.seg_size flights id f at
 
       pub comes_home : (l : Lent) → x.hold ≡ Out l → l.writer ≡ writer
           → (l.stored ≡ (l.writer).written) ⊎ (down ≢ 0)
@@ -235,7 +235,7 @@ module _ (opening : Opening) (p : Positions) (k : PositionsHold p.first opening 
           }
 
       within_written : (written' : ℕ) → written ≤ written' → (u : Writing) → Within u
-          → IsWithin setup.segment_size end written' flushed flights u
+          → IsWithin setup.seg_size end written' flushed flights u
       within_written written' up u w = record {
         written_met = omega (arith, w.written_met, up);
         flushed_met = w.flushed_met;
@@ -261,7 +261,7 @@ module _ (opening : Opening) (p : Positions) (k : PositionsHold p.first opening 
             reserved = k.reserved;
             copied = still writer.written k.copied;
             reads = k.reads;
-            views = one_set (λ (j : ℕ) (u : Writing). IsWithin setup.segment_size end
+            views = one_set (λ (j : ℕ) (u : Writing). IsWithin setup.seg_size end
                 (l.writer).written flushed (set flights id f) u) parts id y
                 (λ j u _ there. let w = within_written (l.writer).written up u
                 (k.views j u there) in
@@ -278,7 +278,7 @@ module _ (opening : Opening) (p : Positions) (k : PositionsHold p.first opening 
                       let one : n ≡ o = cc in
                       let h = mine.known l is in
                       subst (λ (m : Lent). (m.known ≤ end)
-                      × IsCopiedBelow setup.segment_size (set flights id f) m.known) one
+                      × IsCopiedBelow setup.seg_size (set flights id f) m.known) one
                       (h.0, still l.known h.1);
                   stored = λ o is_o.
                       let one : n ≡ o = cc in
@@ -321,7 +321,7 @@ module _ (opening : Opening) (p : Positions) (k : PositionsHold p.first opening 
 
       pub calls : (l : Lent) → x.hold ≡ Out l → home ≡ none → (after : Plain)
           → writer.written ≤ after.written → after.written ≤ end
-          → IsCopiedBelow setup.segment_size flights after.written
+          → IsCopiedBelow setup.seg_size flights after.written
           → IfSuited p.first opening after (λ (t : Tape). ReadsBelow opening order after.written
           (state_now t))
           → PositionsHold p.first opening order written flushed down home after (set flights id f)
@@ -345,24 +345,24 @@ module _ (opening : Opening) (p : Positions) (k : PositionsHold p.first opening 
 
   -- ---- the order grows
 
-  module _ (valid : IsSegmentSize setup.segment_size) (chained : GoesOnAtPlace opening order)
+  module _ (valid : IsSegmentSize setup.seg_size) (chained : GoesOnAtPlace opening order)
       (e : Entry) (start : e.start ≡ order_end opening order) where
     abbrev longer : List Entry
     longer = order ++ e ∷ []
 
     grown_end : end ≤ end_form setup (order_end opening longer)
-    grown_end = end_address_of-mono setup.segment_size valid
+    grown_end = end_address_of-mono setup.seg_size valid
         (order_end opening order) (order_end opening longer)
-        (omega (arith, rooms_of_push setup.segment_size order e))
+        (omega (arith, rooms_of_push setup.seg_size order e))
 
     -- the log's words below its end stay
     word_stays : (k : ℕ) → 8 * k < end
         → log_bytes_of opening longer (8 * k) ≡ log_bytes_of opening order (8 * k)
     word_stays k below = ap (to_le_bytes w64)
-        (word_from_push setup.segment_size setup.sysid valid opening.place order e chained start
+        (word_from_push setup.seg_size setup.sysid valid opening.place order e chained start
         (8 * k)
-        (λ (owns : Owns setup.segment_size (assembled e.value) e.start (8 * k)).
-        let between = Owns-between setup.segment_size valid (assembled e.value) e.start (8 * k)
+        (λ (owns : Owns setup.seg_size (assembled e.value) e.start (8 * k)).
+        let between = Owns-between setup.seg_size valid (assembled e.value) e.start (8 * k)
         owns in
         omega (arith, between.0, below, ap (end_form setup) start)))
 
@@ -374,8 +374,8 @@ module _ (opening : Opening) (p : Positions) (k : PositionsHold p.first opening 
         let begins : end ≡ end_form setup (c.entry).start =
         ap (end_form setup) (sym start ∙ ap (λ (y : Entry). y.start) (sym of_e)) in
         let clear = λ (address : ℕ) (low : address ≤ end)
-        (copied : IsCopiedBelow setup.segment_size flights address).
-        begun_clear setup.segment_size address id flights c
+        (copied : IsCopiedBelow setup.seg_size flights address).
+        begun_clear setup.seg_size address id flights c
         (omega (arith, begins, none_yet, low)) copied in
         record {
           begun = k.begun;

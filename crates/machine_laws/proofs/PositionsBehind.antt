@@ -2,16 +2,16 @@
 use Rattle.std.proofs.Common.{◌≡◌, ◌≢◌, ℕ, ◌<◌, true, Contains, List, [], ◌∷◌, ◌++◌, map, set, slice_index, refl, sym, ap, subst, arith, eqb, ⊎_elim, ◌∙◌}
 use mathlib.Core.Option.{Option}
 use Rattle.wal_page.specs.Order.{Entry}
-use Rattle.wal_core.specs.declared.setup.Setup.{Setup}
-use Rattle.wal_core.specs.Words.{lock_word, position_word, prev_word, written_word, flushed_word, moment_word, down_word, mapping_turn_number, write_turn_number, written_number, flushed_number, moment_number, down_number, lock_number}
-use Rattle.wal_core.specs.Views.{HasAt, Plain, Flight, Writing, Locked, Taken, View, reserving_of, working_of, flight_of, writing_of, receipts_of}
-use Rattle.wal_core.specs.Positioned.{PositionsHold}
-use Rattle.wal_core.specs.Moves.{with_place, with_stage, with_working}
-use Rattle.wal_core.specs.Failed.{KnowsOfFault}
-use Rattle.wal_core.specs.Steps.{StepKind, MayStep, word_of_step, home_behind, load_position, take_write_turn, slot_out, slot_in, release_write_turn, lock_position, load_prev, store_prev, store_position, give_position_back, stay, load_lock, take_lock, advance, release, load_buffer_end, store_ring_word, load_ring_word, load_written, load_flushed, load_moment, load_down, store_written, store_moment, store_flushed, set_down, load_async, raise_async, take_mapping_turn, load_initialised_end, clear_end, zero_ring_word, publish_end, publish_initialised_end, release_mapping_turn, create, write, sync}
-use Rattle.wal_core.specs.Sound.{IsSound}
-use Rattle.wal_core.proofs.Lists.{part_at, part_set}
-use Rattle.wal_core.proofs.WordLists.{single_set, word_else, word_again}
+use Rattle.machine_state.specs.declared.setup.Setup.{Setup}
+use Rattle.machine_state.specs.Words.{lock_word, position_word, prev_word, written_word, flushed_word, moment_word, down_word, mapping_turn_number, write_turn_number, written_number, flushed_number, moment_number, down_number, lock_number}
+use Rattle.machine_state.specs.Views.{HasAt, Plain, Flight, Writing, Locked, Taken, View, reserving_of, working_of, flight_of, writing_of, receipts_of}
+use Rattle.machine_state.specs.Positioned.{PositionsHold}
+use Rattle.machine_state.specs.Moves.{with_place, with_stage, with_working}
+use Rattle.machine_state.specs.Failed.{KnowsOfFault}
+use Rattle.machine_state.specs.Steps.{StepKind, MayStep, word_of_step, home_behind, load_position, take_write_turn, slot_out, slot_in, release_write_turn, lock_position, load_prev, store_prev, store_position, give_position_back, stay, load_lock, take_lock, advance, release, load_buffer_end, store_ring_word, load_ring_word, load_written, load_flushed, load_moment, load_down, store_written, store_moment, store_flushed, set_down, load_async, raise_async, take_mapping_turn, load_initialised_end, clear_end, zero_ring_word, publish_end, publish_initialised_end, release_mapping_turn, create, write, sync}
+use Rattle.machine_state.specs.Sound.{IsSound}
+use Rattle.machine_state.proofs.Lists.{part_at, part_set}
+use Rattle.machine_state.proofs.WordLists.{single_set, word_else, word_again}
 use Rattle.machine_laws.specs.PositionParts.{Positions, HasPositions as HasPositionsNow}
 use Rattle.machine_laws.proofs.PositionKept as kept
 use Rattle.machine_laws.proofs.PositionCalls as calls

@@ -1,10 +1,10 @@
 -- A word that is set by its number changes one value of the ends of the buffers, or of the ring.
 use Rattle.std.proofs.Common.{◌≡◌, ℕ, ◌+◌, ◌*◌, ◌/◌, ◌%◌, ◌<◌, Bool, cond, eq-eqb, ne_eqb, List, length, set, refl, ap, arith}
 use Rattle.std.proofs.Math.Nat.{mod-lt}
-use Rattle.wal_core.specs.declared.setup.Setup.{Setup}
-use Rattle.wal_core.specs.Words.{end_word, word_of_ring, word_count, ends_number}
-use Rattle.wal_core.specs.Steps.{buffer_of, ring_place}
-use Rattle.wal_core.proofs.WordLists.{end_else, end_set, ring_else, ring_set}
+use Rattle.machine_state.specs.declared.setup.Setup.{Setup}
+use Rattle.machine_state.specs.Words.{end_word, word_of_ring, word_count, ends_number}
+use Rattle.machine_state.specs.Steps.{buffer_of, ring_place}
+use Rattle.machine_state.proofs.WordLists.{end_else, end_set, ring_else, ring_set}
 use Rattle.machine_laws.specs.WordsPut.{IsPut, put}
 
 pub put_is : (before : ℕ → ℕ) (index value : ℕ) → IsPut before index value (put before index value)

@@ -7,16 +7,16 @@ use Rattle.segment_disk.specs.declared.disk.Call.{Call}
 use Rattle.segment_disk.specs.Assured.{IsNowhere, SegmentAssures, TapeAssures}
 use Rattle.segment_disk.specs.Tape.{DiskState, Segment, Tape, create_call, failed_call, state_now, sync_call, write_call}
 use Rattle.byte_position.specs.Geometry.{pages_of}
-use Rattle.wal_core.specs.Words.{Opening, write_turn, mapping_turn_number, write_turn_number, lock_number}
-use Rattle.wal_core.specs.Views.{HasAt, Hold, Turned, Out, Lent, Locked, Plain, Taken, View, Writing, writer_of, writing_of}
-use Rattle.wal_core.specs.Moves.{CallOutcome, after_create, after_join, after_sync, after_write, hardened, orphan_of, spent, split_off, with_hold, with_lent, with_outcome, with_place, with_stage, with_working}
-use Rattle.wal_core.specs.Durable.{IsLawfulAt}
-use Rattle.wal_core.specs.Reading.{ReadingHolds, ReadsAtMost}
-use Rattle.wal_core.specs.Suited.{BeganSuited, tape_from}
-use Rattle.wal_core.specs.Steps.{StepKind, IsNextWrite, MayStep, word_of_step, view_behind, with_call_on, with_slot, load_position, take_write_turn, slot_out, slot_in, release_write_turn, lock_position, load_prev, store_prev, store_position, give_position_back, stay, load_lock, take_lock, advance, release, load_buffer_end, store_ring_word, load_ring_word, load_written, load_flushed, load_moment, load_down, store_written, store_moment, store_flushed, set_down, load_async, raise_async, take_mapping_turn, load_initialised_end, clear_end, zero_ring_word, publish_end, publish_initialised_end, release_mapping_turn, create, write, sync}
-use Rattle.wal_core.specs.Sound.{IsSound}
-use Rattle.wal_core.proofs.Lists.{part_at, part_set, view_from}
-use Rattle.wal_core.proofs.Tapes.{at_suited}
+use Rattle.machine_state.specs.Words.{Opening, write_turn, mapping_turn_number, write_turn_number, lock_number}
+use Rattle.machine_state.specs.Views.{HasAt, Hold, Turned, Out, Lent, Locked, Plain, Taken, View, Writing, writer_of, writing_of}
+use Rattle.machine_state.specs.Moves.{CallOutcome, after_create, after_join, after_sync, after_write, hardened, orphan_of, spent, split_off, with_hold, with_lent, with_outcome, with_place, with_stage, with_working}
+use Rattle.machine_state.specs.Durable.{IsLawfulAt}
+use Rattle.machine_state.specs.Reading.{ReadingHolds, ReadsAtMost}
+use Rattle.machine_state.specs.Suited.{BeganSuited, tape_from}
+use Rattle.machine_state.specs.Steps.{StepKind, IsNextWrite, MayStep, word_of_step, view_behind, with_call_on, with_slot, load_position, take_write_turn, slot_out, slot_in, release_write_turn, lock_position, load_prev, store_prev, store_position, give_position_back, stay, load_lock, take_lock, advance, release, load_buffer_end, store_ring_word, load_ring_word, load_written, load_flushed, load_moment, load_down, store_written, store_moment, store_flushed, set_down, load_async, raise_async, take_mapping_turn, load_initialised_end, clear_end, zero_ring_word, publish_end, publish_initialised_end, release_mapping_turn, create, write, sync}
+use Rattle.machine_state.specs.Sound.{IsSound}
+use Rattle.machine_state.proofs.Lists.{part_at, part_set, view_from}
+use Rattle.machine_state.proofs.Tapes.{at_suited}
 use Rattle.machine_laws.specs.LocksBehind.{writer_behind}
 use Rattle.machine_laws.specs.RingBehind.{memory_behind, memory_stored}
 use Rattle.machine_laws.proofs.DurableAssured.{out_holds}
@@ -33,7 +33,7 @@ module _ {first : DiskState} (words : List ℕ) (home : Option Plain) (views : L
   o = v.opening
 
   abbrev size : ℕ
-  size = ((v.opening).setup).segment_size
+  size = ((v.opening).setup).seg_size
 
   abbrev parts : List Writing
   parts = map writing_of views

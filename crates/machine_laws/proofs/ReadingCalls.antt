@@ -4,10 +4,10 @@ use Rattle.std.proofs.Common.{◌≡◌, inl, inr, ℕ, ◌+◌, ◌*◌, ◌%�
 use Rattle.std.specs.Int.{w64, to_le_bytes}
 use Rattle.byte_position.specs.Geometry.{IsSegmentSize, pages_of}
 use Rattle.segment_disk.specs.Tape.{DiskState, Segment, page_as_read}
-use Rattle.wal_core.specs.Views.{IsLoadedLast}
-use Rattle.wal_core.specs.Steps.{IsPageLoaded}
-use Rattle.wal_core.specs.Growing.{AddsTo, IsZeroOr}
-use Rattle.wal_core.specs.Reading.{word_read}
+use Rattle.machine_state.specs.Views.{IsLoadedLast}
+use Rattle.machine_state.specs.Steps.{IsPageLoaded}
+use Rattle.machine_state.specs.Growing.{AddsTo, IsZeroOr}
+use Rattle.machine_state.specs.Reading.{word_read}
 use Rattle.machine_laws.proofs.LogReading.{creating, syncing, writing}
 use Rattle.machine_laws.proofs.ReadingParts.{Puts}
 use Rattle.machine_laws.proofs.WordsRead.{read_created, read_on_page, read_synced, read_written}

@@ -7,14 +7,14 @@ use mathlib.Core.Option.{none, some}
 use Rattle.segment_disk.specs.declared.disk.Call.{Call}
 use Rattle.segment_disk.specs.ImageWords.{zero_word}
 use Rattle.segment_disk.specs.Tape.{DiskState, Tape, after_call, failed_call, state_now}
-use Rattle.wal_core.specs.Words.{Opening}
-use Rattle.wal_core.specs.Views.{HasAt, Hold, Idle, Turned, Out, IsLoadedLast, Lent, Plain, Writing}
-use Rattle.wal_core.specs.Moves.{CallOutcome, Done, Failed, no_writing, with_lent, with_outcome}
-use Rattle.wal_core.specs.Suited.{BeganSuited, IfSuited, tape_from}
-use Rattle.wal_core.specs.Growing.{IsZeroOr, OnlyAdds, OnlyAddsSince}
-use Rattle.wal_core.specs.Reading.{IsLoadedRightly, ReadingHolds, ReadsAtMost, word_read}
-use Rattle.wal_core.proofs.Lists.{one_added, one_set}
-use Rattle.wal_core.proofs.Tapes.{at_suited, began_behind, counted_on, on_tape, state_behind, tape_behind}
+use Rattle.machine_state.specs.Words.{Opening}
+use Rattle.machine_state.specs.Views.{HasAt, Hold, Idle, Turned, Out, IsLoadedLast, Lent, Plain, Writing}
+use Rattle.machine_state.specs.Moves.{CallOutcome, Done, Failed, no_writing, with_lent, with_outcome}
+use Rattle.machine_state.specs.Suited.{BeganSuited, IfSuited, tape_from}
+use Rattle.machine_state.specs.Growing.{IsZeroOr, OnlyAdds, OnlyAddsSince}
+use Rattle.machine_state.specs.Reading.{IsLoadedRightly, ReadingHolds, ReadsAtMost, word_read}
+use Rattle.machine_state.proofs.Lists.{one_added, one_set}
+use Rattle.machine_state.proofs.Tapes.{at_suited, began_behind, counted_on, on_tape, state_behind, tape_behind}
 use Rattle.machine_laws.proofs.DurableAssured.{lent_cases}
 use Rattle.machine_laws.proofs.GrowthLaws.{since_more}
 use Rattle.machine_laws.proofs.LoadedLast.{same_loaded}
@@ -153,7 +153,7 @@ module _ (first : DiskState) (o : Opening) (memory : ℕ → ℕ) (w : Plain) wh
               sym now.1 ∙ from_memory m held ∙ ap memory now.0 in record {
                 loaded = inr own;
                 read = IfSome_then (tape_from first w.calls) h.reads (λ t reads suited.
-                    subst (λ (n : ℕ). ReadsAtMost (o.setup).segment_size k n t) (sym own)
+                    subst (λ (n : ℕ). ReadsAtMost (o.setup).seg_size k n t) (sym own)
                     (reads suited k));
               })
           | inr before ↦ h.staged id x m here held k word before.1
@@ -168,8 +168,8 @@ module _ (first : DiskState) (o : Opening) (memory : ℕ → ℕ) (w : Plain) wh
       reads = IfSome_then (tape_from first w.calls) h.reads (λ t reads suited k.
           elim (turns k) [
             | inl nothing ↦ zero_read (memory k) (memory2 k) nothing
-                (word_read (o.setup).segment_size (state_now t) k) (reads suited k)
-            | inr same ↦ subst (λ (n : ℕ). ReadsAtMost (o.setup).segment_size k n t) same
+                (word_read (o.setup).seg_size (state_now t) k) (reads suited k)
+            | inr same ↦ subst (λ (n : ℕ). ReadsAtMost (o.setup).seg_size k n t) same
                 (reads suited k)
           ]);
       staged = λ id x l here is k word last.
@@ -193,7 +193,7 @@ module _ {first : DiskState} (o : Opening) (memory : ℕ → ℕ) (w : Plain) (p
     (id : ℕ) (x : Writing) (here : HasAt parts id x) (l : Lent) (out : x.hold ≡ Out l)
     (alone : (j : ℕ) (u : Writing) (m : Lent) → HasAt parts j u → u.hold ≡ Out m → j ≡ id) where
   abbrev size : ℕ
-  size = (o.setup).segment_size
+  size = (o.setup).seg_size
 
   abbrev read_in : Tape → ℕ → List ℕ
   read_in t k = word_read size (state_now t) k
@@ -205,7 +205,7 @@ module _ {first : DiskState} (o : Opening) (memory : ℕ → ℕ) (w : Plain) (p
   -- on each tape that began as suits a log
   abbrev PutsThere : Call → Type 0
   PutsThere call = (t : Tape) → tape_from first w.calls ≡ Some t → BeganSuited o t
-      → Puts (o.setup).segment_size l.staged (state_now t) call
+      → Puts (o.setup).seg_size l.staged (state_now t) call
 
   module _ (call : Call) (outcome : CallOutcome) (puts : PutsThere call)
       (failed_puts : (made : Bool) → PutsThere (failed_call made call))

@@ -9,7 +9,7 @@ use Rattle.byte_position.specs.Geometry.{IsSegmentSize}
 use Rattle.byte_position.specs.Position.{end_address_of}
 use Rattle.byte_position.proofs.EndAddresses.{end_address_of-mono}
 use Rattle.byte_position.proofs.Words.{end_address_of-mod_word}
-use Rattle.record_spelling.specs.Spelling.{assembled}
+use Rattle.wal_spelling.specs.Spelling.{assembled}
 use Rattle.wal_page.specs.Order.{Entry, finish_of, position_behind, rooms_of}
 use Rattle.wal_page.specs.LogPlace.{IsPlace}
 use Rattle.wal_page.specs.EntryWords.{address_of_word, words_owned}
@@ -19,14 +19,14 @@ use Rattle.wal_page.proofs.OwnerLaws.{Owns-between}
 use Rattle.wal_page.proofs.PaddingLaws.{room_at-whole}
 use Rattle.wal_page.proofs.EntryWordLaws.{numbered_word-owned}
 use Rattle.wal_page.proofs.PlaceLaws.{start-whole_from, word_from-behind, word_from-entry, word_from_push}
-use Rattle.wal_core.specs.Views.{HasAt, Copy, Flight, Landed, Copying}
-use Rattle.wal_core.specs.Ringed.{log_word_of, IsOfOrder, IsAwaited, IsInFlightOnce, RingHolds}
-use Rattle.wal_core.specs.Moves.{landed}
-use Rattle.wal_core.specs.Steps.{number_of_next, next_word}
-use Rattle.wal_core.proofs.Landing.{landed_was, landed_stays}
-use Rattle.wal_core.proofs.Lists.{one_set, at_new, at_same, at_place}
+use Rattle.machine_state.specs.Views.{HasAt, Copy, Flight, Landed, Copying}
+use Rattle.machine_state.specs.Ringed.{log_word_of, IsOfOrder, IsAwaited, IsInFlightOnce, RingHolds}
+use Rattle.machine_state.specs.Moves.{landed}
+use Rattle.machine_state.specs.Steps.{number_of_next, next_word}
+use Rattle.machine_state.proofs.Landing.{landed_was, landed_stays}
+use Rattle.machine_state.proofs.Lists.{one_set, at_new, at_same, at_place}
 use Rattle.machine_laws.specs.WordsPut.{IsPut}
-use Rattle.wal_core.specs.Words.{order_end, last_start, GoesOnAtPlace, Opening}
+use Rattle.machine_state.specs.Words.{order_end, last_start, GoesOnAtPlace, Opening}
 
 -- ---- the words of an entry
 
@@ -51,19 +51,19 @@ module _ (size : ℕ) (valid : IsSegmentSize size) (e : Entry) (whole : e.start 
 -- ---- entries in flight
 
 -- an entry in flight starts at a whole word
-pub copy-whole : (opening : Opening) → IsSegmentSize opening.setup.segment_size
-    → IsPlace opening.setup.segment_size opening.place → (order : List Entry)
+pub copy-whole : (opening : Opening) → IsSegmentSize opening.setup.seg_size
+    → IsPlace opening.setup.seg_size opening.place → (order : List Entry)
     → GoesOnAtPlace opening order → (c : Copy) → IsOfOrder opening order c
     → (c.entry).start % 8 ≡ 0
 copy-whole opening valid placed order chain c s =
-    start-whole_from opening.setup.segment_size valid opening.place.position s.front s.back c.entry
+    start-whole_from opening.setup.seg_size valid opening.place.position s.front s.back c.entry
     (subst (GoesOnAtPlace opening) s.are chain) placed.whole
 
 -- and before the order's end
 start-before_end : (opening : Opening) (order : List Entry) → GoesOnAtPlace opening order
     → (c : Copy) → IsOfOrder opening order c → (c.entry).start < order_end opening order
 start-before_end opening order chain c s =
-    let size = opening.setup.segment_size in
+    let size = opening.setup.seg_size in
     let parts = FollowsFrom-parts size opening.place.position s.front (c.entry ∷ s.back)
     (subst (GoesOnAtPlace opening) s.are chain) in
     let start : (c.entry).start ≡ opening.place.position + rooms_of size s.front = parts.1.0 in
@@ -109,7 +109,7 @@ module _ (opening : Opening) (order : List Entry) (reach : ℕ) (memory : ℕ �
     (flights : List Flight)
     (k : RingHolds opening order reach memory flights) where
   abbrev size : ℕ
-  size = opening.setup.segment_size
+  size = opening.setup.seg_size
 
   -- the views change, each entry in flight is one of the order, and all that is awaited stays so
   rearrange : (flights2 : List Flight) → IsInFlightOnce flights2
@@ -240,9 +240,9 @@ landed_stands opening order lock f c is =
 module _ (opening : Opening) (order : List Entry) (reach : ℕ) (memory : ℕ → ℕ)
     (flights : List Flight)
     (k : RingHolds opening order reach memory flights)
-    (valid : IsSegmentSize opening.setup.segment_size) (chain : GoesOnAtPlace opening order) where
+    (valid : IsSegmentSize opening.setup.seg_size) (chain : GoesOnAtPlace opening order) where
   abbrev segment : ℕ
-  segment = opening.setup.segment_size
+  segment = opening.setup.seg_size
 
   -- no copy is one of an entry that starts at the order's end; so such a copy may begin
   begins_once : (id : ℕ) (new : Copy) → HasAt flights id Landed
@@ -332,7 +332,7 @@ module _ (opening : Opening) (order : List Entry) (reach : ℕ) (memory : ℕ �
       }
 
   -- an entry in flight starts at a whole word
-  module _ (placed : IsPlace opening.setup.segment_size opening.place) where
+  module _ (placed : IsPlace opening.setup.seg_size opening.place) where
     -- what is awaited is still to copy
     pub awaited-left : (address : ℕ) (w : IsAwaited segment flights address)
         → (w.copy).copied < words_owned segment (w.copy).entry

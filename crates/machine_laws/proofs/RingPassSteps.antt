@@ -2,14 +2,14 @@
 -- keeps the invariant.
 use Rattle.std.proofs.Common.{◌≡◌, ℕ, List, [], ◌∷◌, ◌++◌, map, set, sym, ap, ◌∙◌, subst}
 use mathlib.Core.Option.{Option}
-use Rattle.wal_core.specs.Words.{Opening, initialised_word, written_word, end_word, word_of_ring}
-use Rattle.wal_core.specs.Views.{HasAt, Flight, Plain, View, flight_of, confirmed_of}
-use Rattle.wal_core.specs.Ringed.{RingHolds}
-use Rattle.wal_core.specs.Paged.{PagesHold}
-use Rattle.wal_core.specs.Moves.{after_split, split_off, after_join, spent, without_work, orphan_of}
-use Rattle.wal_core.specs.Steps.{IsResting}
-use Rattle.wal_core.specs.Sound.{IsSound}
-use Rattle.wal_core.proofs.Lists.{part_added, part_at, part_set}
+use Rattle.machine_state.specs.Words.{Opening, initialised_word, written_word, end_word, word_of_ring}
+use Rattle.machine_state.specs.Views.{HasAt, Flight, Plain, View, flight_of, confirmed_of}
+use Rattle.machine_state.specs.Ringed.{RingHolds}
+use Rattle.machine_state.specs.Paged.{PagesHold}
+use Rattle.machine_state.specs.Moves.{after_split, split_off, after_join, spent, without_work, orphan_of}
+use Rattle.machine_state.specs.Steps.{IsResting}
+use Rattle.machine_state.specs.Sound.{IsSound}
+use Rattle.machine_state.proofs.Lists.{part_added, part_at, part_set}
 use Rattle.machine_laws.specs.RingBehind.{HasRingWith, HasPagesWith}
 use Rattle.machine_laws.proofs.RingLaws as ring
 use Rattle.machine_laws.proofs.PageLaws as page

@@ -4,15 +4,15 @@ use Rattle.std.proofs.Common.{◌≡◌, ◌⊎◌, ℕ, ◌+◌, true, List, []
 use mathlib.Core.Option.{Option}
 use Rattle.wal_types.specs.declared.record.Record.{Record}
 use Rattle.wal_page.specs.Order.{Entry}
-use Rattle.wal_core.specs.declared.setup.Setup.{Setup}
-use Rattle.wal_core.specs.Words.{initialised_word, written_word, end_word, word_of_ring, order_end, last_start}
-use Rattle.wal_core.specs.Views.{HasAt, Place, Flight, Copying, Plain, View, reserving_of, flight_of, confirmed_of}
-use Rattle.wal_core.specs.Ordered.{AtPlace}
-use Rattle.wal_core.specs.Ringed.{RingHolds}
-use Rattle.wal_core.specs.Moves.{with_place, entry_reserved, after_store_position, landed, one_more}
-use Rattle.wal_core.specs.Steps.{StepKind, MayStep, view_behind, store_position, release, store_ring_word, publish_end, number_of_next, next_value}
-use Rattle.wal_core.specs.Sound.{IsSound}
-use Rattle.wal_core.proofs.Lists.{part_at, part_set}
+use Rattle.machine_state.specs.declared.setup.Setup.{Setup}
+use Rattle.machine_state.specs.Words.{initialised_word, written_word, end_word, word_of_ring, order_end, last_start}
+use Rattle.machine_state.specs.Views.{HasAt, Place, Flight, Copying, Plain, View, reserving_of, flight_of, confirmed_of}
+use Rattle.machine_state.specs.Ordered.{AtPlace}
+use Rattle.machine_state.specs.Ringed.{RingHolds}
+use Rattle.machine_state.specs.Moves.{with_place, entry_reserved, after_store_position, landed, one_more}
+use Rattle.machine_state.specs.Steps.{StepKind, MayStep, view_behind, store_position, release, store_ring_word, publish_end, number_of_next, next_value}
+use Rattle.machine_state.specs.Sound.{IsSound}
+use Rattle.machine_state.proofs.Lists.{part_at, part_set}
 use Rattle.machine_laws.specs.WordsPut.{IsPut}
 use Rattle.machine_laws.specs.RingBehind.{memory_stored, met_by, HasRing}
 use Rattle.machine_laws.proofs.PutWords.{put_is}
@@ -48,7 +48,7 @@ module _ {first : DiskState} (v : View) (words : List ℕ) (home : Option Plain)
   ring_behind-reserved locks value live may =
       let e : Entry = entry_reserved (v.reserving).number may.0 value in
       let place = subst
-      (AtPlace setup.segment_size (order_end v.opening s.order)
+      (AtPlace setup.seg_size (order_end v.opening s.order)
       (last_start v.opening s.order) _ _ _ _) may.2
       ((s.reserved).places id v.reserving (part_at reserving_of views id v here) live) in
       ring_by (store_position locks value) (s.order ++ e ∷ []) s.reach s.memory

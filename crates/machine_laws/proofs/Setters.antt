@@ -1,9 +1,9 @@
 -- How many passes set the down word, where one view changes, one comes, and one takes another in.
 use Rattle.std.proofs.Common.{◌≡◌, ◌≢◌, ℕ, zero, suc, ◌+◌, ◌≤◌, List, [], ◌∷◌, ◌++◌, set, refl, sym, ap, arith}
 use mathlib.Core.Option.{some-injective, some-ne-none}
-use Rattle.wal_core.specs.Views.{HasAt, Joined, Receipts}
-use Rattle.wal_core.specs.Durable.{setters, setters_among, setters_of}
-use Rattle.wal_core.proofs.Lists.{at_else}
+use Rattle.machine_state.specs.Views.{HasAt, Joined, Receipts}
+use Rattle.machine_state.specs.Durable.{setters, setters_among, setters_of}
+use Rattle.machine_state.proofs.Lists.{at_else}
 
 pub setters_append : (js ks : List Joined)
     → setters_among (js ++ ks) ≡ setters_among js + setters_among ks

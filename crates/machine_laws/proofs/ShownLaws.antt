@@ -5,17 +5,17 @@ use mathlib.Core.Option.{Option}
 use mathlib.Core.Logic.{dite}
 use native.Mathlib.Decide.{dec_le}
 use Rattle.wal_page.specs.EntryWords.{address_of_word}
-use Rattle.wal_core.specs.declared.setup.Setup.{Setup}
-use Rattle.wal_core.specs.Words.{Opening, initialised_word, written_word, mapping_turn, end_word, word_of_ring}
-use Rattle.wal_core.specs.Views.{HasAt, Stage, Away, Taken, Looked, Ready, Zeroing, Published, Plain, View, Copy, Flight, Copying, working_of, flight_of, watching_of, mapper_of, confirmed_of, receipts_of}
-use Rattle.wal_core.specs.Locked.{HasTurn}
-use Rattle.wal_core.specs.Ringed.{IsAwaited, log_word_of}
-use Rattle.wal_core.specs.Paged.{AtStage, PagesHold}
-use Rattle.wal_core.specs.Steps.{page_mapped, words_zeroed, ring_place}
-use Rattle.wal_core.specs.Sound.{IsSound}
-use Rattle.wal_core.specs.Shown.{IsPresent, HasLooked, HasCleared, HasLogWord, IsPublished, EntriesAreCopied, WordsAreLogs, PagesArePresent, MappersAreNext}
-use Rattle.wal_core.proofs.Landing.{lock_of}
-use Rattle.wal_core.proofs.Lists.{part_at, view_from}
+use Rattle.machine_state.specs.declared.setup.Setup.{Setup}
+use Rattle.machine_state.specs.Words.{Opening, initialised_word, written_word, mapping_turn, end_word, word_of_ring}
+use Rattle.machine_state.specs.Views.{HasAt, Stage, Away, Taken, Looked, Ready, Zeroing, Published, Plain, View, Copy, Flight, Copying, working_of, flight_of, watching_of, mapper_of, confirmed_of, receipts_of}
+use Rattle.machine_state.specs.Locked.{HasTurn}
+use Rattle.machine_state.specs.Ringed.{IsAwaited, log_word_of}
+use Rattle.machine_state.specs.Paged.{AtStage, PagesHold}
+use Rattle.machine_state.specs.Steps.{page_mapped, words_zeroed, ring_place}
+use Rattle.machine_state.specs.Sound.{IsSound}
+use Rattle.machine_state.specs.Shown.{IsPresent, HasLooked, HasCleared, HasLogWord, IsPublished, EntriesAreCopied, WordsAreLogs, PagesArePresent, MappersAreNext}
+use Rattle.machine_state.proofs.Landing.{lock_of}
+use Rattle.machine_state.proofs.Lists.{part_at, view_from}
 use Rattle.machine_laws.proofs.CopiedWords.{copied-stored, landed-stored}
 use Rattle.machine_laws.proofs.RingLaws.{awaited-left}
 use Rattle.machine_laws.proofs.PageLaws.{end_low, not_given_up}
@@ -161,7 +161,7 @@ module _ {first : DiskState} (opening : Opening) (words : List ℕ) (home : Opti
   -- nobody is to copy what a watcher that has visited all locks knows as copied
   watched-not_awaited : (id : ℕ) (v : View) (address : ℕ) → HasAt views id v
       → (v.watching).visited ≡ 8 → address < (v.watching).bound
-      → IsAwaited setup.segment_size (map flight_of views) address → ⊥
+      → IsAwaited setup.seg_size (map flight_of views) address → ⊥
   watched-not_awaited id v address here all low w =
       let u = view_from flight_of views w.id (Copying w.copy) w.in_flight in
       let at_work = part_at working_of views w.id u.0 u.1 in
@@ -217,11 +217,11 @@ module _ {first : DiskState} (opening : Opening) (words : List ℕ) (home : Opti
   entries_are_copied = record {
     once = λ i j v w c d one other copies this.
         (s.ring).alone i j c d (flies i v c one copies) (flies j w d other this);
-    copied = λ id v c n here is low. in_ring (address_of_word setup.segment_size c.entry n)
+    copied = λ id v c n here is low. in_ring (address_of_word setup.seg_size c.entry n)
         (copied-stored opening s.order s.reach s.memory (map flight_of views) s.ring
         (s.setup_is).size (s.reserved).placed (s.reserved).chained id c (flies id v c here is) n
         low);
-    landed = λ front back e n are nowhere owned. in_ring (address_of_word setup.segment_size e n)
+    landed = λ front back e n are nowhere owned. in_ring (address_of_word setup.seg_size e n)
         (landed-stored opening s.order s.reach s.memory (map flight_of views) s.ring
         (s.setup_is).size (s.reserved).placed (s.reserved).chained front back e are n owned
         (λ id c there. let u = view_from flight_of views id (Copying c) there in

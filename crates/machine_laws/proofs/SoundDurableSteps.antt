@@ -5,14 +5,14 @@ use Rattle.byte_position.proofs.SegmentSizes.{segment_size_in_pages}
 use Rattle.segment_disk.specs.Tape.{DiskState, create_call, sync_call, write_call}
 use Rattle.wal_types.specs.declared.record.Record.{Record}
 use Rattle.wal_page.specs.Order.{Entry}
-use Rattle.wal_core.specs.Words.{Opening, flushed_word, moment_word, down_word, written_word, write_turn, mapping_turn_number, write_turn_number, initialised_number, written_number, flushed_number, moment_number, down_number, ends_number, lock_number}
-use Rattle.wal_core.specs.Views.{HasAt, Lent, Out, Plain, Receipts, View, reserving_of, receipts_of, working_of, writer_of, writing_of, flight_of, Taken, Locked}
-use Rattle.wal_core.specs.Moves.{CallOutcome, after_create, after_sync, after_write, after_join, entry_reserved, after_split, orphan_of, split_off, spent, without_work, with_place, with_stage, with_working}
-use Rattle.wal_core.specs.Durable.{DurabilityHolds}
-use Rattle.wal_core.specs.Sound.{IsSound}
-use Rattle.wal_core.specs.Steps.{StepKind, MayStep, home_behind, place_at, value_behind, view_behind, word_of_step, load_position, take_write_turn, slot_out, slot_in, release_write_turn, lock_position, load_prev, store_prev, store_position, give_position_back, stay, load_lock, take_lock, advance, release, load_buffer_end, store_ring_word, load_ring_word, load_written, load_flushed, load_moment, load_down, store_written, store_moment, store_flushed, set_down, load_async, raise_async, take_mapping_turn, load_initialised_end, clear_end, zero_ring_word, publish_end, publish_initialised_end, release_mapping_turn, create, write, sync}
-use Rattle.wal_core.proofs.Lists.{part_added, part_at, part_set, view_from}
-use Rattle.wal_core.proofs.WordLists.{single_set, word_again, word_else}
+use Rattle.machine_state.specs.Words.{Opening, flushed_word, moment_word, down_word, written_word, write_turn, mapping_turn_number, write_turn_number, initialised_number, written_number, flushed_number, moment_number, down_number, ends_number, lock_number}
+use Rattle.machine_state.specs.Views.{HasAt, Lent, Out, Plain, Receipts, View, reserving_of, receipts_of, working_of, writer_of, writing_of, flight_of, Taken, Locked}
+use Rattle.machine_state.specs.Moves.{CallOutcome, after_create, after_sync, after_write, after_join, entry_reserved, after_split, orphan_of, split_off, spent, without_work, with_place, with_stage, with_working}
+use Rattle.machine_state.specs.Durable.{DurabilityHolds}
+use Rattle.machine_state.specs.Sound.{IsSound}
+use Rattle.machine_state.specs.Steps.{StepKind, MayStep, home_behind, place_at, value_behind, view_behind, word_of_step, load_position, take_write_turn, slot_out, slot_in, release_write_turn, lock_position, load_prev, store_prev, store_position, give_position_back, stay, load_lock, take_lock, advance, release, load_buffer_end, store_ring_word, load_ring_word, load_written, load_flushed, load_moment, load_down, store_written, store_moment, store_flushed, set_down, load_async, raise_async, take_mapping_turn, load_initialised_end, clear_end, zero_ring_word, publish_end, publish_initialised_end, release_mapping_turn, create, write, sync}
+use Rattle.machine_state.proofs.Lists.{part_added, part_at, part_set, view_from}
+use Rattle.machine_state.proofs.WordLists.{single_set, word_again, word_else}
 use Rattle.machine_laws.specs.DurableBehind.{HasDurable, HasDurableWith, IsInside, LoadsStaged}
 use Rattle.machine_laws.proofs.DurableCallSteps.{create_keeps, sync_keeps, write_keeps}
 use Rattle.machine_laws.proofs.DurableReserving.{store_position_keeps}
@@ -38,7 +38,7 @@ module _ {first : DiskState} (words : List ℕ) (home : Option Plain) (views : L
 
   some_flushed : 1 ≤ flushed_word words
   some_flushed =
-      let whole = segment_size_in_pages ((v.opening).setup).segment_size (k.setup_is).size in
+      let whole = segment_size_in_pages ((v.opening).setup).seg_size (k.setup_is).size in
       omega (arith, (k.positions).begun, whole.0, whole.1)
 
   low : flushed_word words ≤ (k.writer).written
@@ -143,7 +143,7 @@ module _ {first : DiskState} (words : List ℕ) (home : Option Plain) (views : L
       let prev = may.1 in
       let is = may.2 in
       let met = slice_index words 0 in
-      let size = ((v.opening).setup).segment_size in
+      let size = ((v.opening).setup).seg_size in
       let w = view_behind v (store_position locks value) met home in
       let entry = λ (p : ℕ). entry_reserved (v.reserving).number p value in
       let place : at ≡ place_at v (v.reserving).place = sym (ap (place_at v) is) in
@@ -161,7 +161,7 @@ module _ {first : DiskState} (words : List ℕ) (home : Option Plain) (views : L
 
   pub durable-create : (segment : ℕ) (outcome : CallOutcome) → MayStep v (create segment outcome)
       → HasDurable first words home views id v (create segment outcome) k.order
-      (after_create segment (create_call ((v.opening).setup).segment_size segment) outcome
+      (after_create segment (create_call ((v.opening).setup).seg_size segment) outcome
       k.writer)
   durable-create segment outcome may =
       let met = slice_index words write_turn_number in
@@ -176,7 +176,7 @@ module _ {first : DiskState} (words : List ℕ) (home : Option Plain) (views : L
       → MayStep v (write segment page upto bytes outcome)
       → HasDurable first words home views id v (write segment page upto bytes outcome) k.order
       (after_write segment upto
-      (write_call ((v.opening).setup).segment_size segment page bytes) outcome k.writer)
+      (write_call ((v.opening).setup).seg_size segment page bytes) outcome k.writer)
   durable-write segment page upto bytes outcome may =
       let met = slice_index words write_turn_number in
       elsewhere_stored k.order _ home write_turn_number met
@@ -189,7 +189,7 @@ module _ {first : DiskState} (words : List ℕ) (home : Option Plain) (views : L
 
   pub durable-sync : (segment : ℕ) (outcome : CallOutcome) → MayStep v (sync segment outcome)
       → HasDurable first words home views id v (sync segment outcome) k.order
-      (after_sync (sync_call ((v.opening).setup).segment_size segment) outcome k.writer)
+      (after_sync (sync_call ((v.opening).setup).seg_size segment) outcome k.writer)
   durable-sync segment outcome may =
       let met = slice_index words write_turn_number in
       elsewhere_stored k.order _ home write_turn_number met (view_behind v (sync segment outcome) met home)

@@ -1,12 +1,12 @@
 -- What a step rests on, in a sound state.
 use Rattle.std.proofs.Common.{◌≡◌, ℕ, true, List, map, slice_index, ap, subst}
 use mathlib.Core.Option.{Option}
-use Rattle.wal_core.specs.Words.{Opening, prev_word, order_end, last_start}
-use Rattle.wal_core.specs.Views.{HasAt, Place, Plain, Reserving, View, reserving_of}
-use Rattle.wal_core.specs.Ordered.{AtPlace}
-use Rattle.wal_core.specs.Steps.{StepKind, MayStep, word_of_step, home_behind}
-use Rattle.wal_core.specs.Sound.{IsSound}
-use Rattle.wal_core.proofs.Lists.{part_at}
+use Rattle.machine_state.specs.Words.{Opening, prev_word, order_end, last_start}
+use Rattle.machine_state.specs.Views.{HasAt, Place, Plain, Reserving, View, reserving_of}
+use Rattle.machine_state.specs.Ordered.{AtPlace}
+use Rattle.machine_state.specs.Steps.{StepKind, MayStep, word_of_step, home_behind}
+use Rattle.machine_state.specs.Sound.{IsSound}
+use Rattle.machine_state.proofs.Lists.{part_at}
 use Rattle.machine_laws.specs.LocksBehind.{words_behind, views_behind, order_behind, stage_behind, writer_behind, StepsFrom, WorksHold, TurnsHold}
 use Rattle.machine_laws.proofs.WorkSteps.{works_behind}
 use Rattle.machine_laws.proofs.TurnSteps.{turns_behind}
@@ -29,7 +29,7 @@ module _ {first : DiskState} (opening : Opening) (words : List ℕ) (home : Opti
     -- a live view stands well in it
     pub stands_now : StepsFrom opening k.order words views id v
     stands_now =
-        let size : ℕ = (opening.setup).segment_size in
+        let size : ℕ = (opening.setup).seg_size in
         let r : Reserving = v.reserving in
         let part : HasAt (map reserving_of views) id r = part_at reserving_of views id v here in
         record {

@@ -1,11 +1,11 @@
 -- A word that a copy stores: its page is present, and its place in the ring is its own.
 use Rattle.std.proofs.Common.{◌≡◌, ℕ, ◌+◌, ◌*◌, ◌/◌, ◌%◌, ◌<◌, ◌≤◌, List, subst, arith}
 use Rattle.wal_page.specs.EntryWords.{address_of_word}
-use Rattle.wal_core.specs.declared.setup.Setup.{Setup}
-use Rattle.wal_core.specs.Views.{HasAt, Copy, Flight, Copying, Stage}
-use Rattle.wal_core.specs.Paged.{PagesHold}
-use Rattle.wal_core.specs.Positioned.{IsCopiedBelow}
-use Rattle.wal_core.specs.Steps.{CopiesOn, ring_place, number_of_next}
+use Rattle.machine_state.specs.declared.setup.Setup.{Setup}
+use Rattle.machine_state.specs.Views.{HasAt, Copy, Flight, Copying, Stage}
+use Rattle.machine_state.specs.Paged.{PagesHold}
+use Rattle.machine_state.specs.Positioned.{IsCopiedBelow}
+use Rattle.machine_state.specs.Steps.{CopiesOn, ring_place, number_of_next}
 use Rattle.machine_laws.specs.WordsPut.{IsPut}
 use Rattle.machine_laws.proofs.PageLaws.{stores}
 
@@ -14,16 +14,16 @@ module _ (setup : Setup) (reach : ℕ) (stage : Stage) (initialised written : �
     (k : PagesHold setup.ring_pages reach stage initialised written ends ring memory confirmed)
     (c : Copy) where
   abbrev address : ℕ
-  address = address_of_word setup.segment_size c.entry c.copied
+  address = address_of_word setup.seg_size c.entry c.copied
 
   -- the page of a word that a copy stores next was mapped
   pub is_mapped : (id met : ℕ) → HasAt confirmed id met → CopiesOn setup met c
-      → address_of_word setup.segment_size c.entry c.copied < reach * 8192
+      → address_of_word setup.seg_size c.entry c.copied < reach * 8192
   is_mapped id met here on = let seen = k.seen id met here in let low = on.met in omega arith
 
   pub stores_word : (flights : List Flight) (id met below value : ℕ) (ends2 ring2 memory2 : ℕ → ℕ)
       → HasAt confirmed id met → HasAt flights id (Copying c) → CopiesOn setup met c
-      → IsCopiedBelow setup.segment_size flights below → written ≤ below
+      → IsCopiedBelow setup.seg_size flights below → written ≤ below
       → ((b : ℕ) → b < setup.ring_pages → ends2 b ≡ ends b)
       → IsPut ring (ring_place setup (number_of_next setup (Copying c))) value ring2
       → IsPut memory (number_of_next setup (Copying c)) value memory2

@@ -4,20 +4,20 @@ use Rattle.std.proofs.Common.{◌≡◌, ℕ, ◌+◌, ◌*◌, ◌/◌, ◌<◌
 use mathlib.Core.Option.{Option}
 use Rattle.segment_disk.specs.Tape.{DiskState}
 use Rattle.wal_types.specs.declared.record.Record.{Record}
-use Rattle.record_spelling.specs.Record.{is_switch, switch_record}
-use Rattle.record_spelling.proofs.SwitchLaws.{told_switched}
+use Rattle.wal_spelling.specs.Record.{is_switch, switch_record}
+use Rattle.wal_spelling.proofs.SwitchLaws.{told_switched}
 use Rattle.wal_page.specs.EntryWords.{address_of_word, words_owned}
 use Rattle.wal_page.specs.Order.{Entry}
 use Rattle.wal_page.proofs.PlaceLaws.{word_from-behind_switch}
-use Rattle.wal_core.specs.Words.{Opening, end_form, lock_word, word_of_ring, order_end, GoesOnAtPlace}
-use Rattle.wal_core.specs.Views.{HasAt, Copy, Flight, Landed, Copying, Plain, View, working_of}
-use Rattle.wal_core.specs.Locked.{most_told}
-use Rattle.wal_core.specs.Ringed.{log_word_of}
-use Rattle.wal_core.specs.Steps.{MayStep, ring_place, store_position}
-use Rattle.wal_core.specs.Sound.{IsSound}
-use Rattle.wal_core.specs.Shown.{IsPresent}
-use Rattle.wal_core.proofs.Landing.{is_among_them, lock_of, none_lands}
-use Rattle.wal_core.proofs.Lists.{at_same, part_at}
+use Rattle.machine_state.specs.Words.{Opening, end_form, lock_word, word_of_ring, order_end, GoesOnAtPlace}
+use Rattle.machine_state.specs.Views.{HasAt, Copy, Flight, Landed, Copying, Plain, View, working_of}
+use Rattle.machine_state.specs.Locked.{most_told}
+use Rattle.machine_state.specs.Ringed.{log_word_of}
+use Rattle.machine_state.specs.Steps.{MayStep, ring_place, store_position}
+use Rattle.machine_state.specs.Sound.{IsSound}
+use Rattle.machine_state.specs.Shown.{IsPresent}
+use Rattle.machine_state.proofs.Landing.{is_among_them, lock_of, none_lands}
+use Rattle.machine_state.proofs.Lists.{at_same, part_at}
 use Rattle.machine_laws.specs.SoundLocks.{HoldsLock}
 use Rattle.machine_laws.specs.Switches.{CopiesBehindAllLocks, IsBehindSwitch}
 use Rattle.machine_laws.proofs.HolderLaws.{locks_have_holders}
@@ -53,10 +53,10 @@ module _ {first : DiskState} (opening : Opening) (words : List ℕ) (home : Opti
 
   pub stands_alone : (id : ℕ) (v : View) (c : Copy) → IsSound first opening words home views
       → HasAt views id v → (v.working).flight ≡ Copying c → IsTrue (is_switch (c.entry).value)
-      → c.copied < words_owned (opening.setup).segment_size c.entry
-      → CopiesBehindAllLocks (opening.setup).segment_size words views id v c
+      → c.copied < words_owned (opening.setup).seg_size c.entry
+      → CopiesBehindAllLocks (opening.setup).seg_size words views id v c
   stands_alone id v c k here copies switches left =
-      let size = (opening.setup).segment_size in
+      let size = (opening.setup).seg_size in
       let end = end_form opening.setup (order_end opening k.order) in
       let mine = part_at working_of views id v here in
       let under : (lock : ℕ) → lock < 8 → Contains c.locks lock =
@@ -80,11 +80,11 @@ module _ {first : DiskState} (opening : Opening) (words : List ℕ) (home : Opti
       }
 
   pub zeros_behind : (s : IsSound first opening words home views) (k : ℕ)
-      → IsBehindSwitch (opening.setup).segment_size s.order (8 * k)
+      → IsBehindSwitch (opening.setup).seg_size s.order (8 * k)
       → IsPresent opening.setup words (k / 1024)
       → word_of_ring opening.setup words (ring_place opening.setup k) ≡ 0
   zeros_behind s k b present =
-      let size = (opening.setup).segment_size in
+      let size = (opening.setup).seg_size in
       let zero : log_word_of opening s.order (8 * k) ≡ 0 =
       ap (λ (es : List Entry). log_word_of opening es (8 * k)) b.are
       ∙ word_from-behind_switch size (opening.setup).sysid (s.setup_is).size opening.place b.front

@@ -7,12 +7,12 @@ use mathlib.Core.Logic.{dite}
 use native.Mathlib.Decide.{ℕ_discrete}
 use Rattle.atomic_table.proofs.Lists.{set_again}
 use Rattle.wal_page.specs.EntryWords.{address_of_word}
-use Rattle.wal_core.specs.Views.{HasAt, Copy, Flight, Landed, Copying, Working, View, working_of}
-use Rattle.wal_core.specs.Locked.{AreHeld, ProgressHolds, most_told}
-use Rattle.wal_core.specs.Moves.{landed, standing, without_lock, one_more, with_working, after_take_lock}
-use Rattle.wal_core.specs.Steps.{exchanged}
-use Rattle.wal_core.proofs.Landing.{among_cases, is_among_them}
-use Rattle.wal_core.proofs.Lists.{one_set, one_added}
+use Rattle.machine_state.specs.Views.{HasAt, Copy, Flight, Landed, Copying, Working, View, working_of}
+use Rattle.machine_state.specs.Locked.{AreHeld, ProgressHolds, most_told}
+use Rattle.machine_state.specs.Moves.{landed, standing, without_lock, one_more, with_working, after_take_lock}
+use Rattle.machine_state.specs.Steps.{exchanged}
+use Rattle.machine_state.proofs.Landing.{among_cases, is_among_them}
+use Rattle.machine_state.proofs.Lists.{one_set, one_added}
 use Rattle.machine_laws.specs.Locks.{ChangesAt, idle}
 use Rattle.machine_laws.proofs.LocksKept.{met_cases, none_in_nothing, two_set_again}
 use Rattle.machine_laws.proofs.HeldLaws.{was_there, still_there, held_is_not, held_is_other, held_by_one}

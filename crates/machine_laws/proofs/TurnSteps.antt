@@ -3,14 +3,14 @@ use Rattle.std.proofs.Common.{◌≡◌, ◌≢◌, ℕ, ◌+◌, ◌<◌, Bool,
 use mathlib.Core.Option.{Option, none, some}
 use Rattle.wal_types.specs.declared.record.Record.{Record}
 use Rattle.segment_disk.specs.Tape.{create_call, sync_call, write_call}
-use Rattle.wal_core.specs.declared.setup.Setup.{Setup}
-use Rattle.wal_core.specs.Words.{lock_word, mapping_turn, write_turn, word_count, mapping_turn_number, write_turn_number, initialised_number, written_number, flushed_number, moment_number, down_number, ends_number, lock_number}
-use Rattle.wal_core.specs.Views.{HasAt, Place, Free, Locked, Loaded, Stored, StopCause, LogFull, AtSegmentStart, Stage, Away, Taken, Looked, Ready, Zeroing, Published, Hold, Idle, Turned, Out, Lent, Plain, View, working_of, mapper_of, writer_of}
-use Rattle.wal_core.specs.Locked.{AreHeld, HasTurn, IsMappingTurn, IsWriteTurn}
-use Rattle.wal_core.specs.Moves.{with_place, with_working, with_hold, with_lent, with_stage, hardened, looked, ready, lent, after_load_prev, after_store_prev, after_store_position, after_stop, after_take_lock, after_take_mapping_turn, after_take_write_turn, after_create, after_write, after_sync}
-use Rattle.wal_core.specs.Steps.{MayStep, StepKind, word_of_step, value_behind, home_behind, returned, with_slot, with_call_on, page_mapped, words_zeroed, load_position, take_write_turn, slot_out, slot_in, release_write_turn, lock_position, load_prev, store_prev, store_position, give_position_back, stay, load_lock, take_lock, advance, release, load_buffer_end, store_ring_word, load_ring_word, load_written, load_flushed, load_moment, load_down, store_written, store_moment, store_flushed, set_down, load_async, raise_async, take_mapping_turn, load_initialised_end, clear_end, zero_ring_word, publish_end, publish_initialised_end, release_mapping_turn, create, write, sync}
-use Rattle.wal_core.proofs.Lists.{part_same, part_set, part_at}
-use Rattle.wal_core.proofs.WordLists.{word_again, word_else, single_set}
+use Rattle.machine_state.specs.declared.setup.Setup.{Setup}
+use Rattle.machine_state.specs.Words.{lock_word, mapping_turn, write_turn, word_count, mapping_turn_number, write_turn_number, initialised_number, written_number, flushed_number, moment_number, down_number, ends_number, lock_number}
+use Rattle.machine_state.specs.Views.{HasAt, Place, Free, Locked, Loaded, Stored, StopCause, LogFull, AtSegmentStart, Stage, Away, Taken, Looked, Ready, Zeroing, Published, Hold, Idle, Turned, Out, Lent, Plain, View, working_of, mapper_of, writer_of}
+use Rattle.machine_state.specs.Locked.{AreHeld, HasTurn, IsMappingTurn, IsWriteTurn}
+use Rattle.machine_state.specs.Moves.{with_place, with_working, with_hold, with_lent, with_stage, hardened, looked, ready, lent, after_load_prev, after_store_prev, after_store_position, after_stop, after_take_lock, after_take_mapping_turn, after_take_write_turn, after_create, after_write, after_sync}
+use Rattle.machine_state.specs.Steps.{MayStep, StepKind, word_of_step, value_behind, home_behind, returned, with_slot, with_call_on, page_mapped, words_zeroed, load_position, take_write_turn, slot_out, slot_in, release_write_turn, lock_position, load_prev, store_prev, store_position, give_position_back, stay, load_lock, take_lock, advance, release, load_buffer_end, store_ring_word, load_ring_word, load_written, load_flushed, load_moment, load_down, store_written, store_moment, store_flushed, set_down, load_async, raise_async, take_mapping_turn, load_initialised_end, clear_end, zero_ring_word, publish_end, publish_initialised_end, release_mapping_turn, create, write, sync}
+use Rattle.machine_state.proofs.Lists.{part_same, part_set, part_at}
+use Rattle.machine_state.proofs.WordLists.{word_again, word_else, single_set}
 use Rattle.machine_laws.specs.LocksBehind.{words_behind, views_behind, moved, stage_behind, writer_behind, TurnsHold}
 use Rattle.machine_laws.proofs.LocksKept.{met_cases}
 use Rattle.machine_laws.proofs.MappingLaws.{open_has, has_or_away, mapping_asked, mapping_goes_on, mapping_released, looked_keeps, ready_keeps}
@@ -398,13 +398,13 @@ module _ (setup : Setup) (words : List ℕ) (home : Option Plain) (stage : Stage
   writing_behind publish_initialised_end may = writing_stays initialised_number _ _ (λ e. omega arith) refl
   writing_behind release_mapping_turn may = writing_stays mapping_turn_number _ _ (λ e. omega arith) refl
   writing_behind (create segment outcome) may = writing_calls
-      (after_create segment (create_call ((v.opening).setup).segment_size segment) outcome)
+      (after_create segment (create_call ((v.opening).setup).seg_size segment) outcome)
       may.0.0 may.0.1
   writing_behind (write segment page upto bytes outcome) may = writing_calls
-      (after_write segment upto (write_call ((v.opening).setup).segment_size segment page bytes)
+      (after_write segment upto (write_call ((v.opening).setup).seg_size segment page bytes)
       outcome) may.0.0 may.0.1
   writing_behind (sync segment outcome) may = writing_calls
-      (after_sync (sync_call ((v.opening).setup).segment_size segment) outcome) may.0.0 may.0.1
+      (after_sync (sync_call ((v.opening).setup).seg_size segment) outcome) may.0.0 may.0.1
 
   pub turns_behind : (e : StepKind) → MayStep v e
       → TurnsHold (words_behind words v e) (home_behind v e home)

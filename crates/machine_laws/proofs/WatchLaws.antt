@@ -11,15 +11,15 @@ use Rattle.byte_position.proofs.EndAddresses.{end_address_of-mono}
 use Rattle.wal_page.specs.Order.{Entry}
 use Rattle.wal_page.specs.EntryWords.{address_of_word}
 use Rattle.wal_page.proofs.OrderLaws.{rooms_of_push}
-use Rattle.wal_core.specs.declared.setup.Setup.{Setup}
-use Rattle.wal_core.specs.Words.{end_form, order_end, Opening}
-use Rattle.wal_core.specs.Views.{HasAt, Copy, Flight, Landed, Copying, Working, is_among, Watching, View, working_of, watching_of, flight_of}
-use Rattle.wal_core.specs.Locked.{AreHeld, ProgressHolds, most_told}
-use Rattle.wal_core.specs.Moves.{landed, one_more, is_landed, is_own, begun, visited_on, copied_below, with_working, after_load_lock, after_take_lock}
-use Rattle.wal_core.specs.Positioned.{IsCopiedBelow}
-use Rattle.wal_core.specs.Watched.{IsCopiedToBound, WatchHolds}
-use Rattle.wal_core.proofs.Landing.{landed_was, lock_of, none_lands}
-use Rattle.wal_core.proofs.Lists.{one_set, one_added, part_at, view_from}
+use Rattle.machine_state.specs.declared.setup.Setup.{Setup}
+use Rattle.machine_state.specs.Words.{end_form, order_end, Opening}
+use Rattle.machine_state.specs.Views.{HasAt, Copy, Flight, Landed, Copying, Working, is_among, Watching, View, working_of, watching_of, flight_of}
+use Rattle.machine_state.specs.Locked.{AreHeld, ProgressHolds, most_told}
+use Rattle.machine_state.specs.Moves.{landed, one_more, is_landed, is_own, begun, visited_on, copied_below, with_working, after_load_lock, after_take_lock}
+use Rattle.machine_state.specs.Positioned.{IsCopiedBelow}
+use Rattle.machine_state.specs.Watched.{IsCopiedToBound, WatchHolds}
+use Rattle.machine_state.proofs.Landing.{landed_was, lock_of, none_lands}
+use Rattle.machine_state.proofs.Lists.{one_set, one_added, part_at, view_from}
 use Rattle.machine_laws.specs.Locks.{idle, unwatching}
 use Rattle.machine_laws.proofs.LocksKept.{met_cases, two_set_again}
 use Rattle.machine_laws.proofs.HeldLaws.{was_there, copying_same, held_by_one}
@@ -257,7 +257,7 @@ module _ (size : ℕ) (lock : ℕ → ℕ) (works : List Working) (held : AreHel
         (word_tells i (min x.bound (lock i - 1)) (λ some. omega arith)))))
         (λ other. stands)
 
-  module _ (opening : Opening) (valid : IsSegmentSize opening.setup.segment_size)
+  module _ (opening : Opening) (valid : IsSegmentSize opening.setup.seg_size)
       (order : List Entry) where
     pub watch_visits : (watches : List Watching) (id i limit : ℕ) (v : View)
         → (v.opening).setup ≡ opening.setup
@@ -271,7 +271,7 @@ module _ (size : ℕ) (lock : ℕ → ℕ) (works : List Working) (held : AreHel
         let e : ℕ = min limit (end_form (v.opening).setup (v.reserving).seen) in
         let met : end_form (v.opening).setup (v.reserving).seen ≤ end
         = subst (λ (s : Setup). end_form s (v.reserving).seen ≤ end) (sym known)
-        (end_address_of-mono opening.setup.segment_size valid (v.reserving).seen
+        (end_address_of-mono opening.setup.seg_size valid (v.reserving).seen
         (order_end opening order) seen) in
         let first : Watching = record { end = e; visited = 0; bound = e } in
         let before : Stands end (begun i limit v) = met_cases
@@ -332,15 +332,15 @@ module _ (size end : ℕ) (lock : ℕ → ℕ) (views : List View)
 
 pub watched_reserved : (opening : Opening) (order : List Entry) (works : List Working)
     (watches : List Watching) (id : ℕ) (c : Copy) (locks : List ℕ)
-    → IsSegmentSize opening.setup.segment_size
-    → WatchHolds opening.setup.segment_size
+    → IsSegmentSize opening.setup.seg_size
+    → WatchHolds opening.setup.seg_size
     (end_form opening.setup (order_end opening order)) works watches
     → (c.entry).start ≡ order_end opening order
-    → WatchHolds opening.setup.segment_size
+    → WatchHolds opening.setup.seg_size
     (end_form opening.setup (order_end opening (order ++ c.entry ∷ [])))
     (set works id (record { locks = locks; flight = Copying c })) watches
 watched_reserved opening order works watches id c locks valid k starts =
-    let size : ℕ = opening.setup.segment_size in
+    let size : ℕ = opening.setup.seg_size in
     let rooms = rooms_of_push size order c.entry in
     let up : end_form opening.setup (order_end opening order)
     ≤ end_form opening.setup (order_end opening (order ++ c.entry ∷ []))

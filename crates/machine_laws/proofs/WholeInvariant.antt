@@ -1,13 +1,13 @@
 -- The invariant behind a step of any kind: each part by its own laws.
 use Rattle.std.proofs.Common.{◌≡◌, ℕ, ◌+◌, true, List, [], ◌∷◌, ◌++◌, slice_index, sym, ap, subst}
 use mathlib.Core.Option.{Option}
-use Rattle.wal_core.specs.Views.{HasAt, Plain, Stage, Away, Taken, Looked, Ready, Zeroing, Published, View, mapper_of}
-use Rattle.wal_core.specs.Locked.{HasTurn}
-use Rattle.wal_core.specs.Moves.{entry_reserved, looked, ready}
-use Rattle.wal_core.specs.Steps.{StepKind, MayStep, place_at, word_of_step, load_position, take_write_turn, slot_out, slot_in, release_write_turn, lock_position, load_prev, store_prev, store_position, give_position_back, stay, load_lock, take_lock, advance, release, load_buffer_end, store_ring_word, load_ring_word, load_written, load_flushed, load_moment, load_down, store_written, store_moment, store_flushed, set_down, load_async, raise_async, take_mapping_turn, load_initialised_end, clear_end, zero_ring_word, publish_end, publish_initialised_end, release_mapping_turn, create, write, sync}
-use Rattle.wal_core.specs.Words.{down_word, initialised_number, written_number}
-use Rattle.wal_core.specs.Sound.{IsSound}
-use Rattle.wal_core.proofs.Lists.{part_at}
+use Rattle.machine_state.specs.Views.{HasAt, Plain, Stage, Away, Taken, Looked, Ready, Zeroing, Published, View, mapper_of}
+use Rattle.machine_state.specs.Locked.{HasTurn}
+use Rattle.machine_state.specs.Moves.{entry_reserved, looked, ready}
+use Rattle.machine_state.specs.Steps.{StepKind, MayStep, place_at, word_of_step, load_position, take_write_turn, slot_out, slot_in, release_write_turn, lock_position, load_prev, store_prev, store_position, give_position_back, stay, load_lock, take_lock, advance, release, load_buffer_end, store_ring_word, load_ring_word, load_written, load_flushed, load_moment, load_down, store_written, store_moment, store_flushed, set_down, load_async, raise_async, take_mapping_turn, load_initialised_end, clear_end, zero_ring_word, publish_end, publish_initialised_end, release_mapping_turn, create, write, sync}
+use Rattle.machine_state.specs.Words.{down_word, initialised_number, written_number}
+use Rattle.machine_state.specs.Sound.{IsSound}
+use Rattle.machine_state.proofs.Lists.{part_at}
 use Rattle.machine_laws.specs.LocksBehind.{order_behind, stage_behind, writer_behind, moved as stage_moved}
 use Rattle.machine_laws.proofs.SoundLockSteps.{locks_behind}
 use Rattle.machine_laws.specs.RingBehind.{HasRing, HasPages, memory_behind}

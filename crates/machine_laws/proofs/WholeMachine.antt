@@ -2,9 +2,9 @@
 -- view holds of the parts of all views.
 use Rattle.std.proofs.Common.{◌≡◌, ℕ, List, map, set, sym, subst}
 use mathlib.Core.Option.{Option}
-use Rattle.wal_core.specs.Views.{HasAt, Plain, View, flight_of, writer_of, writing_of}
-use Rattle.wal_core.specs.Sound.{IsSound}
-use Rattle.wal_core.proofs.Lists.{part_at, part_set}
+use Rattle.machine_state.specs.Views.{HasAt, Plain, View, flight_of, writer_of, writing_of}
+use Rattle.machine_state.specs.Sound.{IsSound}
+use Rattle.machine_state.proofs.Lists.{part_at, part_set}
 use Rattle.machine_laws.specs.PositionParts.{Positions, positions_in, HasPositions, HoldAmong, HoldBehind}
 use Rattle.segment_disk.specs.Tape.{DiskState}
 

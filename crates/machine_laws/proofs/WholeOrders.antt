@@ -16,16 +16,16 @@ use Rattle.wal_page.proofs.PlaceLaws.{word_from-all}
 use Rattle.wal_page.proofs.WordPositions.{end_address_of-first_position}
 use Rattle.flush_core.specs.Lawful.{IsLawful}
 use Rattle.flush_core.proofs.LawfulLaws.{no_owner_before}
-use Rattle.wal_core.specs.Words.{GoesOnAtPlace, Opening}
-use Rattle.wal_core.specs.Ringed.{log_bytes_of}
+use Rattle.machine_state.specs.Words.{GoesOnAtPlace, Opening}
+use Rattle.machine_state.specs.Ringed.{log_bytes_of}
 use Rattle.machine_laws.specs.Crashes.{IsLawfulBehind}
 use Rattle.machine_laws.specs.WholeOrders.{IsWholeOrder, LiesBehind}
 
 module _ (opening : Opening) (order whole : List Entry) (image : DiskImage) (upto : ℕ)
-    (valid : IsSegmentSize opening.setup.segment_size) (w : IsWholeOrder opening order whole)
+    (valid : IsSegmentSize opening.setup.seg_size) (w : IsWholeOrder opening order whole)
     (lawful : IsLawfulBehind opening order image upto) where
   abbrev size : ℕ
-  size = opening.setup.segment_size
+  size = opening.setup.seg_size
 
   abbrev sysid : ℕ
   sysid = opening.setup.sysid
@@ -55,11 +55,11 @@ module _ (opening : Opening) (order whole : List Entry) (image : DiskImage) (upt
   }
 
 -- the entries that lie below the place, and those behind it, are one order
-pub whole_order : (opening : Opening) → IsSegmentSize opening.setup.segment_size
+pub whole_order : (opening : Opening) → IsSegmentSize opening.setup.seg_size
     → (front : List Entry) → LiesBehind opening front → (order : List Entry)
     → GoesOnAtPlace opening order → IsWholeOrder opening order (front ++ order)
 whole_order opening valid front lies order follows =
-    let size = opening.setup.segment_size in
+    let size = opening.setup.seg_size in
     let first = first_position size in
     let behind : FollowsFrom size (first + rooms_of size front) order =
     subst (λ (p : ℕ). FollowsFrom size p order) lies.position_is follows in
@@ -73,10 +73,10 @@ whole_order opening valid front lies order follows =
     }
 
 -- below a new log's place nothing lies
-pub LiesBehind-new : (opening : Opening) → IsSegmentSize opening.setup.segment_size
-    → opening.place ≡ new_place opening.setup.segment_size → LiesBehind opening []
+pub LiesBehind-new : (opening : Opening) → IsSegmentSize opening.setup.seg_size
+    → opening.place ≡ new_place opening.setup.seg_size → LiesBehind opening []
 LiesBehind-new opening valid fresh =
-    let size = opening.setup.segment_size in
+    let size = opening.setup.seg_size in
     let sysid = opening.setup.sysid in
     let start : end_position size [] ≡ first_position size = omega arith in
     let position = ap (λ (p : LogPlace). p.position) fresh in

@@ -11,7 +11,7 @@ use Rattle.segment_disk.specs.ImageWords.{image_word, zero_word}
 use Rattle.segment_disk.specs.Tape.{DiskState, Segment, after_call, new_segment, page_as_read, segment_after, zero_page}
 use Rattle.segment_disk.proofs.ZeroWords.{word_of-zero_page}
 use Rattle.flush_core.proofs.StateLaws.{after_each}
-use Rattle.wal_core.specs.Reading.{word_read}
+use Rattle.machine_state.specs.Reading.{word_read}
 use Rattle.machine_laws.proofs.DurableCalls.{image_word_at}
 use Rattle.machine_laws.proofs.LogReading.{creating, page_of_address, read_here, syncing, word_in, word_synced, word_unwritten, writing}
 

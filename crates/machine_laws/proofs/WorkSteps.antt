@@ -6,15 +6,15 @@ use Rattle.wal_types.specs.declared.record.Record.{Record}
 use Rattle.wal_page.specs.Order.{Entry}
 use Rattle.byte_position.proofs.EndAddresses.{end_address_of-mono}
 use Rattle.wal_page.proofs.OrderLaws.{rooms_of_push}
-use Rattle.wal_core.specs.declared.setup.Setup.{Setup}
-use Rattle.wal_core.specs.Words.{lock_word, end_form, mapping_turn_number, write_turn_number, initialised_number, written_number, flushed_number, moment_number, down_number, ends_number, lock_number, order_end, Opening}
-use Rattle.wal_core.specs.Views.{HasAt, Taken, Place, Free, Locked, Loaded, Stored, StopCause, LogFull, AtSegmentStart, Copy, Copying, Hold, Idle, Turned, Out, Plain, Working, Watching, View, working_of, watching_of}
-use Rattle.wal_core.specs.Locked.{AreHeld, ProgressHolds, most_told}
-use Rattle.wal_core.specs.Watched.{WatchHolds}
-use Rattle.wal_core.specs.Moves.{with_working, with_place, with_hold, with_stage, entry_reserved, after_load_prev, after_store_prev, after_store_position, after_stop, after_take_lock, after_advance, after_load_lock, after_release, after_store_word}
-use Rattle.wal_core.specs.Steps.{MayStep, StepKind, word_of_step, value_behind, place_at, with_slot, with_call_on, load_position, take_write_turn, slot_out, slot_in, release_write_turn, lock_position, load_prev, store_prev, store_position, give_position_back, stay, load_lock, take_lock, advance, release, load_buffer_end, store_ring_word, load_ring_word, load_written, load_flushed, load_moment, load_down, store_written, store_moment, store_flushed, set_down, load_async, raise_async, take_mapping_turn, load_initialised_end, clear_end, zero_ring_word, publish_end, publish_initialised_end, release_mapping_turn, create, write, sync}
-use Rattle.wal_core.proofs.Lists.{part_same, part_set, part_at}
-use Rattle.wal_core.proofs.WordLists.{lock_set, lock_else, locks_else, word_again}
+use Rattle.machine_state.specs.declared.setup.Setup.{Setup}
+use Rattle.machine_state.specs.Words.{lock_word, end_form, mapping_turn_number, write_turn_number, initialised_number, written_number, flushed_number, moment_number, down_number, ends_number, lock_number, order_end, Opening}
+use Rattle.machine_state.specs.Views.{HasAt, Taken, Place, Free, Locked, Loaded, Stored, StopCause, LogFull, AtSegmentStart, Copy, Copying, Hold, Idle, Turned, Out, Plain, Working, Watching, View, working_of, watching_of}
+use Rattle.machine_state.specs.Locked.{AreHeld, ProgressHolds, most_told}
+use Rattle.machine_state.specs.Watched.{WatchHolds}
+use Rattle.machine_state.specs.Moves.{with_working, with_place, with_hold, with_stage, entry_reserved, after_load_prev, after_store_prev, after_store_position, after_stop, after_take_lock, after_advance, after_load_lock, after_release, after_store_word}
+use Rattle.machine_state.specs.Steps.{MayStep, StepKind, word_of_step, value_behind, place_at, with_slot, with_call_on, load_position, take_write_turn, slot_out, slot_in, release_write_turn, lock_position, load_prev, store_prev, store_position, give_position_back, stay, load_lock, take_lock, advance, release, load_buffer_end, store_ring_word, load_ring_word, load_written, load_flushed, load_moment, load_down, store_written, store_moment, store_flushed, set_down, load_async, raise_async, take_mapping_turn, load_initialised_end, clear_end, zero_ring_word, publish_end, publish_initialised_end, release_mapping_turn, create, write, sync}
+use Rattle.machine_state.proofs.Lists.{part_same, part_set, part_at}
+use Rattle.machine_state.proofs.WordLists.{lock_set, lock_else, locks_else, word_again}
 use Rattle.machine_laws.specs.LocksBehind.{words_behind, views_behind, order_behind, WorksHold, StepsFrom}
 use Rattle.machine_laws.proofs.LocksKept.{met_cases}
 use Rattle.machine_laws.proofs.HeldLaws.{held_same, held_told, held_asked, held_released, held_begun, held_copied_on}
@@ -79,7 +79,7 @@ module _ (opening : Opening) (order : List Entry) (words : List ℕ) (home : Opt
     (views : List View) (id : ℕ) (v : View) (s : StepsFrom opening order words views id v)
     (k : WorksHold opening order words views) where
   abbrev size : ℕ
-  size = opening.setup.segment_size
+  size = opening.setup.seg_size
 
   abbrev parts : List Working
   parts = map working_of views
@@ -183,7 +183,7 @@ module _ (opening : Opening) (order : List Entry) (words : List ℕ) (home : Opt
       (order_end opening order) s.seen in
       let seen : upto < most_told size (end_form opening.setup (v.reserving).seen) lock
       (v.working).flight
-      = subst (λ (x : Setup). upto < most_told x.segment_size (end_form x (v.reserving).seen) lock
+      = subst (λ (x : Setup). upto < most_told x.seg_size (end_form x (v.reserving).seen) lock
       (v.working).flight) s.setup_is may.1 in
       let least = most_told_later size (end_form opening.setup (v.reserving).seen) end lock
       (v.working).flight up in

@@ -4,11 +4,11 @@
 use Rattle.std.proofs.Common.{Bool, cond, ◌≡◌, ◌≢◌, ℕ, ◌+◌, List, [], ◌∷◌, ◌++◌, set, sym, refl, ap, ◌∙◌, subst, arith}
 use mathlib.Core.Option.{Option, none, some}
 use Rattle.atomic_table.proofs.Lists.{at_longer, set_again}
-use Rattle.wal_core.specs.Views.{HasAt, Plain, Lent, Hold, Idle, Turned, Out, View, writer_of}
-use Rattle.wal_core.specs.Locked.{HasWriteTurn, StandsTo, IsWriteTurn}
-use Rattle.wal_core.specs.Moves.{with_hold, after_take_write_turn}
-use Rattle.wal_core.specs.Steps.{exchanged}
-use Rattle.wal_core.proofs.Lists.{one_set, one_added, at_place}
+use Rattle.machine_state.specs.Views.{HasAt, Plain, Lent, Hold, Idle, Turned, Out, View, writer_of}
+use Rattle.machine_state.specs.Locked.{HasWriteTurn, StandsTo, IsWriteTurn}
+use Rattle.machine_state.specs.Moves.{with_hold, after_take_write_turn}
+use Rattle.machine_state.specs.Steps.{exchanged}
+use Rattle.machine_state.proofs.Lists.{one_set, one_added, at_place}
 use Rattle.machine_laws.proofs.LocksKept.{met_cases, two_set_again}
 
 -- who has nothing of the turn stands well to each writer; who has something of it, to one turn

@@ -3,15 +3,15 @@ use Rattle.std.specs.Prelude.{◌≡◌, ◌≢◌, ℕ, ◌*◌, ◌/◌, ◌<�
 use mathlib.Core.Option.{Option, some}
 use Rattle.segment_disk.specs.Tape.{DiskState, state_now}
 use Rattle.wal_page.specs.Order.{Entry}
-use Rattle.wal_core.specs.Words.{Opening, position_word, prev_word, lock_word, mapping_turn, write_turn, written_word, flushed_word, moment_word, down_word, word_of_ring, end_form, log_limit, order_end, last_start, GoesOnAtPlace}
-use Rattle.wal_core.specs.Suited.{IfSuited}
-use Rattle.wal_core.specs.Views.{HasAt, Landed, Plain, Reserving, View, receipts_of}
-use Rattle.wal_core.specs.Ordered.{entries_under, TookIn}
-use Rattle.wal_core.specs.Ringed.{log_word_of}
-use Rattle.wal_core.specs.Positioned.{ReadsBelow}
-use Rattle.wal_core.specs.Durable.{IsOnDisk, one_if_some, setters_of}
-use Rattle.wal_core.specs.Steps.{IsResting, ring_place}
-use Rattle.wal_core.specs.Shown.{IsPresent}
+use Rattle.machine_state.specs.Words.{Opening, position_word, prev_word, lock_word, mapping_turn, write_turn, written_word, flushed_word, moment_word, down_word, word_of_ring, end_form, log_limit, order_end, last_start, GoesOnAtPlace}
+use Rattle.machine_state.specs.Suited.{IfSuited}
+use Rattle.machine_state.specs.Views.{HasAt, Landed, Plain, Reserving, View, receipts_of}
+use Rattle.machine_state.specs.Ordered.{entries_under, TookIn}
+use Rattle.machine_state.specs.Ringed.{log_word_of}
+use Rattle.machine_state.specs.Positioned.{ReadsBelow}
+use Rattle.machine_state.specs.Durable.{IsOnDisk, one_if_some, setters_of}
+use Rattle.machine_state.specs.Steps.{IsResting, ring_place}
+use Rattle.machine_state.specs.Shown.{IsPresent}
 use Rattle.machine_laws.specs.SharedOrders.{HasItsPart, HasNumber}
 use Rattle.machine_laws.specs.Crashes.{CrashesLeave, DownTells}
 
@@ -28,7 +28,7 @@ pub record IsLastPass (opening : Opening) (v : View) : Type 0 where
 
 module _ (opening : Opening) (order : List Entry) (words : List ℕ) where
   abbrev size : ℕ
-  size = (opening.setup).segment_size
+  size = (opening.setup).seg_size
 
   -- the position is not locked, nobody has a turn, and the words tell the order's end
   pub record WordsAreFree : Type 0 where
@@ -63,7 +63,7 @@ module _ (opening : Opening) (order : List Entry) (words : List ℕ) where
 module _ (first : DiskState) (opening : Opening) (order : List Entry) (words : List ℕ) where
   -- what is durable is written, what is written is reserved, and the disk reads as the log below
   pub record PositionsAreLast (writer : Plain) : Type 0 where
-    pub begun : (opening.setup).segment_size ≤ flushed_word words
+    pub begun : (opening.setup).seg_size ≤ flushed_word words
     pub flushed_low : flushed_word words ≤ written_word words
     pub written_low : written_word words ≤ writer.written
     pub written_is : down_word words ≡ 0 → written_word words ≡ writer.written

@@ -9,21 +9,21 @@ use Rattle.segment_disk.specs.DiskImage.{DiskImage, LeftAt, word_of}
 use Rattle.segment_disk.specs.Tape.{Tape}
 use Rattle.wal_page.specs.Order.{Entry}
 use Rattle.segment_disk.specs.ImageWords.{HasPageAt, image_word, zero_word}
-use Rattle.wal_core.specs.Words.{Opening}
-use Rattle.wal_core.specs.Ringed.{log_bytes_of, log_word_of}
-use Rattle.wal_core.specs.Views.{HasAt, Joined, Plain, FlushPromise, Receipts}
-use Rattle.wal_core.specs.Durable.{IsUnwritten}
+use Rattle.machine_state.specs.Words.{Opening}
+use Rattle.machine_state.specs.Ringed.{log_bytes_of, log_word_of}
+use Rattle.machine_state.specs.Views.{HasAt, Joined, Plain, FlushPromise, Receipts}
+use Rattle.machine_state.specs.Durable.{IsUnwritten}
 
 -- an image of the log that goes on at the opening's place with these entries: each word is 0 or the
 -- log's; each below `upto` is the log's, in a page that is there where the log has one
 pub record IsLawfulBehind (opening : Opening) (order : List Entry) (image : DiskImage) (upto : ℕ)
     : Type 0 where
-  pub words : (k : ℕ) → (image_word opening.setup.segment_size image (8 * k) ≡ zero_word)
-      ⊎ (image_word opening.setup.segment_size image (8 * k) ≡ log_bytes_of opening order (8 * k))
+  pub words : (k : ℕ) → (image_word opening.setup.seg_size image (8 * k) ≡ zero_word)
+      ⊎ (image_word opening.setup.seg_size image (8 * k) ≡ log_bytes_of opening order (8 * k))
   pub below : (k : ℕ) → 8 * k < upto
-      → image_word opening.setup.segment_size image (8 * k) ≡ log_bytes_of opening order (8 * k)
-  pub there : (k : ℕ) → 8 * k < upto → opening.setup.segment_size ≤ 8 * k
-      → HasPageAt opening.setup.segment_size image (8 * k)
+      → image_word opening.setup.seg_size image (8 * k) ≡ log_bytes_of opening order (8 * k)
+  pub there : (k : ℕ) → 8 * k < upto → opening.setup.seg_size ≤ 8 * k
+      → HasPageAt opening.setup.seg_size image (8 * k)
 
 -- each image that a crash leaves from a moment on is so
 abbrev pub LeavesLawful : Opening → List Entry → ℕ → ℕ → Tape → Type 0
@@ -35,7 +35,7 @@ LeavesLawful opening order upto from tape =
 abbrev pub PutsZeros : Opening → List Entry → ℕ → CallKind → Type 0
 PutsZeros opening order segment (Create made) = Unit {0}
 PutsZeros opening order segment (Write page bytes) = (n : ℕ) → n < 1024
-    → log_word_of opening order (segment * opening.setup.segment_size + page * 8192 + 8 * n) ≡ 0
+    → log_word_of opening order (segment * opening.setup.seg_size + page * 8192 + 8 * n) ≡ 0
     → word_of bytes.bytes n ≡ zero_word
 PutsZeros opening order segment Sync = Unit {0}
 
@@ -45,7 +45,7 @@ pub record HoldsPromise (opening : Opening) (order : List Entry) (tape : Tape)
     (entries : List Entry) (p : FlushPromise) : Type 0 where
   pub kept : LeavesLawful opening order p.upto p.moment tape
   pub later : (k : ℕ) (e : Entry) → p.entries ≤ k → slice_get entries k ≡ Some e
-      → IsUnwritten (opening.setup).segment_size opening.moment tape p.moment e
+      → IsUnwritten (opening.setup).seg_size opening.moment tape p.moment e
 
 -- of a disk that tells what it holds: nothing but the log since the opening; all below the flushed
 -- address from the moment on that the words tell; and what each promise says

@@ -3,13 +3,13 @@ use Rattle.std.specs.Prelude.{◌≡◌, ℕ, List, map, set, slice_index}
 use mathlib.Core.Option.{Option}
 use Rattle.segment_disk.specs.Tape.{DiskState}
 use Rattle.wal_page.specs.Order.{Entry}
-use Rattle.wal_core.specs.Words.{Opening, flushed_word, moment_word, down_word}
-use Rattle.wal_core.specs.Views.{Flight, HasAt, Hold, Lent, Out, Plain, Receipts, View, Writing, receipts_of, writer_of}
-use Rattle.wal_core.specs.Locked.{IsWriteTurn}
-use Rattle.wal_core.specs.Positioned.{PositionsHold}
-use Rattle.wal_core.specs.Durable.{DurabilityHolds, IsStaged}
-use Rattle.wal_core.specs.Sound.{IsSetup, IsSound}
-use Rattle.wal_core.specs.Steps.{StepKind, create, home_behind, load_ring_word, store_position, sync, value_behind, view_behind, word_of_step, write}
+use Rattle.machine_state.specs.Words.{Opening, flushed_word, moment_word, down_word}
+use Rattle.machine_state.specs.Views.{Flight, HasAt, Hold, Lent, Out, Plain, Receipts, View, Writing, receipts_of, writer_of}
+use Rattle.machine_state.specs.Locked.{IsWriteTurn}
+use Rattle.machine_state.specs.Positioned.{PositionsHold}
+use Rattle.machine_state.specs.Durable.{DurabilityHolds, IsStaged}
+use Rattle.machine_state.specs.Sound.{IsSetup, IsSound}
+use Rattle.machine_state.specs.Steps.{StepKind, create, home_behind, load_ring_word, store_position, sync, value_behind, view_behind, word_of_step, write}
 
 -- the step adds no entry and makes no call of the device
 abbrev pub IsInside : StepKind → Type 0

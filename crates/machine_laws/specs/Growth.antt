@@ -1,7 +1,7 @@
 -- What calls that only add leave at each moment.
 use Rattle.std.specs.Prelude.{ℕ, ◌≤◌}
 use Rattle.segment_disk.specs.Tape.{Tape, state_at}
-use Rattle.wal_core.specs.Growing.{LosesOnly, ReadsWhole}
+use Rattle.machine_state.specs.Growing.{LosesOnly, ReadsWhole}
 
 -- of each word a crash may leave what is read, or zeros
 abbrev pub LosesOnlySince : (size moment : ℕ) → Tape → Type 0

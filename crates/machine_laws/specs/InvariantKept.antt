@@ -2,9 +2,9 @@
 use Rattle.std.specs.Prelude.{ℕ, List, set, slice_index}
 use mathlib.Core.Option.{Option}
 use Rattle.segment_disk.specs.Tape.{DiskState}
-use Rattle.wal_core.specs.Views.{Plain, View}
-use Rattle.wal_core.specs.Steps.{StepKind, word_of_step, value_behind, home_behind, view_behind}
-use Rattle.wal_core.specs.Sound.{IsSound}
+use Rattle.machine_state.specs.Views.{Plain, View}
+use Rattle.machine_state.specs.Steps.{StepKind, word_of_step, value_behind, home_behind, view_behind}
+use Rattle.machine_state.specs.Sound.{IsSound}
 
 -- the word that the step loads, stores or exchanges holds this number before
 abbrev pub number_met : List ℕ → View → StepKind → ℕ

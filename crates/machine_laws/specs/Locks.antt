@@ -1,6 +1,6 @@
 -- Words for the laws of insertion locks and of those who watch them.
 use Rattle.std.specs.Prelude.{◌≡◌, ◌≢◌, ℕ, ◌<◌, []}
-use Rattle.wal_core.specs.Views.{Landed, Watching, Working}
+use Rattle.machine_state.specs.Views.{Landed, Watching, Working}
 
 -- a view that holds no lock and copies nothing
 abbrev pub idle : Working

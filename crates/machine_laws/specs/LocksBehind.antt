@@ -5,12 +5,12 @@ use mathlib.Core.Option.{Option}
 use Rattle.byte_position.specs.Geometry.{IsSegmentSize}
 use Rattle.segment_disk.specs.Tape.{create_call, sync_call, write_call}
 use Rattle.wal_page.specs.Order.{Entry}
-use Rattle.wal_core.specs.Words.{lock_word, mapping_turn, write_turn, word_count, end_form, order_end, Opening}
-use Rattle.wal_core.specs.Views.{HasAt, Stored, Stage, Away, Taken, Looked, Ready, Zeroing, Published, Plain, View, working_of, watching_of, mapper_of, writer_of}
-use Rattle.wal_core.specs.Locked.{AreHeld, ProgressHolds, IsMappingTurn, IsWriteTurn}
-use Rattle.wal_core.specs.Watched.{WatchHolds}
-use Rattle.wal_core.specs.Moves.{entry_reserved, looked, ready, after_create, after_write, after_sync}
-use Rattle.wal_core.specs.Steps.{StepKind, store_position, take_mapping_turn, load_initialised_end, load_written, clear_end, zero_ring_word, publish_end, publish_initialised_end, release_mapping_turn, create, write, sync, word_of_step, value_behind, view_behind, place_at, page_mapped, words_zeroed}
+use Rattle.machine_state.specs.Words.{lock_word, mapping_turn, write_turn, word_count, end_form, order_end, Opening}
+use Rattle.machine_state.specs.Views.{HasAt, Stored, Stage, Away, Taken, Looked, Ready, Zeroing, Published, Plain, View, working_of, watching_of, mapper_of, writer_of}
+use Rattle.machine_state.specs.Locked.{AreHeld, ProgressHolds, IsMappingTurn, IsWriteTurn}
+use Rattle.machine_state.specs.Watched.{WatchHolds}
+use Rattle.machine_state.specs.Moves.{entry_reserved, looked, ready, after_create, after_write, after_sync}
+use Rattle.machine_state.specs.Steps.{StepKind, store_position, take_mapping_turn, load_initialised_end, load_written, clear_end, zero_ring_word, publish_end, publish_initialised_end, release_mapping_turn, create, write, sync, word_of_step, value_behind, view_behind, place_at, page_mapped, words_zeroed}
 
 -- ---- the state behind a step of a view
 
@@ -35,10 +35,10 @@ order_behind v other order = order
 pub record WorksHold (opening : Opening) (order : List Entry) (words : List ℕ) (views : List View)
     : Type 0 where
   pub held : AreHeld (lock_word words) (map working_of views)
-  pub told : ProgressHolds opening.setup.segment_size
+  pub told : ProgressHolds opening.setup.seg_size
       (end_form opening.setup (order_end opening order)) (lock_word words)
       (map working_of views)
-  pub watched : WatchHolds opening.setup.segment_size
+  pub watched : WatchHolds opening.setup.seg_size
       (end_form opening.setup (order_end opening order)) (map working_of views)
       (map watching_of views)
 
@@ -47,7 +47,7 @@ pub record WorksHold (opening : Opening) (order : List Entry) (words : List ℕ)
 pub record StepsFrom (opening : Opening) (order : List Entry) (words : List ℕ) (views : List View)
     (id : ℕ) (v : View) : Type 0 where
   pub here : HasAt views id v
-  pub size : IsSegmentSize opening.setup.segment_size
+  pub size : IsSegmentSize opening.setup.seg_size
   pub wide : length words ≡ word_count opening.setup
   pub setup_is : (v.opening).setup ≡ opening.setup
   pub seen : (v.reserving).seen ≤ order_end opening order
@@ -82,11 +82,11 @@ module _ (v : View) where
   -- the writer, which the calls of the device change
   abbrev pub writer_behind : StepKind → Plain → Plain
   writer_behind (create segment outcome) writer = after_create segment
-      (create_call ((v.opening).setup).segment_size segment) outcome writer
+      (create_call ((v.opening).setup).seg_size segment) outcome writer
   writer_behind (write segment page upto bytes outcome) writer = after_write segment upto
-      (write_call ((v.opening).setup).segment_size segment page bytes) outcome writer
+      (write_call ((v.opening).setup).seg_size segment page bytes) outcome writer
   writer_behind (sync segment outcome) writer =
-      after_sync (sync_call ((v.opening).setup).segment_size segment) outcome writer
+      after_sync (sync_call ((v.opening).setup).seg_size segment) outcome writer
   writer_behind other writer = writer
 
 pub record TurnsHold (words : List ℕ) (home : Option Plain) (stage : Stage) (writer : Plain)

@@ -1,9 +1,9 @@
 -- A pass that has all numbers of its log: none was split off yet, or all were taken in again. What
 -- a state shows to it, where it does not know that the disk has failed.
 use Rattle.std.specs.Prelude.{◌≡◌, ◌≢◌, ℕ, ◌%◌, ◌<◌, true, List}
-use Rattle.wal_core.specs.Words.{Opening, position_word, lock_word, mapping_turn, write_turn}
-use Rattle.wal_core.specs.Views.{Free, Reserving, View}
-use Rattle.wal_core.specs.Failed.{KnowsOfFault}
+use Rattle.machine_state.specs.Words.{Opening, position_word, lock_word, mapping_turn, write_turn}
+use Rattle.machine_state.specs.Views.{Free, Reserving, View}
+use Rattle.machine_state.specs.Failed.{KnowsOfFault}
 use Rattle.machine_laws.specs.ClosedLogs.{HasAllNumbers}
 use Rattle.machine_laws.specs.SoundLocks.{HasMappingTurn, HasTurnToWrite, HoldsLock}
 

@@ -2,12 +2,12 @@
 use Rattle.std.specs.Prelude.{◌≡◌, ℕ, true, List, set}
 use Rattle.byte_position.specs.Geometry.{IsSegmentSize}
 use Rattle.wal_page.specs.Order.{Entry}
-use Rattle.wal_core.specs.Views.{HasAt, Reserving, View}
-use Rattle.wal_core.specs.Ordered.{OrderHolds}
+use Rattle.machine_state.specs.Views.{HasAt, Reserving, View}
+use Rattle.machine_state.specs.Ordered.{OrderHolds}
 
 module _ (order : List Entry) (position prev : ℕ) (parts : List Reserving) (id : ℕ) (v : View) where
   pub record TakesPart : Type 0 where
-    pub size : IsSegmentSize ((v.opening).setup).segment_size
+    pub size : IsSegmentSize ((v.opening).setup).seg_size
     pub holds : OrderHolds v.opening order position prev parts
     pub here : HasAt parts id v.reserving
     pub live : (v.reserving).live ≡ true

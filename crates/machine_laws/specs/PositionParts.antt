@@ -4,11 +4,11 @@ use mathlib.Core.Option.{Option}
 use Rattle.byte_position.specs.Geometry.{IsSegmentSize}
 use Rattle.segment_disk.specs.Tape.{DiskState}
 use Rattle.wal_page.specs.Order.{Entry}
-use Rattle.wal_core.specs.Words.{Opening, down_word, flushed_word, write_turn, written_word}
-use Rattle.wal_core.specs.Views.{HasAt, Flight, Plain, Hold, Writing, View, flight_of, writer_of, writing_of}
-use Rattle.wal_core.specs.Locked.{IsWriteTurn}
-use Rattle.wal_core.specs.Positioned.{PositionsHold}
-use Rattle.wal_core.specs.Sound.{IsSound}
+use Rattle.machine_state.specs.Words.{Opening, down_word, flushed_word, write_turn, written_word}
+use Rattle.machine_state.specs.Views.{HasAt, Flight, Plain, Hold, Writing, View, flight_of, writer_of, writing_of}
+use Rattle.machine_state.specs.Locked.{IsWriteTurn}
+use Rattle.machine_state.specs.Positioned.{PositionsHold}
+use Rattle.machine_state.specs.Sound.{IsSound}
 
 -- what the positions rest on: what the disk held at first; the order; the words of the written and
 -- the flushed address, of down and of the turn to write; the writer where it is at home, and
@@ -45,7 +45,7 @@ positions_in {first} opening words home views s = record {
 }
 
 pub record HasPositions (p : Positions) (id : ℕ) (v : View) : Type 0 where
-  pub size : IsSegmentSize ((v.opening).setup).segment_size
+  pub size : IsSegmentSize ((v.opening).setup).seg_size
   pub holds : PositionsHold p.first v.opening p.order p.written p.flushed p.down p.home p.writer
       p.flights p.parts
   pub turns : IsWriteTurn p.turn p.home p.writer p.writers

@@ -2,12 +2,12 @@
 use Rattle.std.specs.Prelude.{ℕ, List, map, set, slice_index}
 use mathlib.Core.Option.{Option}
 use Rattle.wal_page.specs.Order.{Entry}
-use Rattle.wal_core.specs.Words.{Opening, initialised_word, written_word, end_word, word_of_ring}
-use Rattle.wal_core.specs.Views.{Stage, Plain, View, flight_of, confirmed_of}
-use Rattle.wal_core.specs.Ringed.{RingHolds}
-use Rattle.wal_core.specs.Paged.{PagesHold}
-use Rattle.wal_core.specs.Sound.{IsSound}
-use Rattle.wal_core.specs.Steps.{StepKind, store_ring_word, number_of_next, next_value, word_of_step, value_behind, view_behind}
+use Rattle.machine_state.specs.Words.{Opening, initialised_word, written_word, end_word, word_of_ring}
+use Rattle.machine_state.specs.Views.{Stage, Plain, View, flight_of, confirmed_of}
+use Rattle.machine_state.specs.Ringed.{RingHolds}
+use Rattle.machine_state.specs.Paged.{PagesHold}
+use Rattle.machine_state.specs.Sound.{IsSound}
+use Rattle.machine_state.specs.Steps.{StepKind, store_ring_word, number_of_next, next_value, word_of_step, value_behind, view_behind}
 use Rattle.machine_laws.specs.WordsPut.{put}
 use Rattle.segment_disk.specs.Tape.{DiskState}
 

@@ -1,5 +1,5 @@
 -- The kinds of steps that leave what is said of ring and pages.
-use Rattle.wal_core.specs.Steps.{StepKind, store_position, release, load_buffer_end, store_ring_word, load_written, store_written, take_mapping_turn, load_initialised_end, clear_end, zero_ring_word, publish_end, publish_initialised_end, release_mapping_turn}
+use Rattle.machine_state.specs.Steps.{StepKind, store_position, release, load_buffer_end, store_ring_word, load_written, store_written, take_mapping_turn, load_initialised_end, clear_end, zero_ring_word, publish_end, publish_initialised_end, release_mapping_turn}
 
 -- those that leave each copy as it is
 abbrev pub LeavesCopies : StepKind → Type 0

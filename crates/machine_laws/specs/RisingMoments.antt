@@ -3,9 +3,9 @@
 use Rattle.std.specs.Prelude.{◌≡◌, ◌≢◌, ℕ, ◌<◌, ◌≤◌, All, AllPairs, List, ◌∷◌, map, slice_get, Some}
 use mathlib.Core.Option.{Option}
 use Rattle.wal_page.specs.Order.{Entry, finish_of}
-use Rattle.wal_core.specs.Words.{Opening, flushed_word, moment_word}
-use Rattle.wal_core.specs.Views.{HasAt, FlushPromise, Joined, Plain, Hold, Idle, Turned, Out, View}
-use Rattle.wal_core.specs.Sound.{IsSound}
+use Rattle.machine_state.specs.Words.{Opening, flushed_word, moment_word}
+use Rattle.machine_state.specs.Views.{HasAt, FlushPromise, Joined, Plain, Hold, Idle, Turned, Out, View}
+use Rattle.machine_state.specs.Sound.{IsSound}
 use Rattle.segment_disk.specs.Tape.{DiskState}
 
 -- ---- promises of one log
@@ -26,7 +26,7 @@ module _ (opening : Opening) where
   -- the opening counts as the first promise of each log: it covers no entry
   abbrev pub with_opening : List FlushPromise → List FlushPromise
   with_opening promises = (record {
-    upto = (opening.setup).segment_size;
+    upto = (opening.setup).seg_size;
     moment = opening.moment;
     entries = 0;
   }) ∷ promises
@@ -34,12 +34,12 @@ module _ (opening : Opening) where
   -- each promise of a log rises above those before it
   abbrev pub PromisesRise : List Entry → List FlushPromise → Type 0
   PromisesRise entries promises =
-      AllPairs (Rises (opening.setup).segment_size entries) (with_opening promises)
+      AllPairs (Rises (opening.setup).seg_size entries) (with_opening promises)
 
   -- a promise that is made next, of all below an address from a moment on, rises above each of them
   abbrev pub NextRises : List Entry → List FlushPromise → ℕ → ℕ → Type 0
   NextRises entries promises upto moment = All
-      (λ p. RisesAbove (opening.setup).segment_size entries p upto moment) (with_opening promises)
+      (λ p. RisesAbove (opening.setup).seg_size entries p upto moment) (with_opening promises)
 
 -- ---- what is kept in between
 

@@ -1,6 +1,6 @@
 -- Runs of the machine: so many steps of any passes, one after another.
 use Rattle.std.specs.Prelude.{◌≡◌, ℕ, zero, suc}
-use Rattle.wal_core.specs.Steps.{State, MachineStep}
+use Rattle.machine_state.specs.Steps.{State, MachineStep}
 
 abbrev pub Runs : ℕ → State → State → Type 0
 Runs zero s t = s ≡ t

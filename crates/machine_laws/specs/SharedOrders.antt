@@ -3,9 +3,9 @@
 use Rattle.std.specs.Prelude.{◌≡◌, ◌≢◌, ◌⊎◌, ℕ, ◌-◌, ◌%◌, ◌<◌, ◌≤◌, true, All, Contains, List, IsSome}
 use Rattle.byte_position.specs.Position.{address_of}
 use Rattle.wal_page.specs.Order.{Entry}
-use Rattle.wal_core.specs.Words.{Opening, log_limit, position_word, prev_word, order_end, last_start, GoesOnAtPlace}
-use Rattle.wal_core.specs.Views.{HasAt, Place, Free, Locked, Loaded, Stored, Joined, Reserving, View}
-use Rattle.wal_core.specs.Ordered.{entries_under, AreApart, FrontEndsAt, TookIn}
+use Rattle.machine_state.specs.Words.{Opening, log_limit, position_word, prev_word, order_end, last_start, GoesOnAtPlace}
+use Rattle.machine_state.specs.Views.{HasAt, Place, Free, Locked, Loaded, Stored, Joined, Reserving, View}
+use Rattle.machine_state.specs.Ordered.{entries_under, AreApart, FrontEndsAt, TookIn}
 
 -- a number that a pass may give to another one; and one that is its own, to give, or of a pass that
 -- it took in
@@ -32,7 +32,7 @@ TellsLastStart opening order prev (Loaded at met) =
     (at ≡ order_end opening order) × (prev ≡ last_start opening order)
     × (met ≡ last_start opening order)
 TellsLastStart opening order prev (Stored at met) =
-    (at ≡ order_end opening order) × (prev ≡ address_of opening.setup.segment_size at)
+    (at ≡ order_end opening order) × (prev ≡ address_of opening.setup.seg_size at)
     × (met ≡ last_start opening order)
 
 module _ (opening : Opening) (order : List Entry) (words : List ℕ) (views : List View) where

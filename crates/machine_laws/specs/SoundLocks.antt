@@ -4,10 +4,10 @@ use Rattle.std.specs.Prelude.{◌≡◌, ◌≢◌, ◌⊎◌, ◌↔◌, ℕ, �
 use mathlib.Core.Option.{Option, none}
 use Rattle.wal_page.specs.Order.{Entry, finish_of}
 use Rattle.wal_page.specs.EntryWords.{address_of_word, words_owned}
-use Rattle.wal_core.specs.Words.{lock_word, mapping_turn, write_turn, Opening}
-use Rattle.wal_core.specs.Views.{HasAt, AreSomeOf, Copy, Copying, Lent, Out, Plain, View}
-use Rattle.wal_core.specs.Locked.{HasTurn, HasWriteTurn}
-use Rattle.wal_core.specs.Shown.{HasLogWord, IsInNoFlight}
+use Rattle.machine_state.specs.Words.{lock_word, mapping_turn, write_turn, Opening}
+use Rattle.machine_state.specs.Views.{HasAt, AreSomeOf, Copy, Copying, Lent, Out, Plain, View}
+use Rattle.machine_state.specs.Locked.{HasTurn, HasWriteTurn}
+use Rattle.machine_state.specs.Shown.{HasLogWord, IsInNoFlight}
 
 -- this holds of some view; and it holds of no two
 abbrev pub SomeView : List View → (View → Type 0) → Type 0
@@ -62,8 +62,8 @@ HasInFlight e v = (c : Copy) × ((v.working).flight ≡ Copying c) × (c.entry �
 
 -- all words of an entry are copied: each is the log's where the ring has its page
 abbrev pub IsCopiedWhole : Opening → List Entry → List ℕ → Entry → Type 0
-IsCopiedWhole opening order words e = (n : ℕ) → n < words_owned opening.setup.segment_size e
-    → HasLogWord opening order words (address_of_word opening.setup.segment_size e n)
+IsCopiedWhole opening order words e = (n : ℕ) → n < words_owned opening.setup.seg_size e
+    → HasLogWord opening order words (address_of_word opening.setup.seg_size e n)
 
 -- an entry of the order is whole and in flight nowhere, or is in flight in one view; and no other
 -- entry is in flight
@@ -75,7 +75,7 @@ pub record EntriesAreWholeOrInFlight (opening : Opening) (order : List Entry) (w
   pub by_one : (e : Entry) → OneAtMost views (HasInFlight e)
   pub reserved : (id : ℕ) (v : View) (c : Copy) → HasAt views id v
       → (v.working).flight ≡ Copying c → Contains order c.entry × HasInFlight c.entry v
-      × (c.copied ≤ words_owned opening.setup.segment_size c.entry)
+      × (c.copied ≤ words_owned opening.setup.seg_size c.entry)
 
 -- ---- the turns
 

@@ -5,11 +5,11 @@ use Rattle.segment_disk.specs.Tape.{DiskState, state_now}
 use mathlib.Core.Option.{Option, none, some}
 use Rattle.wal_page.specs.Order.{Entry}
 use Rattle.wal_page.specs.EntryWords.{address_of_word, words_owned}
-use Rattle.wal_core.specs.Words.{Opening, written_word, flushed_word, moment_word, down_word, end_form, order_end}
-use Rattle.wal_core.specs.Suited.{IfSuited}
-use Rattle.wal_core.specs.Views.{HasAt, Copy, Copying, Joined, Lent, Out, Plain, View}
-use Rattle.wal_core.specs.Positioned.{ReadsBelow}
-use Rattle.wal_core.specs.Durable.{IsPromised}
+use Rattle.machine_state.specs.Words.{Opening, written_word, flushed_word, moment_word, down_word, end_form, order_end}
+use Rattle.machine_state.specs.Suited.{IfSuited}
+use Rattle.machine_state.specs.Views.{HasAt, Copy, Copying, Joined, Lent, Out, Plain, View}
+use Rattle.machine_state.specs.Positioned.{ReadsBelow}
+use Rattle.machine_state.specs.Durable.{IsPromised}
 use Rattle.machine_laws.specs.SoundLocks.{SomeView}
 
 -- a view has the writer in hand, as it was last kept
@@ -47,7 +47,7 @@ pub record PositionsAreOrdered (first : DiskState) (opening : Opening) (order : 
   pub reserved : written_word words ≤ end_form opening.setup (order_end opening order)
   pub copied : (id : ℕ) (v : View) (c : Copy) (n : ℕ) → HasAt views id v
       → (v.working).flight ≡ Copying c → c.copied ≤ n
-      → n < words_owned (opening.setup).segment_size c.entry
-      → written_word words ≤ address_of_word (opening.setup).segment_size c.entry n
+      → n < words_owned (opening.setup).seg_size c.entry
+      → written_word words ≤ address_of_word (opening.setup).seg_size c.entry n
   pub reads : (w : Plain) → IsTheWriter home views w → IfSuited first opening w
       (λ t. ReadsBelow opening order (written_word words) (state_now t))

@@ -2,9 +2,9 @@
 -- that they have visited.
 use Rattle.std.specs.Prelude.{◌≡◌, ℕ, ◌<◌, ◌≤◌, true, Contains, List}
 use Rattle.wal_page.specs.EntryWords.{address_of_word, words_owned}
-use Rattle.wal_core.specs.declared.setup.Setup.{Setup}
-use Rattle.wal_core.specs.Words.{end_form}
-use Rattle.wal_core.specs.Views.{HasAt, Copy, Copying, View}
+use Rattle.machine_state.specs.declared.setup.Setup.{Setup}
+use Rattle.machine_state.specs.Words.{end_form}
+use Rattle.machine_state.specs.Views.{HasAt, Copy, Copying, View}
 
 -- an entry in flight under a lock that this view has visited, of which a word lies below the end
 -- watched for, has all its words below the bound copied
@@ -23,4 +23,4 @@ pub record WatchersSeeCopies (setup : Setup) (views : List View) : Type 0 where
       → (v.watching).bound ≤ (v.watching).end
   pub copied : (id other : ℕ) (v w : View) (c : Copy) → HasAt views id v
       → HasAt views other w → (w.working).flight ≡ Copying c
-      → SeesCopied setup.segment_size v c
+      → SeesCopied setup.seg_size v c

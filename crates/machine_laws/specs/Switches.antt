@@ -1,11 +1,11 @@
 -- What stands beside a segment switch in flight, and what lies behind its record.
 use Rattle.std.specs.Prelude.{◌≡◌, ◌≢◌, ℕ, ◌+◌, ◌<◌, ◌≤◌, List, ◌∷◌, ◌++◌}
 use Rattle.byte_position.specs.Position.{position_of}
-use Rattle.record_spelling.specs.Record.{switch_record}
+use Rattle.wal_spelling.specs.Record.{switch_record}
 use Rattle.wal_page.specs.EntryWords.{address_of_word}
 use Rattle.wal_page.specs.Order.{Entry, position_behind}
-use Rattle.wal_core.specs.Views.{Copy, HasAt, Landed, View}
-use Rattle.wal_core.specs.Words.{lock_word}
+use Rattle.machine_state.specs.Views.{Copy, HasAt, Landed, View}
+use Rattle.machine_state.specs.Words.{lock_word}
 use Rattle.machine_laws.specs.SoundLocks.{HoldsLock}
 
 -- the view with this number, which copies an entry, holds all eight insertion locks; what each of

@@ -5,12 +5,12 @@
 ghost use Rattle.std.specs.Prelude.{◌⊎◌, ℕ, List};
 ghost use mathlib.Core.Option.{Option};
 ghost use Rattle.segment_disk.specs.Tape.{DiskState};
-ghost use Rattle.wal_core.specs.Words.{Opening};
-ghost use Rattle.wal_core.specs.Views.{HasAt, Plain, View};
-ghost use Rattle.wal_core.specs.Moves.{after_join, after_split, split_off};
-ghost use Rattle.wal_core.specs.Opened.{first_view};
-ghost use Rattle.wal_core.specs.Sound.{IsSound};
-ghost use Rattle.wal_core.specs.Steps.{StepKind, view_behind};
+ghost use Rattle.machine_state.specs.Words.{Opening};
+ghost use Rattle.machine_state.specs.Views.{HasAt, Plain, View};
+ghost use Rattle.machine_state.specs.Moves.{after_join, after_split, split_off};
+ghost use Rattle.machine_state.specs.Opened.{first_view};
+ghost use Rattle.machine_state.specs.Sound.{IsSound};
+ghost use Rattle.machine_state.specs.Steps.{StepKind, view_behind};
 ghost use Rattle.machine_laws.specs.SharedOrders.{HasNumber, IsSpare};
 ghost use Rattle.machine_laws.specs.ClosedLogs.{HasAllNumbers, IsClosed, IsLastPass};
 

@@ -11,14 +11,14 @@ ghost use Rattle.flush_core.specs.Lawful.{IsLawful};
 ghost use Rattle.byte_position.specs.Geometry.{IsSegmentSize};
 ghost use Rattle.segment_disk.specs.DiskImage.{DiskImage};
 ghost use Rattle.segment_disk.specs.Tape.{DiskState};
-ghost use Rattle.wal_core.specs.Words.{Opening, GoesOnAtPlace};
-ghost use Rattle.wal_core.specs.Views.{HasAt, Hold, Plain, Receipts, View, writer_of};
-ghost use Rattle.wal_core.specs.Suited.{BeganSuited, IfSuited, tape_from};
-ghost use Rattle.wal_core.specs.Locked.{IsWriteTurn};
-ghost use Rattle.wal_core.specs.Durable.{DurabilityHolds};
-ghost use Rattle.wal_core.specs.Moves.{CallOutcome, with_outcome};
-ghost use Rattle.wal_core.specs.Sound.{IsSetup};
-ghost use Rattle.wal_core.specs.Steps.{MayStep, create, set_down, sync, value_behind, write};
+ghost use Rattle.machine_state.specs.Words.{Opening, GoesOnAtPlace};
+ghost use Rattle.machine_state.specs.Views.{HasAt, Hold, Plain, Receipts, View, writer_of};
+ghost use Rattle.machine_state.specs.Suited.{BeganSuited, IfSuited, tape_from};
+ghost use Rattle.machine_state.specs.Locked.{IsWriteTurn};
+ghost use Rattle.machine_state.specs.Durable.{DurabilityHolds};
+ghost use Rattle.machine_state.specs.Moves.{CallOutcome, with_outcome};
+ghost use Rattle.machine_state.specs.Sound.{IsSetup};
+ghost use Rattle.machine_state.specs.Steps.{MayStep, create, set_down, sync, value_behind, write};
 ghost use Rattle.machine_laws.specs.Crashes.{CrashesLeave, DownTells, IsLawfulBehind};
 ghost use Rattle.machine_laws.specs.WholeOrders.{IsWholeOrder, LiesBehind};
 
@@ -31,7 +31,7 @@ pub fn crashes_leave_what_was_promised()
         (flushed moment down : ℕ)
         (home : Option Plain) (writer : Plain) (parts : List Receipts)
         → DurabilityHolds first o order flushed moment down home writer parts → IsSetup o.setup
-        → IsPlace (o.setup).segment_size o.place
+        → IsPlace (o.setup).seg_size o.place
         → IfSuited first o writer (λ t. CrashesLeave o order flushed moment t parts) }
 {}
 
@@ -74,12 +74,12 @@ pub fn down_tells_of_the_fault()
 /// an image of the log behind the place is one of that order. Below a new log's place nothing lies.
 pub fn whole_orders_have_the_same_images()
     ensures lawful { (opening : Opening) (order whole : List Entry) (image : DiskImage) (upto : ℕ)
-        → IsSegmentSize opening.setup.segment_size → IsWholeOrder opening order whole
+        → IsSegmentSize opening.setup.seg_size → IsWholeOrder opening order whole
         → IsLawfulBehind opening order image upto
-        → IsLawful opening.setup.segment_size opening.setup.sysid image whole upto }
+        → IsLawful opening.setup.seg_size opening.setup.sysid image whole upto }
     ensures whole { (opening : Opening) (front order : List Entry)
-        → IsSegmentSize opening.setup.segment_size → LiesBehind opening front
+        → IsSegmentSize opening.setup.seg_size → LiesBehind opening front
         → GoesOnAtPlace opening order → IsWholeOrder opening order (front ++ order) }
-    ensures fresh { (opening : Opening) → IsSegmentSize opening.setup.segment_size
-        → opening.place ≡ new_place opening.setup.segment_size → LiesBehind opening [] }
+    ensures fresh { (opening : Opening) → IsSegmentSize opening.setup.seg_size
+        → opening.place ≡ new_place opening.setup.seg_size → LiesBehind opening [] }
 {}

@@ -5,8 +5,8 @@
 
 ghost use Rattle.std.specs.Prelude.{ℕ, List};
 ghost use Rattle.segment_disk.specs.Tape.{create_call, sync_call, write_call};
-ghost use Rattle.wal_core.specs.Moves.{CallOutcome, after_create, after_sync, after_write};
-ghost use Rattle.wal_core.specs.Steps.{MayStep, create, sync, write};
+ghost use Rattle.machine_state.specs.Moves.{CallOutcome, after_create, after_sync, after_write};
+ghost use Rattle.machine_state.specs.Steps.{MayStep, create, sync, write};
 ghost use Rattle.machine_laws.specs.DurableBehind.{CallsFrom, IsDurableBehind};
 
 /// A segment is made, a page written, a segment synced, by the pass that has the writer in hand:
@@ -15,13 +15,13 @@ pub fn calls_keep_durability()
     ensures create { (c : CallsFrom) (segment : ℕ) (outcome : CallOutcome) (met : ℕ)
         → MayStep c.view (create segment outcome)
         → IsDurableBehind c (create segment outcome) met (after_create segment
-        (create_call ((c.opening).setup).segment_size segment) outcome c.writer) }
+        (create_call ((c.opening).setup).seg_size segment) outcome c.writer) }
     ensures write { (c : CallsFrom) (segment page upto : ℕ) (bytes : List ℕ) (outcome : CallOutcome)
         (met : ℕ) → MayStep c.view (write segment page upto bytes outcome)
         → IsDurableBehind c (write segment page upto bytes outcome) met (after_write segment upto
-        (write_call ((c.opening).setup).segment_size segment page bytes) outcome c.writer) }
+        (write_call ((c.opening).setup).seg_size segment page bytes) outcome c.writer) }
     ensures sync { (c : CallsFrom) (segment : ℕ) (outcome : CallOutcome) (met : ℕ)
         → MayStep c.view (sync segment outcome)
         → IsDurableBehind c (sync segment outcome) met (after_sync
-        (sync_call ((c.opening).setup).segment_size segment) outcome c.writer) }
+        (sync_call ((c.opening).setup).seg_size segment) outcome c.writer) }
 {}

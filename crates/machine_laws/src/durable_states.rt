@@ -6,12 +6,12 @@ ghost use Rattle.std.specs.Prelude.{◌≡◌, ◌≢◌, ℕ, true, List, [], �
 ghost use mathlib.Core.Option.{Option};
 ghost use Rattle.segment_disk.specs.Tape.{DiskState, create_call, sync_call, write_call};
 ghost use Rattle.wal_types.specs.declared.record.Record.{Record};
-ghost use Rattle.wal_core.specs.Words.{Opening, down_word, flushed_word, moment_word};
-ghost use Rattle.wal_core.specs.Views.{HasAt, Plain, View, receipts_of};
-ghost use Rattle.wal_core.specs.Suited.{IfSuited};
-ghost use Rattle.wal_core.specs.Moves.{CallOutcome, after_create, after_sync, after_write, after_join, entry_reserved, after_split, orphan_of, split_off, spent, without_work};
-ghost use Rattle.wal_core.specs.Sound.{IsSound};
-ghost use Rattle.wal_core.specs.Steps.{StepKind, MayStep, create, place_at, store_position, sync, word_of_step, write};
+ghost use Rattle.machine_state.specs.Words.{Opening, down_word, flushed_word, moment_word};
+ghost use Rattle.machine_state.specs.Views.{HasAt, Plain, View, receipts_of};
+ghost use Rattle.machine_state.specs.Suited.{IfSuited};
+ghost use Rattle.machine_state.specs.Moves.{CallOutcome, after_create, after_sync, after_write, after_join, entry_reserved, after_split, orphan_of, split_off, spent, without_work};
+ghost use Rattle.machine_state.specs.Sound.{IsSound};
+ghost use Rattle.machine_state.specs.Steps.{StepKind, MayStep, create, place_at, store_position, sync, word_of_step, write};
 ghost use Rattle.machine_laws.specs.Crashes.{CrashesLeave, DownTells};
 ghost use Rattle.machine_laws.specs.DurableBehind.{HasDurable, HasDurableWith, IsInside, LoadsStaged};
 
@@ -41,7 +41,7 @@ pub fn calls_leave_a_sound_log_durable()
         (s : IsSound first v.opening words home views) → HasAt views id v
         → (segment : ℕ) (outcome : CallOutcome) → MayStep v (create segment outcome)
         → HasDurable first words home views id v (create segment outcome) s.order
-        (after_create segment (create_call ((v.opening).setup).segment_size segment) outcome
+        (after_create segment (create_call ((v.opening).setup).seg_size segment) outcome
         s.writer) }
     ensures write { (first : DiskState) (words : List ℕ) (home : Option Plain) (views : List View)
         (id : ℕ) (v : View)
@@ -50,13 +50,13 @@ pub fn calls_leave_a_sound_log_durable()
         → MayStep v (write segment page upto bytes outcome)
         → HasDurable first words home views id v (write segment page upto bytes outcome) s.order
         (after_write segment upto
-        (write_call ((v.opening).setup).segment_size segment page bytes) outcome s.writer) }
+        (write_call ((v.opening).setup).seg_size segment page bytes) outcome s.writer) }
     ensures sync { (first : DiskState) (words : List ℕ) (home : Option Plain) (views : List View)
         (id : ℕ) (v : View)
         (s : IsSound first v.opening words home views) → HasAt views id v
         → (segment : ℕ) (outcome : CallOutcome) → MayStep v (sync segment outcome)
         → HasDurable first words home views id v (sync segment outcome) s.order
-        (after_sync (sync_call ((v.opening).setup).segment_size segment) outcome s.writer) }
+        (after_sync (sync_call ((v.opening).setup).seg_size segment) outcome s.writer) }
 {}
 
 /// Passes are split off, taken in, and give up.

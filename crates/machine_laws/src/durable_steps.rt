@@ -8,14 +8,14 @@ ghost use Rattle.std.specs.Prelude.{◌≡◌, ◌≢◌, ℕ, ◌≤◌, List, 
 ghost use mathlib.Core.Option.{Option};
 ghost use Rattle.wal_page.specs.Order.{Entry};
 ghost use Rattle.segment_disk.specs.Tape.{DiskState};
-ghost use Rattle.wal_core.specs.Words.{Opening};
-ghost use Rattle.wal_core.specs.Views.{HasAt, Flight, Hold, Lent, Out, Plain, Receipts, View, Writing, receipts_of, writer_of};
-ghost use Rattle.wal_core.specs.Locked.{IsWriteTurn};
-ghost use Rattle.wal_core.specs.Positioned.{PositionsHold};
-ghost use Rattle.wal_core.specs.Durable.{DurabilityHolds, IsStaged};
-ghost use Rattle.wal_core.specs.Sound.{IsSetup};
-ghost use Rattle.wal_core.specs.Moves.{after_join, after_split, orphan_of, split_off, spent, without_work};
-ghost use Rattle.wal_core.specs.Steps.{MayStep, home_behind, value_behind, view_behind, load_down, load_flushed, load_moment, load_ring_word, load_written, release_write_turn, set_down, slot_in, slot_out, store_flushed, store_moment, store_written, take_write_turn};
+ghost use Rattle.machine_state.specs.Words.{Opening};
+ghost use Rattle.machine_state.specs.Views.{HasAt, Flight, Hold, Lent, Out, Plain, Receipts, View, Writing, receipts_of, writer_of};
+ghost use Rattle.machine_state.specs.Locked.{IsWriteTurn};
+ghost use Rattle.machine_state.specs.Positioned.{PositionsHold};
+ghost use Rattle.machine_state.specs.Durable.{DurabilityHolds, IsStaged};
+ghost use Rattle.machine_state.specs.Sound.{IsSetup};
+ghost use Rattle.machine_state.specs.Moves.{after_join, after_split, orphan_of, split_off, spent, without_work};
+ghost use Rattle.machine_state.specs.Steps.{MayStep, home_behind, value_behind, view_behind, load_down, load_flushed, load_moment, load_ring_word, load_written, release_write_turn, set_down, slot_in, slot_out, store_flushed, store_moment, store_written, take_write_turn};
 
 /// What a pass loads: the positions, a promise of the moment met, the down value, a word of the
 /// ring, which is the log's as far as all is copied. What else leaves its entries and its writing,

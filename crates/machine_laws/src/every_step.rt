@@ -5,10 +5,10 @@
 ghost use Rattle.std.specs.Prelude.{◌≡◌, ℕ, true, List};
 ghost use mathlib.Core.Option.{Option};
 ghost use Rattle.segment_disk.specs.Tape.{DiskState};
-ghost use Rattle.wal_core.specs.Words.{Opening};
-ghost use Rattle.wal_core.specs.Views.{HasAt, Plain, View};
-ghost use Rattle.wal_core.specs.Steps.{StepKind, MayStep, State, MachineStep};
-ghost use Rattle.wal_core.specs.Sound.{IsSound};
+ghost use Rattle.machine_state.specs.Words.{Opening};
+ghost use Rattle.machine_state.specs.Views.{HasAt, Plain, View};
+ghost use Rattle.machine_state.specs.Steps.{StepKind, MayStep, State, MachineStep};
+ghost use Rattle.machine_state.specs.Sound.{IsSound};
 ghost use Rattle.machine_laws.specs.InvariantKept.{KeepsSound};
 ghost use Rattle.machine_laws.specs.Runs.{Runs};
 

@@ -3,7 +3,7 @@
 //! positions; what a crash leaves); so each step keeps the whole, which holds at the opening, and
 //! what is told of flushes names moments that rise. Last, what every state that keeps it shows, and
 //! what its last pass knows once it is about nothing. Why each part is kept is told above its
-//! definition, in the specs of wal_core.
+//! definition, in the specs of machine_state.
 #![tactic(auto)]
 
 pub mod closing;

@@ -7,13 +7,13 @@ ghost use Rattle.std.specs.Prelude.{◌≡◌, ◌≢◌, ℕ, true, ◌++◌, [
 ghost use mathlib.Core.Option.{Option};
 ghost use Rattle.wal_page.specs.Order.{Entry};
 ghost use Rattle.segment_disk.specs.Tape.{DiskState};
-ghost use Rattle.wal_core.specs.declared.setup.Setup.{Setup};
-ghost use Rattle.wal_core.specs.Words.{Opening, word_count, lock_word};
-ghost use Rattle.wal_core.specs.Views.{HasAt, Stage, Plain, View, working_of};
-ghost use Rattle.wal_core.specs.Locked.{AreHeld};
-ghost use Rattle.wal_core.specs.Moves.{after_split, split_off, after_join, spent, without_work, orphan_of};
-ghost use Rattle.wal_core.specs.Steps.{StepKind, MayStep, IsResting, word_of_step, home_behind};
-ghost use Rattle.wal_core.specs.Sound.{IsSound};
+ghost use Rattle.machine_state.specs.declared.setup.Setup.{Setup};
+ghost use Rattle.machine_state.specs.Words.{Opening, word_count, lock_word};
+ghost use Rattle.machine_state.specs.Views.{HasAt, Stage, Plain, View, working_of};
+ghost use Rattle.machine_state.specs.Locked.{AreHeld};
+ghost use Rattle.machine_state.specs.Moves.{after_split, split_off, after_join, spent, without_work, orphan_of};
+ghost use Rattle.machine_state.specs.Steps.{StepKind, MayStep, IsResting, word_of_step, home_behind};
+ghost use Rattle.machine_state.specs.Sound.{IsSound};
 ghost use Rattle.machine_laws.specs.LocksBehind.{words_behind, views_behind, order_behind, stage_behind, writer_behind, StepsFrom, WorksHold, TurnsHold};
 
 /// Whatever a pass does that its view lets it do: no lock has two holders, no lock tells more than

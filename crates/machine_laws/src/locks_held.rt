@@ -4,10 +4,10 @@
 //! is how a watcher finds it.
 
 ghost use Rattle.std.specs.Prelude.{◌≡◌, ◌≢◌, ℕ, ◌<◌, Contains, List, [], ◌∷◌, ◌++◌, set};
-ghost use Rattle.wal_core.specs.Views.{HasAt, Copy, Copying, Flight, Landed, Working, AreSomeOf, View, working_of};
-ghost use Rattle.wal_core.specs.Locked.{AreHeld};
-ghost use Rattle.wal_core.specs.Moves.{landed, without_lock, one_more, after_take_lock};
-ghost use Rattle.wal_core.specs.Steps.{exchanged};
+ghost use Rattle.machine_state.specs.Views.{HasAt, Copy, Copying, Flight, Landed, Working, AreSomeOf, View, working_of};
+ghost use Rattle.machine_state.specs.Locked.{AreHeld};
+ghost use Rattle.machine_state.specs.Moves.{landed, without_lock, one_more, after_take_lock};
+ghost use Rattle.machine_state.specs.Steps.{exchanged};
 ghost use Rattle.machine_laws.specs.Locks.{ChangesAt, idle};
 
 /// What is said of locks held stays true where no lock's word changes, and where one that is held

@@ -5,10 +5,10 @@
 
 ghost use Rattle.std.specs.Prelude.{◌≡◌, ℕ, ◌+◌, ◌<◌, ◌≤◌, Contains, List, [], ◌∷◌, ◌++◌, set};
 ghost use Rattle.wal_page.specs.EntryWords.{address_of_word};
-ghost use Rattle.wal_core.specs.Views.{HasAt, Copy, Copying, Landed, Working, View, working_of};
-ghost use Rattle.wal_core.specs.Locked.{AreHeld, ProgressHolds, most_told};
-ghost use Rattle.wal_core.specs.Moves.{landed, without_lock, one_more, after_take_lock};
-ghost use Rattle.wal_core.specs.Steps.{exchanged};
+ghost use Rattle.machine_state.specs.Views.{HasAt, Copy, Copying, Landed, Working, View, working_of};
+ghost use Rattle.machine_state.specs.Locked.{AreHeld, ProgressHolds, most_told};
+ghost use Rattle.machine_state.specs.Moves.{landed, without_lock, one_more, after_take_lock};
+ghost use Rattle.machine_state.specs.Steps.{exchanged};
 ghost use Rattle.machine_laws.specs.Locks.{ChangesAt, idle};
 
 /// No lock tells more than is copied: still where no lock's word changes, and where the holder of

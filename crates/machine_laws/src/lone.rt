@@ -4,9 +4,9 @@
 ghost use Rattle.std.specs.Prelude.{◌≡◌, ℕ, List};
 ghost use mathlib.Core.Option.{Option};
 ghost use Rattle.segment_disk.specs.Tape.{DiskState};
-ghost use Rattle.wal_core.specs.Words.{Opening, position_word};
-ghost use Rattle.wal_core.specs.Views.{HasAt, Free, Plain, View};
-ghost use Rattle.wal_core.specs.Sound.{IsSound};
+ghost use Rattle.machine_state.specs.Words.{Opening, position_word};
+ghost use Rattle.machine_state.specs.Views.{HasAt, Free, Plain, View};
+ghost use Rattle.machine_state.specs.Sound.{IsSound};
 ghost use Rattle.machine_laws.specs.LonePasses.{HasAllThatIsHeld, HasSameEntries, IsLone};
 
 /// Whatever is held such a pass holds itself: where it has not locked the position, that is not

@@ -6,11 +6,11 @@
 ghost use Rattle.std.specs.Prelude.{List, [], ◌∷◌, ℕ};
 ghost use mathlib.Core.Option.{Option};
 ghost use Rattle.segment_disk.specs.Tape.{DiskState};
-ghost use Rattle.wal_core.specs.Words.{Opening};
-ghost use Rattle.wal_core.specs.Views.{HasAt, Plain, View};
-ghost use Rattle.wal_core.specs.Opened.{first_view};
-ghost use Rattle.wal_core.specs.Sound.{IsSound};
-ghost use Rattle.wal_core.specs.Steps.{State, MachineStep};
+ghost use Rattle.machine_state.specs.Words.{Opening};
+ghost use Rattle.machine_state.specs.Views.{HasAt, Plain, View};
+ghost use Rattle.machine_state.specs.Opened.{first_view};
+ghost use Rattle.machine_state.specs.Sound.{IsSound};
+ghost use Rattle.machine_state.specs.Steps.{State, MachineStep};
 ghost use Rattle.machine_laws.specs.Runs.{Runs};
 ghost use Rattle.machine_laws.specs.RisingMoments.{LogsRise, MomentsKeepRising, promised_of};
 

@@ -8,14 +8,14 @@ ghost use mathlib.Core.Option.{Option};
 ghost use Rattle.wal_types.specs.declared.record.Record.{Record};
 ghost use Rattle.wal_page.specs.Order.{Entry};
 ghost use Rattle.segment_disk.specs.Tape.{DiskState};
-ghost use Rattle.wal_core.specs.Words.{Opening, order_end, GoesOnAtPlace};
-ghost use Rattle.wal_core.specs.Views.{HasAt, Flight, Plain, Stored, Receipts, View, Writing, receipts_of, writing_of};
-ghost use Rattle.wal_core.specs.Ordered.{AtPlace};
-ghost use Rattle.wal_core.specs.Positioned.{PositionsHold};
-ghost use Rattle.wal_core.specs.Durable.{DurabilityHolds};
-ghost use Rattle.wal_core.specs.Moves.{entry_reserved};
-ghost use Rattle.wal_core.specs.Sound.{IsSetup};
-ghost use Rattle.wal_core.specs.Steps.{store_position, view_behind};
+ghost use Rattle.machine_state.specs.Words.{Opening, order_end, GoesOnAtPlace};
+ghost use Rattle.machine_state.specs.Views.{HasAt, Flight, Plain, Stored, Receipts, View, Writing, receipts_of, writing_of};
+ghost use Rattle.machine_state.specs.Ordered.{AtPlace};
+ghost use Rattle.machine_state.specs.Positioned.{PositionsHold};
+ghost use Rattle.machine_state.specs.Durable.{DurabilityHolds};
+ghost use Rattle.machine_state.specs.Moves.{entry_reserved};
+ghost use Rattle.machine_state.specs.Sound.{IsSetup};
+ghost use Rattle.machine_state.specs.Steps.{store_position, view_behind};
 
 /// A pass that has the position locked reserves an entry: what was lawful, durable or promised
 /// stays so, and nothing that was put before has a word of the entry.
@@ -27,7 +27,7 @@ pub fn reserving_keeps_durability()
         (last word locked holder written : ℕ) (flights : List Flight)
         → DurabilityHolds first o order flushed moment down home writer (map receipts_of views)
         → HasAt views id v → IsSetup o.setup → GoesOnAtPlace o order
-        → AtPlace (o.setup).segment_size (order_end o order) last word
+        → AtPlace (o.setup).seg_size (order_end o order) last word
         locked holder id (v.reserving).place
         → PositionsHold first o order written flushed down home writer flights
         (map writing_of views)

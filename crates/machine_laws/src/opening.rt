@@ -5,12 +5,12 @@ ghost use Rattle.std.specs.Prelude.{◌≡◌, ◌≤◌, List, [], ◌∷◌, �
 ghost use mathlib.Core.Option.{some};
 ghost use Rattle.segment_disk.specs.Tape.{DiskState};
 ghost use Rattle.wal_page.specs.LogPlace.{new_place};
-ghost use Rattle.wal_core.specs.Words.{Opening, found_end};
+ghost use Rattle.machine_state.specs.Words.{Opening, found_end};
 ghost use Rattle.flush_core.specs.Pages.{HoldsNothing};
-ghost use Rattle.wal_core.specs.Suited.{BeganSuited, tape_from};
-ghost use Rattle.wal_core.specs.Views.{Plain};
-ghost use Rattle.wal_core.specs.Opened.{AreFirstWords, IsFirstWriter, IsOpenable, first_view};
-ghost use Rattle.wal_core.specs.Sound.{IsSetup, IsSound};
+ghost use Rattle.machine_state.specs.Suited.{BeganSuited, tape_from};
+ghost use Rattle.machine_state.specs.Views.{Plain};
+ghost use Rattle.machine_state.specs.Opened.{AreFirstWords, IsFirstWriter, IsOpenable, first_view};
+ghost use Rattle.machine_state.specs.Sound.{IsSetup, IsSound};
 
 /// A log begins, or goes on behind what was found, in a state that keeps the
 /// invariant, on any disk. Of a log that holds nothing, a disk that holds no segment then, if it
@@ -26,7 +26,7 @@ pub fn logs_begin_sound()
         → HoldsNothing (tape_from first writer.calls)
         → IfSome (tape_from first writer.calls) (BeganSuited opening) }
     ensures nothing { (opening : Opening) → IsSetup opening.setup
-        → opening.place ≡ new_place (opening.setup).segment_size
+        → opening.place ≡ new_place (opening.setup).seg_size
         → opening.made ≤ (opening.setup).cap_segments
-        → IsOpenable opening × (found_end opening ≡ (opening.setup).segment_size) }
+        → IsOpenable opening × (found_end opening ≡ (opening.setup).seg_size) }
 {}

@@ -9,16 +9,16 @@ ghost use mathlib.Core.Option.{Option};
 ghost use Rattle.wal_types.specs.declared.record.Record.{Record};
 ghost use Rattle.wal_page.specs.Order.{Entry};
 ghost use Rattle.segment_disk.specs.Tape.{DiskState};
-ghost use Rattle.wal_core.specs.Views.{HasAt, Free, Plain, Reserving, View};
-ghost use Rattle.wal_core.specs.Words.{Opening, end_form, order_end, GoesOnAtPlace};
-ghost use Rattle.wal_core.specs.Steps.{StepKind, MayStep, value_behind, view_behind};
-ghost use Rattle.wal_core.specs.Ordered.{OrderHolds, entries_under};
-ghost use Rattle.wal_core.specs.Moves.{entry_reserved, after_split, split_off, after_join, spent, without_work, orphan_of};
-ghost use Rattle.wal_core.specs.Steps.{place_at, load_position, load_flushed, store_position};
-ghost use Rattle.wal_core.specs.Steps.{lock_position, load_prev, store_prev, give_position_back, stay};
+ghost use Rattle.machine_state.specs.Views.{HasAt, Free, Plain, Reserving, View};
+ghost use Rattle.machine_state.specs.Words.{Opening, end_form, order_end, GoesOnAtPlace};
+ghost use Rattle.machine_state.specs.Steps.{StepKind, MayStep, value_behind, view_behind};
+ghost use Rattle.machine_state.specs.Ordered.{OrderHolds, entries_under};
+ghost use Rattle.machine_state.specs.Moves.{entry_reserved, after_split, split_off, after_join, spent, without_work, orphan_of};
+ghost use Rattle.machine_state.specs.Steps.{place_at, load_position, load_flushed, store_position};
+ghost use Rattle.machine_state.specs.Steps.{lock_position, load_prev, store_prev, give_position_back, stay};
 ghost use Rattle.machine_laws.specs.OrderParts.{TakesPart, HoldsWith};
 ghost use Rattle.machine_laws.specs.SharedOrders.{OrderIsShared};
-ghost use Rattle.wal_core.specs.Sound.{IsSound};
+ghost use Rattle.machine_state.specs.Sound.{IsSound};
 
 /// The position is locked only where nobody has it locked, and what its holder loads is the last
 /// start; so the position that it gives back is the one that was.

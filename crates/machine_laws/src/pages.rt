@@ -6,12 +6,12 @@
 //! written whole.
 
 ghost use Rattle.std.specs.Prelude.{◌≡◌, ℕ, ◌+◌, ◌*◌, ◌/◌, ◌%◌, ◌<◌, ◌≤◌, List, [], ◌∷◌, ◌++◌, max, set};
-ghost use Rattle.wal_core.specs.declared.setup.Setup.{Setup};
-ghost use Rattle.wal_core.specs.Views.{HasAt, Copy, Flight, Copying, Stage, Away, Taken, Ready, Zeroing, Published};
-ghost use Rattle.wal_core.specs.Moves.{looked, ready};
-ghost use Rattle.wal_core.specs.Paged.{IsOpen, PagesHold};
-ghost use Rattle.wal_core.specs.Positioned.{IsCopiedBelow};
-ghost use Rattle.wal_core.specs.Steps.{CopiesOn, number_of_next, ring_place};
+ghost use Rattle.machine_state.specs.declared.setup.Setup.{Setup};
+ghost use Rattle.machine_state.specs.Views.{HasAt, Copy, Flight, Copying, Stage, Away, Taken, Ready, Zeroing, Published};
+ghost use Rattle.machine_state.specs.Moves.{looked, ready};
+ghost use Rattle.machine_state.specs.Paged.{IsOpen, PagesHold};
+ghost use Rattle.machine_state.specs.Positioned.{IsCopiedBelow};
+ghost use Rattle.machine_state.specs.Steps.{CopiesOn, number_of_next, ring_place};
 ghost use Rattle.machine_laws.specs.WordsPut.{IsPut};
 
 /// A pass meets the end of a buffer, or the initialised end, as it loads it; a mapper goes on with
@@ -92,7 +92,7 @@ pub fn stores_keep_pages()
         (flights : List Flight) (id met below value : ℕ) (c : Copy)
         → PagesHold setup.ring_pages reach stage initialised written ends ring memory confirmed
         → HasAt confirmed id met → HasAt flights id (Copying c) → CopiesOn setup met c
-        → IsCopiedBelow setup.segment_size flights below → written ≤ below
+        → IsCopiedBelow setup.seg_size flights below → written ≤ below
         → ((b : ℕ) → b < setup.ring_pages → ends_behind b ≡ ends b)
         → IsPut ring (ring_place setup (number_of_next setup (Copying c))) value ring_behind
         → IsPut memory (number_of_next setup (Copying c)) value memory_behind

@@ -3,9 +3,9 @@
 
 ghost use Rattle.std.specs.Prelude.{ℕ};
 ghost use Rattle.segment_disk.specs.Tape.{DiskState};
-ghost use Rattle.wal_core.specs.Words.{Opening};
-ghost use Rattle.wal_core.specs.Steps.{GivesUp, Joins, Splits, State};
-ghost use Rattle.wal_core.specs.Sound.{IsSound};
+ghost use Rattle.machine_state.specs.Words.{Opening};
+ghost use Rattle.machine_state.specs.Steps.{GivesUp, Joins, Splits, State};
+ghost use Rattle.machine_state.specs.Sound.{IsSound};
 
 /// A pass is split off another one, takes one in that is about nothing, or gives up its copy with
 /// the locks under which it stands.

@@ -8,20 +8,20 @@ ghost use Rattle.std.specs.Prelude.{◌≡◌, ◌≢◌, ℕ, ◌≤◌, true, 
 ghost use mathlib.Core.Option.{Option};
 ghost use Rattle.segment_disk.specs.Tape.{DiskState, create_call, sync_call, write_call};
 ghost use Rattle.wal_types.specs.declared.record.Record.{Record};
-ghost use Rattle.wal_core.specs.Words.{end_form, order_end};
-ghost use Rattle.wal_core.specs.Views.{HasAt, Plain, Reserving, Receipts, View, flight_of, receipts_of, watching_of, working_of, writing_of};
-ghost use Rattle.wal_core.specs.Ordered.{OrderHolds};
-ghost use Rattle.wal_core.specs.Locked.{AreHeld};
-ghost use Rattle.wal_core.specs.Watched.{WatchHolds};
-ghost use Rattle.wal_core.specs.Durable.{DurabilityHolds};
-ghost use Rattle.wal_core.specs.Sound.{IsSound};
-ghost use Rattle.wal_core.specs.Moves.{CallOutcome, entry_reserved, after_split, split_off, after_join, spent, without_work, orphan_of, after_create, after_write, after_sync};
-ghost use Rattle.wal_core.specs.Failed.{KnowsOfFault};
-ghost use Rattle.wal_core.specs.Steps.{MayStep, place_at, value_behind, view_behind, home_behind};
-ghost use Rattle.wal_core.specs.Steps.{take_write_turn, release_write_turn, slot_out, slot_in};
-ghost use Rattle.wal_core.specs.Steps.{load_ring_word, load_written, load_flushed, load_moment, load_down};
-ghost use Rattle.wal_core.specs.Steps.{store_position, store_ring_word, release, store_written, store_moment};
-ghost use Rattle.wal_core.specs.Steps.{store_flushed, set_down, create, write, sync};
+ghost use Rattle.machine_state.specs.Words.{end_form, order_end};
+ghost use Rattle.machine_state.specs.Views.{HasAt, Plain, Reserving, Receipts, View, flight_of, receipts_of, watching_of, working_of, writing_of};
+ghost use Rattle.machine_state.specs.Ordered.{OrderHolds};
+ghost use Rattle.machine_state.specs.Locked.{AreHeld};
+ghost use Rattle.machine_state.specs.Watched.{WatchHolds};
+ghost use Rattle.machine_state.specs.Durable.{DurabilityHolds};
+ghost use Rattle.machine_state.specs.Sound.{IsSound};
+ghost use Rattle.machine_state.specs.Moves.{CallOutcome, entry_reserved, after_split, split_off, after_join, spent, without_work, orphan_of, after_create, after_write, after_sync};
+ghost use Rattle.machine_state.specs.Failed.{KnowsOfFault};
+ghost use Rattle.machine_state.specs.Steps.{MayStep, place_at, value_behind, view_behind, home_behind};
+ghost use Rattle.machine_state.specs.Steps.{take_write_turn, release_write_turn, slot_out, slot_in};
+ghost use Rattle.machine_state.specs.Steps.{load_ring_word, load_written, load_flushed, load_moment, load_down};
+ghost use Rattle.machine_state.specs.Steps.{store_position, store_ring_word, release, store_written, store_moment};
+ghost use Rattle.machine_state.specs.Steps.{store_flushed, set_down, create, write, sync};
 ghost use Rattle.machine_laws.specs.PositionParts.{Positions, positions_in, HasPositions, HoldAmong, HoldBehind};
 
 /// A view that takes or gives the turn to write, or loads a word, knows no more of positions than
@@ -92,7 +92,7 @@ pub fn the_writer_goes_out_and_home()
     ensures slot_out { (p : Positions) (id : ℕ) (v : View) → HasPositions p id v
         → (lock : ℕ → ℕ) (views : List View) → p.flights ≡ map flight_of views
         → HasAt views id v → AreHeld lock (map working_of views)
-        → WatchHolds ((v.opening).setup).segment_size (end_form (v.opening).setup
+        → WatchHolds ((v.opening).setup).seg_size (end_form (v.opening).setup
         (order_end v.opening p.order)) (map working_of views) (map watching_of views)
         → MayStep v slot_out
         → HoldBehind (record p { home = home_behind v slot_out p.home }) id v
@@ -113,7 +113,7 @@ pub fn calls_leave_the_log_readable()
         → (met segment : ℕ) (outcome : CallOutcome) → MayStep v (create segment outcome)
         → HoldBehind (record p {
           writer = after_create segment
-              (create_call ((v.opening).setup).segment_size segment) outcome p.writer;
+              (create_call ((v.opening).setup).seg_size segment) outcome p.writer;
         }) id v (view_behind v (create segment outcome) met p.home) }
     ensures write { (p : Positions) (id : ℕ) (v : View) → HasPositions p id v
         → (moment : ℕ) (tolds : List Receipts)
@@ -122,14 +122,14 @@ pub fn calls_leave_the_log_readable()
         → HasAt tolds id (receipts_of v) → MayStep v (write segment page upto bytes outcome)
         → HoldBehind (record p {
           writer = after_write segment upto
-              (write_call ((v.opening).setup).segment_size segment page bytes) outcome p.writer;
+              (write_call ((v.opening).setup).seg_size segment page bytes) outcome p.writer;
         }) id v (view_behind v (write segment page upto bytes outcome) met p.home) }
     ensures sync { (p : Positions) (id : ℕ) (v : View) → HasPositions p id v
         → (moment : ℕ) (tolds : List Receipts)
         → DurabilityHolds p.first v.opening p.order p.flushed moment p.down p.home p.writer tolds
         → (met segment : ℕ) (outcome : CallOutcome) → MayStep v (sync segment outcome)
         → HoldBehind (record p {
-          writer = after_sync (sync_call ((v.opening).setup).segment_size segment) outcome
+          writer = after_sync (sync_call ((v.opening).setup).seg_size segment) outcome
               p.writer;
         }) id v (view_behind v (sync segment outcome) met p.home) }
 {}

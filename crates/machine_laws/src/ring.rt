@@ -10,14 +10,14 @@ ghost use Rattle.wal_page.specs.Order.{Entry};
 ghost use Rattle.wal_page.specs.LogPlace.{IsPlace};
 ghost use Rattle.wal_page.specs.EntryWords.{address_of_word, words_owned};
 ghost use Rattle.segment_disk.specs.Tape.{DiskState};
-ghost use Rattle.wal_core.specs.Words.{Opening, order_end, last_start, GoesOnAtPlace};
-ghost use Rattle.wal_core.specs.Views.{HasAt, Copy, Flight, Landed, Copying, Stage, Plain, Lent, Out, Writing};
-ghost use Rattle.wal_core.specs.Moves.{landed, one_more};
-ghost use Rattle.wal_core.specs.Steps.{CopiesOn, IsToBeWritten, number_of_next, next_word, ring_place};
-ghost use Rattle.wal_core.specs.Ringed.{RingHolds, log_word_of};
-ghost use Rattle.wal_core.specs.Paged.{PagesHold};
-ghost use Rattle.wal_core.specs.Positioned.{PositionsHold};
-ghost use Rattle.wal_core.specs.Durable.{IsStaged};
+ghost use Rattle.machine_state.specs.Words.{Opening, order_end, last_start, GoesOnAtPlace};
+ghost use Rattle.machine_state.specs.Views.{HasAt, Copy, Flight, Landed, Copying, Stage, Plain, Lent, Out, Writing};
+ghost use Rattle.machine_state.specs.Moves.{landed, one_more};
+ghost use Rattle.machine_state.specs.Steps.{CopiesOn, IsToBeWritten, number_of_next, next_word, ring_place};
+ghost use Rattle.machine_state.specs.Ringed.{RingHolds, log_word_of};
+ghost use Rattle.machine_state.specs.Paged.{PagesHold};
+ghost use Rattle.machine_state.specs.Positioned.{PositionsHold};
+ghost use Rattle.machine_state.specs.Durable.{IsStaged};
 ghost use Rattle.machine_laws.specs.WordsPut.{IsPut};
 
 /// An entry is reserved, and its copy begins; each of its words is stored; its locks are released
@@ -25,7 +25,7 @@ ghost use Rattle.machine_laws.specs.WordsPut.{IsPut};
 pub fn copies_keep_the_ring()
     ensures begun { (opening : Opening) (order : List Entry) (reach : ℕ) (memory : ℕ → ℕ)
         (flights : List Flight) (id : ℕ) (e : Entry) (prev : ℕ) (locks : List ℕ)
-        → IsSegmentSize opening.setup.segment_size → GoesOnAtPlace opening order
+        → IsSegmentSize opening.setup.seg_size → GoesOnAtPlace opening order
         → RingHolds opening order reach memory flights → HasAt flights id Landed
         → e.start ≡ order_end opening order
         → prev ≡ last_start opening order
@@ -35,8 +35,8 @@ pub fn copies_keep_the_ring()
         (memory memory_behind : ℕ → ℕ) (flights : List Flight) (stage : Stage)
         (initialised written : ℕ) (ends ring : ℕ → ℕ)
         (confirmed : List ℕ) (id met : ℕ) (c : Copy)
-        → IsSegmentSize opening.setup.segment_size
-        → IsPlace opening.setup.segment_size opening.place → GoesOnAtPlace opening order
+        → IsSegmentSize opening.setup.seg_size
+        → IsPlace opening.setup.seg_size opening.place → GoesOnAtPlace opening order
         → RingHolds opening order reach memory flights
         → PagesHold opening.setup.ring_pages reach stage initialised written ends ring memory
         confirmed
@@ -46,11 +46,11 @@ pub fn copies_keep_the_ring()
         → RingHolds opening order reach memory_behind (set flights id (one_more (Copying c))) }
     ensures released { (opening : Opening) (order : List Entry) (reach : ℕ) (memory : ℕ → ℕ)
         (flights : List Flight) (id lock : ℕ) (flight : Flight)
-        → IsSegmentSize opening.setup.segment_size
-        → IsPlace opening.setup.segment_size opening.place → GoesOnAtPlace opening order
+        → IsSegmentSize opening.setup.seg_size
+        → IsPlace opening.setup.seg_size opening.place → GoesOnAtPlace opening order
         → RingHolds opening order reach memory flights → HasAt flights id flight
         → ((c : Copy) → flight ≡ Copying c → Contains c.locks lock
-        → c.copied ≡ words_owned opening.setup.segment_size c.entry)
+        → c.copied ≡ words_owned opening.setup.seg_size c.entry)
         → RingHolds opening order reach memory (set flights id (landed lock flight)) }
 {}
 
@@ -59,20 +59,20 @@ pub fn copies_keep_the_ring()
 pub fn copied_words_are_the_logs()
     ensures in_flight { (opening : Opening) (order : List Entry) (reach : ℕ) (memory : ℕ → ℕ)
         (flights : List Flight) (id n : ℕ) (c : Copy)
-        → IsSegmentSize opening.setup.segment_size
-        → IsPlace opening.setup.segment_size opening.place → GoesOnAtPlace opening order
+        → IsSegmentSize opening.setup.seg_size
+        → IsPlace opening.setup.seg_size opening.place → GoesOnAtPlace opening order
         → RingHolds opening order reach memory flights → HasAt flights id (Copying c)
-        → n < c.copied → memory (address_of_word opening.setup.segment_size c.entry n / 8)
-        ≡ log_word_of opening order (address_of_word opening.setup.segment_size c.entry n) }
+        → n < c.copied → memory (address_of_word opening.setup.seg_size c.entry n / 8)
+        ≡ log_word_of opening order (address_of_word opening.setup.seg_size c.entry n) }
     ensures in_no_flight { (opening : Opening) (order : List Entry) (reach : ℕ) (memory : ℕ → ℕ)
         (flights : List Flight) (front back : List Entry) (e : Entry) (n : ℕ)
-        → IsSegmentSize opening.setup.segment_size
-        → IsPlace opening.setup.segment_size opening.place → GoesOnAtPlace opening order
+        → IsSegmentSize opening.setup.seg_size
+        → IsPlace opening.setup.seg_size opening.place → GoesOnAtPlace opening order
         → RingHolds opening order reach memory flights → order ≡ front ++ e ∷ back
         → ((id : ℕ) (c : Copy) → HasAt flights id (Copying c) → (c.entry).start ≢ e.start)
-        → n < words_owned opening.setup.segment_size e
-        → memory (address_of_word opening.setup.segment_size e n / 8)
-        ≡ log_word_of opening order (address_of_word opening.setup.segment_size e n) }
+        → n < words_owned opening.setup.seg_size e
+        → memory (address_of_word opening.setup.seg_size e n / 8)
+        ≡ log_word_of opening order (address_of_word opening.setup.seg_size e n) }
 {}
 
 /// Pages more are mapped.
@@ -112,7 +112,7 @@ pub fn loaded_words_are_the_logs()
         (flights : List Flight) (stage : Stage) (initialised written flushed down : ℕ)
         (ends ring : ℕ → ℕ) (confirmed : List ℕ) (home : Option Plain) (writer : Plain)
         (parts : List Writing) (id k : ℕ) (x : Writing) (l : Lent)
-        → IsSegmentSize (o.setup).segment_size → IsPlace (o.setup).segment_size o.place
+        → IsSegmentSize (o.setup).seg_size → IsPlace (o.setup).seg_size o.place
         → GoesOnAtPlace o order
         → RingHolds o order reach memory flights
         → PagesHold (o.setup).ring_pages reach stage initialised written ends ring memory

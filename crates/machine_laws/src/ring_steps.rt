@@ -6,12 +6,12 @@ ghost use Rattle.std.specs.Prelude.{◌≡◌, ℕ, ◌+◌, true, List, [], ◌
 ghost use mathlib.Core.Option.{Option};
 ghost use Rattle.wal_types.specs.declared.record.Record.{Record};
 ghost use Rattle.segment_disk.specs.Tape.{DiskState};
-ghost use Rattle.wal_core.specs.Words.{Opening, initialised_word, written_word, mapping_turn};
-ghost use Rattle.wal_core.specs.Views.{HasAt, Away, Taken, Zeroing, Published, Lent, Out, Plain, View};
-ghost use Rattle.wal_core.specs.Durable.{IsStaged};
-ghost use Rattle.wal_core.specs.Moves.{after_join, entry_reserved, after_split, looked, orphan_of, ready, split_off, spent, without_work};
-ghost use Rattle.wal_core.specs.Steps.{StepKind, IsResting, MayStep, clear_end, load_buffer_end, load_initialised_end, load_ring_word, load_written, page_mapped, publish_end, publish_initialised_end, release, release_mapping_turn, store_position, store_ring_word, store_written, take_mapping_turn, words_zeroed, zero_ring_word};
-ghost use Rattle.wal_core.specs.Sound.{IsSound};
+ghost use Rattle.machine_state.specs.Words.{Opening, initialised_word, written_word, mapping_turn};
+ghost use Rattle.machine_state.specs.Views.{HasAt, Away, Taken, Zeroing, Published, Lent, Out, Plain, View};
+ghost use Rattle.machine_state.specs.Durable.{IsStaged};
+ghost use Rattle.machine_state.specs.Moves.{after_join, entry_reserved, after_split, looked, orphan_of, ready, split_off, spent, without_work};
+ghost use Rattle.machine_state.specs.Steps.{StepKind, IsResting, MayStep, clear_end, load_buffer_end, load_initialised_end, load_ring_word, load_written, page_mapped, publish_end, publish_initialised_end, release, release_mapping_turn, store_position, store_ring_word, store_written, take_mapping_turn, words_zeroed, zero_ring_word};
+ghost use Rattle.machine_state.specs.Sound.{IsSound};
 ghost use Rattle.machine_laws.specs.RingBehind.{HasPages, HasPagesWith, HasRing, HasRingWith, memory_stored, met_by};
 ghost use Rattle.machine_laws.specs.RingLeft.{LeavesCopies, LeavesPages};
 

@@ -2,9 +2,9 @@
 //! one word of the ring, and leaves all others.
 
 ghost use Rattle.std.specs.Prelude.{◌≡◌, ℕ, ◌+◌, ◌*◌, ◌<◌, List, length, set};
-ghost use Rattle.wal_core.specs.declared.setup.Setup.{Setup};
-ghost use Rattle.wal_core.specs.Words.{end_word, word_of_ring, word_count, ends_number};
-ghost use Rattle.wal_core.specs.Steps.{ring_place};
+ghost use Rattle.machine_state.specs.declared.setup.Setup.{Setup};
+ghost use Rattle.machine_state.specs.Words.{end_word, word_of_ring, word_count, ends_number};
+ghost use Rattle.machine_state.specs.Steps.{ring_place};
 ghost use Rattle.machine_laws.specs.WordsPut.{IsPut, put};
 
 /// A store into the end word of a buffer changes this end alone, one into a word of the ring this

@@ -4,10 +4,10 @@
 ghost use Rattle.std.specs.Prelude.{ℕ, List};
 ghost use mathlib.Core.Option.{Option};
 ghost use Rattle.segment_disk.specs.Tape.{DiskState};
-ghost use Rattle.wal_core.specs.Words.{Opening};
-ghost use Rattle.wal_core.specs.Views.{Plain, View};
-ghost use Rattle.wal_core.specs.Sound.{IsSound};
-ghost use Rattle.wal_core.specs.Shown.{EntriesAreCopied, MappersAreNext, PagesArePresent, WordsAreLogs};
+ghost use Rattle.machine_state.specs.Words.{Opening};
+ghost use Rattle.machine_state.specs.Views.{Plain, View};
+ghost use Rattle.machine_state.specs.Sound.{IsSound};
+ghost use Rattle.machine_state.specs.Shown.{EntriesAreCopied, MappersAreNext, PagesArePresent, WordsAreLogs};
 
 /// In each state that keeps the invariant, the ring's words are the log's, or 0 while a pass is
 /// still to copy them; an entry is in flight in one view at most, and what counts as copied of it

@@ -5,9 +5,9 @@
 ghost use Rattle.std.specs.Prelude.{ℕ, List};
 ghost use mathlib.Core.Option.{Option};
 ghost use Rattle.segment_disk.specs.Tape.{DiskState};
-ghost use Rattle.wal_core.specs.Words.{Opening, end_form, order_end};
-ghost use Rattle.wal_core.specs.Views.{Plain, View};
-ghost use Rattle.wal_core.specs.Sound.{IsSound};
+ghost use Rattle.machine_state.specs.Words.{Opening, end_form, order_end};
+ghost use Rattle.machine_state.specs.Views.{Plain, View};
+ghost use Rattle.machine_state.specs.Sound.{IsSound};
 ghost use Rattle.machine_laws.specs.SoundLocks.{EntriesAreWholeOrInFlight, LocksHaveHolders, LocksTellCopies, TurnsHaveHolders};
 ghost use Rattle.machine_laws.specs.SoundPositions.{PositionsAreOrdered};
 ghost use Rattle.machine_laws.specs.SoundWatches.{WatchersSeeCopies};
@@ -36,7 +36,7 @@ pub fn sound_locks_tell_no_more_than_is_copied()
     ensures told { (first : DiskState) (opening : Opening) (words : List ℕ) (home : Option Plain)
         (views : List View)
         (k : IsSound first opening words home views)
-        → LocksTellCopies (opening.setup).segment_size (end_form opening.setup
+        → LocksTellCopies (opening.setup).seg_size (end_form opening.setup
         (order_end opening k.order)) words views }
 {}
 

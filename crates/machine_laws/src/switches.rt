@@ -5,13 +5,13 @@ ghost use Rattle.std.specs.Prelude.{◌≡◌, ℕ, ◌*◌, ◌/◌, ◌<◌, C
 ghost use mathlib.Core.Option.{Option};
 ghost use Rattle.segment_disk.specs.Tape.{DiskState};
 ghost use Rattle.wal_types.specs.declared.record.Record.{Record};
-ghost use Rattle.record_spelling.specs.Record.{is_switch, switch_record};
+ghost use Rattle.wal_spelling.specs.Record.{is_switch, switch_record};
 ghost use Rattle.wal_page.specs.EntryWords.{words_owned};
-ghost use Rattle.wal_core.specs.Words.{Opening, word_of_ring};
-ghost use Rattle.wal_core.specs.Views.{Copy, Copying, HasAt, Landed, Plain, View};
-ghost use Rattle.wal_core.specs.Steps.{MayStep, ring_place, store_position};
-ghost use Rattle.wal_core.specs.Sound.{IsSound};
-ghost use Rattle.wal_core.specs.Shown.{IsPresent};
+ghost use Rattle.machine_state.specs.Words.{Opening, word_of_ring};
+ghost use Rattle.machine_state.specs.Views.{Copy, Copying, HasAt, Landed, Plain, View};
+ghost use Rattle.machine_state.specs.Steps.{MayStep, ring_place, store_position};
+ghost use Rattle.machine_state.specs.Sound.{IsSound};
+ghost use Rattle.machine_state.specs.Shown.{IsPresent};
 ghost use Rattle.machine_laws.specs.SoundLocks.{HoldsLock};
 ghost use Rattle.machine_laws.specs.Switches.{CopiesBehindAllLocks, IsBehindSwitch};
 
@@ -29,7 +29,7 @@ pub fn switches_stand_alone_before_zeros()
         → HasAt views other w → (w.working).flight ≡ Landed }
     ensures zeros { (first : DiskState) (opening : Opening) (words : List ℕ) (home : Option Plain)
         (views : List View) (s : IsSound first opening words home views) (k : ℕ)
-        → IsBehindSwitch (opening.setup).segment_size s.order (8 * k)
+        → IsBehindSwitch (opening.setup).seg_size s.order (8 * k)
         → IsPresent opening.setup words (k / 1024)
         → word_of_ring opening.setup words (ring_place opening.setup k) ≡ 0 }
 {}
@@ -42,6 +42,6 @@ pub fn switches_in_flight_stand_alone()
         (views : List View) (id : ℕ) (v : View) (c : Copy)
         → IsSound first opening words home views → HasAt views id v
         → (v.working).flight ≡ Copying c → IsTrue (is_switch (c.entry).value)
-        → c.copied < words_owned (opening.setup).segment_size c.entry
-        → CopiesBehindAllLocks (opening.setup).segment_size words views id v c }
+        → c.copied < words_owned (opening.setup).seg_size c.entry
+        → CopiesBehindAllLocks (opening.setup).seg_size words views id v c }
 {}

@@ -5,11 +5,11 @@
 
 ghost use Rattle.std.specs.Prelude.{◌≡◌, ◌≢◌, ◌⊎◌, ℕ, ◌+◌, List, [], ◌∷◌, ◌++◌, set, ◌==◌, if◌then◌else◌};
 ghost use mathlib.Core.Option.{Option, none, some};
-ghost use Rattle.wal_core.specs.Views.{HasAt, Stage, Away, Taken, Looked, Ready, Zeroing, Published, Plain, Lent, Hold, Idle, Turned, Out, View, mapper_of, writer_of};
-ghost use Rattle.wal_core.specs.Locked.{HasTurn, IsMappingTurn, IsWriteTurn};
-ghost use Rattle.wal_core.specs.Paged.{IsOpen};
-ghost use Rattle.wal_core.specs.Moves.{looked, ready, after_take_mapping_turn, after_take_write_turn};
-ghost use Rattle.wal_core.specs.Steps.{exchanged};
+ghost use Rattle.machine_state.specs.Views.{HasAt, Stage, Away, Taken, Looked, Ready, Zeroing, Published, Plain, Lent, Hold, Idle, Turned, Out, View, mapper_of, writer_of};
+ghost use Rattle.machine_state.specs.Locked.{HasTurn, IsMappingTurn, IsWriteTurn};
+ghost use Rattle.machine_state.specs.Paged.{IsOpen};
+ghost use Rattle.machine_state.specs.Moves.{looked, ready, after_take_mapping_turn, after_take_write_turn};
+ghost use Rattle.machine_state.specs.Steps.{exchanged};
 
 /// The turn to map a page is taken by whoever asks for it and finds it free, and given back by the
 /// one that has it.

@@ -7,12 +7,12 @@
 ghost use Rattle.std.specs.Prelude.{◌≡◌, ◌≢◌, ℕ, ◌≤◌, List, [], ◌∷◌, ◌++◌, set, map};
 ghost use Rattle.byte_position.specs.Geometry.{IsSegmentSize};
 ghost use Rattle.wal_page.specs.Order.{Entry};
-ghost use Rattle.wal_core.specs.Words.{end_form, order_end, Opening};
-ghost use Rattle.wal_core.specs.Views.{HasAt, Copy, Copying, Landed, Watching, Working, View, working_of, watching_of, flight_of};
-ghost use Rattle.wal_core.specs.Locked.{AreHeld, ProgressHolds};
-ghost use Rattle.wal_core.specs.Watched.{WatchHolds};
-ghost use Rattle.wal_core.specs.Positioned.{IsCopiedBelow};
-ghost use Rattle.wal_core.specs.Moves.{landed, one_more, copied_below, after_load_lock, after_take_lock};
+ghost use Rattle.machine_state.specs.Words.{end_form, order_end, Opening};
+ghost use Rattle.machine_state.specs.Views.{HasAt, Copy, Copying, Landed, Watching, Working, View, working_of, watching_of, flight_of};
+ghost use Rattle.machine_state.specs.Locked.{AreHeld, ProgressHolds};
+ghost use Rattle.machine_state.specs.Watched.{WatchHolds};
+ghost use Rattle.machine_state.specs.Positioned.{IsCopiedBelow};
+ghost use Rattle.machine_state.specs.Moves.{landed, one_more, copied_below, after_load_lock, after_take_lock};
 ghost use Rattle.machine_laws.specs.Locks.{idle, unwatching};
 
 /// A watch begins with the first lock, at most for the end of what is reserved, and goes on lock by
@@ -21,15 +21,15 @@ ghost use Rattle.machine_laws.specs.Locks.{idle, unwatching};
 pub fn watches_go_from_lock_to_lock()
     ensures { (opening : Opening) (order : List Entry) (lock : ℕ → ℕ) (works : List Working)
         (watches : List Watching) (id i limit : ℕ) (v : View)
-        → IsSegmentSize opening.setup.segment_size → AreHeld lock works
-        → ProgressHolds opening.setup.segment_size
+        → IsSegmentSize opening.setup.seg_size → AreHeld lock works
+        → ProgressHolds opening.setup.seg_size
         (end_form opening.setup (order_end opening order)) lock works
         → v.opening.setup ≡ opening.setup
         → v.reserving.seen ≤ order_end opening order
-        → WatchHolds opening.setup.segment_size
+        → WatchHolds opening.setup.seg_size
         (end_form opening.setup (order_end opening order)) works watches
         → HasAt works id v.working → HasAt watches id v.watching
-        → WatchHolds opening.setup.segment_size
+        → WatchHolds opening.setup.seg_size
         (end_form opening.setup (order_end opening order)) works
         (set watches id (watching_of (after_load_lock i limit (lock i) v))) }
 {}
@@ -39,10 +39,10 @@ pub fn watches_go_from_lock_to_lock()
 pub fn copies_go_on_before_their_watchers()
     ensures begun { (opening : Opening) (order : List Entry) (works : List Working)
         (watches : List Watching) (id : ℕ) (c : Copy) (locks : List ℕ)
-        → IsSegmentSize opening.setup.segment_size → WatchHolds opening.setup.segment_size
+        → IsSegmentSize opening.setup.seg_size → WatchHolds opening.setup.seg_size
         (end_form opening.setup (order_end opening order)) works watches
         → c.entry.start ≡ order_end opening order
-        → WatchHolds opening.setup.segment_size
+        → WatchHolds opening.setup.seg_size
         (end_form opening.setup (order_end opening (order ++ c.entry ∷ [])))
         (set works id (record { locks = locks; flight = Copying c })) watches }
     ensures copied_on { (size end : ℕ) (works : List Working) (watches : List Watching) (id : ℕ)

@@ -2,13 +2,13 @@
 use Rattle.std.proofs.Common.{◌≡◌, ℕ, ◌+◌, Bool, true, false, not, ◌&&◌, ◌||◌, ◌==◌, if◌then◌else◌, Option, Some, None, slice_get, slice_index, refl, sym, ◌∙◌, ap}
 use mathlib.Core.Option.{Option as Maybe, some, none}
 use lib.ListN.{get_elem?}
-use Rattle.wal_core.specs.Views.{View}
-use Rattle.wal_core.specs.Words.{Opening, down_word}
-use Rattle.wal_turns.specs.Doing.{Ask, Backend, Machine}
-use Rattle.wal_turns.specs.Turned.{TurnMade, Waits, can_step, event_named, fallen, looks_down, moved_on, turned, turned_by, turned_for, turned_of, word_waited}
-use Rattle.machine_core.specs.declared.machine.Core.{Core}
-use Rattle.machine_core.specs.Cores.{core_of}
-use Rattle.machine_core.specs.Playing.{PlaysMachine}
+use Rattle.machine_state.specs.Views.{View}
+use Rattle.machine_state.specs.Words.{Opening, down_word}
+use Rattle.machine_turns.specs.Doing.{Ask, Backend, Machine}
+use Rattle.machine_turns.specs.Turned.{TurnMade, Waits, can_step, event_named, fallen, looks_down, moved_on, turned, turned_by, turned_for, turned_of, word_waited}
+use Rattle.wal_core.specs.declared.machine.Core.{Core}
+use Rattle.wal_core.specs.Cores.{core_of}
+use Rattle.wal_core.specs.Playing.{PlaysMachine}
 
 abbrev HasOpening : Opening → TurnMade × Machine → Type 0
 HasOpening opening left = (left.1).opening ≡ opening

@@ -1,8 +1,7 @@
 //! That each check refuses words that are wrong, so that none of them lets all pass.
 
 use crate::played::SETUP;
-use machine_checks::{BackendNow, MachineNow, Part, ReservedSpan, fault_of};
-use machine_core::{PlainFlight, PlainHold, PlainPlace, PlainStage, PlainView, PlainWatching};
+use crate::{BackendNow, MachineNow, Part, ReservedSpan, fault_of};
 use machine_words::is_setup;
 use machine_words::layout::{
     BUFFER_ENDS, FLUSHED, INITIALISED_END, LAST_START, MAPPING_TURN, MOMENT, POSITION, WRITE_TURN,
@@ -10,6 +9,7 @@ use machine_words::layout::{
 };
 use std::alloc::{AllocError, Global};
 use std::test::Fail;
+use wal_core::{PlainFlight, PlainHold, PlainPlace, PlainStage, PlainView, PlainWatching};
 
 const FIRST_ADDRESS: u64 = 1 << 20;
 

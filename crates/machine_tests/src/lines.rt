@@ -2,17 +2,17 @@
 //! ends its segment, which a core asks of its lines.
 
 ghost use Rattle.std.specs.Prelude.{◌≡◌, false, All, IfOk};
-ghost use Rattle.record_spelling.specs.Spelling.{is_assembled_switch};
-ghost use Rattle.machine_core.specs.Lines.{InsertsNoSwitch};
+ghost use Rattle.wal_spelling.specs.Spelling.{is_assembled_switch};
+ghost use Rattle.wal_core.specs.Lines.{InsertsNoSwitch};
 
 use crate::played::Played;
 use byte_position::Geometry;
-use machine_core::{PlainLine, Script};
-use record_spelling::{Body, KeptBody};
 use segment_disk::Pick;
 use std::alloc::{AllocError, Global};
 use std::test::Fail;
+use wal_core::{Line, Script};
 use wal_reader::{ReadErr, Reader, Step};
+use wal_spelling::{Body, KeptBody};
 use wal_types::{BlockList, Bytes, Lsn, Record, Xid};
 
 #[derive(Clone, Copy)]
@@ -60,13 +60,13 @@ impl Planned {
         matches!(self.ask, Ask::Commit | Ask::Flush)
     }
 
-    fn line(self, alloc: Global) -> Result<PlainLine, Fail>
+    fn line(self, alloc: Global) -> Result<Line, Fail>
         ensures { IfOk result InsertsNoSwitch }
     {
         match self.ask {
-            Ask::Insert => Ok(PlainLine::Insert(self.kept_body(alloc)?)),
-            Ask::Commit => Ok(PlainLine::Commit(self.kept_body(alloc)?)),
-            Ask::Flush => Ok(PlainLine::Flush),
+            Ask::Insert => Ok(Line::Insert(self.kept_body(alloc)?)),
+            Ask::Commit => Ok(Line::Commit(self.kept_body(alloc)?)),
+            Ask::Flush => Ok(Line::Flush),
         }
     }
 }

@@ -4,12 +4,12 @@ ghost use Rattle.std.specs.Prelude.{◌≡◌};
 
 use crate::lines::{Planned, scripts_of};
 use crate::played::SETUP;
-use machine_core::{Core, CoreErr};
+use machine_state::Setup;
 use machine_words::{LogEnd, MachineWords, Word, is_setup};
 use std::alloc::Global;
 use std::process::Abort;
 use std::test::Fail;
-use wal_core::Setup;
+use wal_core::{Core, CoreErr};
 
 // A segment's size, how many pages the ring has, and whether a log can have them.
 static SETUPS: &[(u64, u32, bool)] = &[
@@ -26,7 +26,7 @@ static SETUPS: &[(u64, u32, bool)] = &[
 fn logs_can_have_these_setups(rt: HostRuntime) {
     for (segment_size, ring_pages, can) in SETUPS {
         let setup = Setup {
-            segment_size: *segment_size,
+            seg_size: *segment_size,
             ring_pages: *ring_pages,
             ..SETUP
         };

@@ -1,10 +1,10 @@
 //! A machine that tests play.
 
 ghost use Rattle.std.specs.Prelude.{All};
-ghost use Rattle.wal_core.specs.Sound.{IsSetup};
-ghost use Rattle.machine_core.specs.Lines.{InsertsNoSwitch};
+ghost use Rattle.machine_state.specs.Sound.{IsSetup};
+ghost use Rattle.wal_core.specs.Lines.{InsertsNoSwitch};
 
-use machine_core::{Core, PlainPlace, PlainView, Script, Turn, Word};
+use machine_state::Setup;
 use machine_words::is_setup;
 use machine_words::layout::{
     BUFFER_ENDS, DOWN, FLUSHED, INITIALISED_END, LAST_START, LOCKS, MAPPING_TURN, MOMENT, POSITION,
@@ -14,11 +14,11 @@ use segment_disk::{MemDisk, Memory, Pick};
 use std::alloc::{AllocError, Global};
 use std::marker::Model;
 use std::test::Fail;
-use wal_core::Setup;
+use wal_core::{Core, PlainPlace, PlainView, Script, Turn, Word};
 
 /// Segments of 1 MiB, of which the log may fill two, and a ring of four pages.
 pub const SETUP: Setup = Setup {
-    segment_size: 1_048_576,
+    seg_size: 1_048_576,
     ring_pages: 4,
     cap_segments: 2,
     sysid: 1,
@@ -33,10 +33,10 @@ pub struct Played {
 }
 
 impl Model for Played {
-    ghost use Rattle.machine_core.specs.declared.machine.Core.{Core};
-    ghost use Rattle.machine_core.specs.Cores.{IsPlayed};
+    ghost use Rattle.wal_core.specs.declared.machine.Core.{Core};
+    ghost use Rattle.wal_core.specs.Cores.{IsPlayed};
     ghost use Rattle.std.specs.Prelude.{◌≡◌};
-    ghost use Rattle.wal_core.specs.Sound.{IsSetup};
+    ghost use Rattle.machine_state.specs.Sound.{IsSetup};
 
     ghost Value = { Core };
 

@@ -2,13 +2,13 @@
 
 ghost use Rattle.std.specs.Prelude.{◌≡◌, ◌%◌, ◌<◌, ◌^◌};
 
+use crate::ReservedSpan;
 use crate::lines::{Found, Planned};
 use byte_position::Geometry;
-use machine_checks::ReservedSpan;
-use record_spelling::Body;
 use std::alloc::Global;
 use std::test::Fail;
 use wal_page::Placed;
+use wal_spelling::Body;
 use wal_types::Lsn;
 
 const FIRST_ADDRESS: u64 = 1 << 20;

@@ -3,14 +3,14 @@
 use crate::lines::{Ask, Planned, records_left, scripts_of};
 use crate::played::{Played, SETUP};
 use crate::reserved::Log;
-use machine_checks::{BackendNow, MachineNow, Part, fault_of};
-use machine_core::{Event, PlainFlight, Turn};
+use crate::{BackendNow, MachineNow, Part, fault_of};
+use machine_state::Setup;
 use rand_xoshiro::SplitMix64;
 use rand_xoshiro::rand_core::{Rng, SeedableRng};
 use segment_disk::Pick;
 use std::alloc::Global;
 use std::test::Fail;
-use wal_core::Setup;
+use wal_core::{Event, PlainFlight, Turn};
 
 const BACKENDS: u32 = 8;
 

@@ -2,12 +2,12 @@
 
 use crate::lines::{Ask, Found, Planned, records_left, scripts_of};
 use crate::played::{Played, SETUP};
-use machine_core::{Event, PlainPlace, Turn};
+use machine_state::Setup;
 use segment_disk::Pick;
 use std::alloc::Global;
 use std::process::Abort;
 use std::test::Fail;
-use wal_core::Setup;
+use wal_core::{Event, PlainPlace, Turn};
 
 // A machine, the turns that its backends have, and what is left behind them.
 struct Row {

@@ -15,9 +15,9 @@ use Rattle.segment_disk.specs.declared.failed.Failed.{Failed}
 use Rattle.segment_disk.specs.declared.memory.disk.MemDisk.{MemDisk}
 use Rattle.segment_disk.proofs.Presence.{is_some-kept}
 use Rattle.segment_disk.proofs.Reading.{after_calls-push}
-use Rattle.wal_core.specs.Views.{Plain}
-use Rattle.wal_core.specs.Moves.{Done, Failed as HasFailed, CallOutcome, after_write}
-use Rattle.wal_turns.specs.Turned.{call_outcome}
+use Rattle.machine_state.specs.Views.{Plain}
+use Rattle.machine_state.specs.Moves.{Done, Failed as HasFailed, CallOutcome, after_write}
+use Rattle.machine_turns.specs.Turned.{call_outcome}
 use Rattle.machine_turns.specs.Writer.{IsGoing, IsWriterKept, WriterState, segment_at, state_of}
 use Rattle.machine_turns.specs.declared.writer.MachineWriter.{MachineWriter}
 use Rattle.machine_turns.proofs.Bounds.{segment_counts, within_room}

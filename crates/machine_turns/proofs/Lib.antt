@@ -1,2 +1,16 @@
+pub mod Poses
+pub mod InsertPlaces
+pub mod MapPlaces
+pub mod FlushPlaces
+pub mod Loads
+pub mod SegmentSteps
+pub mod DevicePlaces
+pub mod NextUp
+pub mod DownStays
+pub mod LiveStays
+pub mod AtView
+pub mod Running
+pub mod Schedules
+pub mod FirstMachine
 pub mod Bounds
 pub mod Keeping

@@ -1,8 +1,8 @@
 -- The turns of a flush but for those with the writer in hand, on plain data.
 use Rattle.std.specs.Prelude.{ℕ, ◌+◌, ◌-◌, ◌%◌, Bool, true, false, List, set, max, ◌==◌, nat_le, if◌then◌else◌}
 use Rattle.byte_position.specs.Position.{position_of}
-use Rattle.wal_core.specs.declared.setup.Setup.{Setup}
-use Rattle.wal_core.specs.Words.{end_form, flushed_word, lock_word, position_word, write_turn_number}
+use Rattle.machine_state.specs.declared.setup.Setup.{Setup}
+use Rattle.machine_state.specs.Words.{end_form, flushed_word, lock_word, position_word, write_turn_number}
 use Rattle.machine_turns.specs.declared.doing.PlainDoing.TheVariants.{Looks, LoadsPosition, LoadsFlushed, LoadsMoment, Visits, TakesTurn, LoadsDown, TakesOut, GivesWriteTurn}
 use Rattle.machine_turns.specs.declared.doing.PlainNext.{PlainNext}
 use Rattle.machine_turns.specs.declared.doing.PlainNext.TheVariants.{GoesOn, Answers}
@@ -38,7 +38,7 @@ module _ (setup : Setup) (words : List ℕ) (view : PlainView) where
   abbrev pub at_loads_flushed : Left
   at_loads_flushed =
       let met = flushed_word words in
-      left_going_on LoadFlushed (seen_too (position_of setup.segment_size met) view) words
+      left_going_on LoadFlushed (seen_too (position_of setup.seg_size met) view) words
       (if nat_le view.last_end met then LoadsMoment else Visits Line 0)
 
   -- with the moment the line is answered

@@ -1,9 +1,9 @@
 -- The turns of an insert but for those that map a page, on plain data: words and a view.
 use Rattle.std.specs.Prelude.{ℕ, ◌+◌, ◌-◌, ◌/◌, ◌%◌, Bool, true, false, ◌&&◌, not, List, set, min, ◌==◌, nat_le, if◌then◌else◌}
 use Rattle.byte_position.specs.Position.{address_of, end_address_of}
-use Rattle.wal_core.specs.declared.setup.Setup.{Setup}
-use Rattle.wal_core.specs.Words.{end_word, lock_word, log_limit, position_word, prev_word, ends_number, lock_number}
-use Rattle.wal_core.specs.Steps.{ring_place}
+use Rattle.machine_state.specs.declared.setup.Setup.{Setup}
+use Rattle.machine_state.specs.Words.{end_word, lock_word, log_limit, position_word, prev_word, ends_number, lock_number}
+use Rattle.machine_state.specs.Steps.{ring_place}
 use Rattle.machine_turns.specs.declared.doing.PlainDoing.TheVariants.{Begins, Tries, Reserves, Looks, Copies, Maps, Releases, FlushBegins}
 use Rattle.machine_turns.specs.declared.doing.PlainNext.{PlainNext}
 use Rattle.machine_turns.specs.declared.doing.PlainNext.TheVariants.{GoesOn, Answers}
@@ -45,9 +45,9 @@ abbrev pub reserved : Setup → PlainView → (at prev room : ℕ) → PlainView
 reserved setup view at prev room = record view {
   place = Free;
   seen = at + room;
-  last_end = end_address_of setup.segment_size (at + room);
-  flight = Copying at prev (end_address_of setup.segment_size at)
-      (end_address_of setup.segment_size (at + room));
+  last_end = end_address_of setup.seg_size (at + room);
+  flight = Copying at prev (end_address_of setup.seg_size at)
+      (end_address_of setup.seg_size (at + room));
 }
 
 -- ---- copying
@@ -63,7 +63,7 @@ has_no_word_left (Copying start prev next end) = next == end
 
 module _ (setup : Setup) (words : List ℕ) (view : PlainView) where
   abbrev size : ℕ
-  size = setup.segment_size
+  size = setup.seg_size
 
   -- it loads down
   abbrev pub at_begins : Left

@@ -2,12 +2,12 @@
 use Rattle.std.specs.Prelude.{◌≡◌, ℕ, ◌+◌, ◌%◌, ◌^◌, ◌<◌, ◌≤◌, Bool, true, false, ◌&&◌, ◌||◌, not, List, slice_get, slice_index, Option, Some, None, is_some, option_map, ◌==◌, nat_le, if◌then◌else◌}
 use Rattle.std.specs.Borrow.{Bor}
 use Rattle.byte_position.specs.Position.{end_address_of}
-use Rattle.record_spelling.specs.Spelling.{Assembled}
+use Rattle.wal_spelling.specs.Spelling.{Assembled}
 use Rattle.wal_page.specs.Order.{assembled_room_at}
 use Rattle.wal_page.specs.Placed.{entry_word}
-use Rattle.wal_core.specs.declared.setup.Setup.{Setup}
+use Rattle.machine_state.specs.declared.setup.Setup.{Setup}
 use Rattle.machine_words.specs.Numbers.{WordsState}
-use Rattle.wal_core.specs.Words.{down_word, lock_word, mapping_turn, position_word, write_turn, mapping_turn_number, write_turn_number, written_number, lock_number}
+use Rattle.machine_state.specs.Words.{down_word, lock_word, mapping_turn, position_word, write_turn, mapping_turn_number, write_turn_number, written_number, lock_number}
 use Rattle.machine_turns.specs.declared.doing.PlainDoing.{PlainDoing}
 use Rattle.machine_turns.specs.declared.doing.PlainDoing.TheVariants as doings
 use Rattle.machine_turns.specs.declared.doing.Made.{Made}
@@ -111,7 +111,7 @@ is_commit Flush = false
 abbrev pub word_of_body : Setup → Assembled → PlainFlight → ℕ
 word_of_body setup body flights.Landed = 0
 word_of_body setup body (flights.Copying start prev next end) =
-    entry_word setup.segment_size setup.sysid body start prev next
+    entry_word setup.seg_size setup.sysid body start prev next
 
 abbrev pub word_to_copy : Setup → Option ScriptLine → PlainFlight → ℕ
 word_to_copy setup None flight = 0
@@ -298,10 +298,10 @@ pub record IsLow (words : List ℕ) (view : PlainView) : Type 0 where
 abbrev pub HasNextOf : Setup → Assembled → PlainFlight → Type 0
 HasNextOf setup body flights.Landed = ⊥
 HasNextOf setup body (flights.Copying start prev next end) =
-    (start % 8 ≡ 0) × (start + assembled_room_at setup.segment_size start body < 2 ^ 60)
-    × (next % 8 ≡ 0) × (end_address_of setup.segment_size start ≤ next)
-    × (next < end_address_of setup.segment_size
-    (start + assembled_room_at setup.segment_size start body))
+    (start % 8 ≡ 0) × (start + assembled_room_at setup.seg_size start body < 2 ^ 60)
+    × (next % 8 ≡ 0) × (end_address_of setup.seg_size start ≤ next)
+    × (next < end_address_of setup.seg_size
+    (start + assembled_room_at setup.seg_size start body))
 
 abbrev pub HasNextWord : Setup → Option ScriptLine → PlainFlight → Type 0
 HasNextWord setup None flight = ⊥
@@ -335,7 +335,7 @@ IsLockAwaited other = Unit {0}
 pub record MayPlay (setup : Setup) (words : List ℕ) (writer : WriterState)
     (lane : PlainBackend) : Type 0
   where
-    pub size_is : writer.size ≡ setup.segment_size
+    pub size_is : writer.size ≡ setup.seg_size
     pub low : IsLow words lane.view
     pub ready : IsReadyFor setup words writer lane.view (slice_get lane.script lane.copied)
         lane.doing

@@ -1,3 +1,7 @@
+pub mod Doing
+pub mod Turned
+pub mod Standing
+pub mod Begun
 pub mod Scripts
 pub mod Left
 pub mod Inserting

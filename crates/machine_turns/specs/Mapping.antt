@@ -1,7 +1,7 @@
 -- The turns that map a page, and those before pages are written for it, on plain data.
 use Rattle.std.specs.Prelude.{ℕ, ◌+◌, ◌-◌, ◌*◌, ◌/◌, ◌%◌, List, set, Option, Some, None, nat_lt, nat_le, if◌then◌else◌}
-use Rattle.wal_core.specs.declared.setup.Setup.{Setup}
-use Rattle.wal_core.specs.Words.{initialised_word, written_word, mapping_turn_number, initialised_number, ends_number, lock_number}
+use Rattle.machine_state.specs.declared.setup.Setup.{Setup}
+use Rattle.machine_state.specs.Words.{initialised_word, written_word, mapping_turn_number, initialised_number, ends_number, lock_number}
 use Rattle.machine_turns.specs.declared.doing.PlainDoing.{PlainDoing}
 use Rattle.machine_turns.specs.declared.doing.PlainDoing.TheVariants.{Looks, Maps, GivesTurn, Tells, Visits}
 use Rattle.machine_turns.specs.declared.doing.PlainPurpose.TheVariants.{Page}

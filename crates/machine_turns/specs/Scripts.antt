@@ -1,6 +1,6 @@
 -- The lines of a backend.
 use Rattle.std.specs.Prelude.{ℕ, ◌+◌, List, [], ◌∷◌, Option, Some, None, IfSome}
-use Rattle.record_spelling.specs.Spelling.{Assembled, RecordOf, assembled_room}
+use Rattle.wal_spelling.specs.Spelling.{Assembled, RecordOf, assembled_room}
 use Rattle.machine_turns.specs.declared.script.PlainLine.{PlainLine}
 use Rattle.machine_turns.specs.declared.script.PlainLine.TheVariants.{Insert, Commit, Flush}
 

@@ -9,9 +9,9 @@ use Rattle.segment_disk.specs.MemDisk.{disk_state_of, faults_of, has_segment, li
 use Rattle.segment_disk.specs.Tape.{DiskState, create_call, empty_state, sync_call, write_call}
 use Rattle.segment_disk.specs.declared.memory.disk.MemDisk.{MemDisk}
 use Rattle.machine_turns.specs.declared.writer.MachineWriter.{MachineWriter}
-use Rattle.wal_core.specs.Views.{Plain}
-use Rattle.wal_core.specs.Moves.{CallOutcome, after_create, after_sync, after_write}
-use Rattle.wal_turns.specs.Turned.{call_outcome}
+use Rattle.machine_state.specs.Views.{Plain}
+use Rattle.machine_state.specs.Moves.{CallOutcome, after_create, after_sync, after_write}
+use Rattle.machine_turns.specs.Turned.{call_outcome}
 
 -- a writer: the segments' size, what its disk held at first, what the machine knows of it, the
 -- counted calls that fail, the address that the log will not pass, how many calls more its disk has
@@ -149,7 +149,7 @@ abbrev pub calls_for : (segments addresses flushes : ℕ) → ℕ
 calls_for segments addresses flushes = 2 * segments + addresses + flushes
 
 -- a writer that has written nothing, on a disk that holds nothing. A log is written up to the ends
--- of pages and of its lines' records (`IsMark` of machine_core): there is room for that, and for so
+-- of pages and of its lines' records (`IsMark` of wal_core): there is room for that, and for so
 -- many flushes
 pub record IsFreshWriter (size end lines flushes : ℕ) (failing : List ℕ) (w : WriterState) : Type 0
   where

@@ -3,9 +3,9 @@ use Rattle.std.specs.Prelude.{ℕ, ◌+◌, ◌*◌, ◌%◌, Bool, true, false,
 use mathlib.Core.Option.{Option, none, some}
 use Rattle.byte_position.specs.Geometry.{pages_of}
 use Rattle.byte_position.specs.Position.{position_of}
-use Rattle.wal_core.specs.declared.setup.Setup.{Setup}
-use Rattle.wal_core.specs.Words.{word_of_ring, written_number, flushed_number, moment_number, down_number}
-use Rattle.wal_core.specs.Steps.{ring_place}
+use Rattle.machine_state.specs.declared.setup.Setup.{Setup}
+use Rattle.machine_state.specs.Words.{word_of_ring, written_number, flushed_number, moment_number, down_number}
+use Rattle.machine_state.specs.Steps.{ring_place}
 use Rattle.machine_turns.specs.declared.doing.PlainDoing.{PlainDoing}
 use Rattle.machine_turns.specs.declared.doing.PlainDoing.TheVariants.{LoadsPage, Creates, Writes, SyncsFull, SyncsLast, StoresWritten, StoresMoment, StoresFlushed, SetsDown, PutsBack}
 use Rattle.machine_turns.specs.declared.doing.PlainPurpose.{PlainPurpose}
@@ -94,9 +94,9 @@ module _ (setup : Setup) (words : List ℕ) (view : PlainView) (writer : WriterS
 
   abbrev pub at_writes : PlainPurpose → Left
   at_writes purpose = left_going_on
-      (Write (segment_at writer) (page_at writer % pages_of setup.segment_size) upto_next
+      (Write (segment_at writer) (page_at writer % pages_of setup.seg_size) upto_next
       (succeeds writer)) view words
-      (behind_call purpose (if upto_next % setup.segment_size == 0 then SyncsFull purpose
+      (behind_call purpose (if upto_next % setup.seg_size == 0 then SyncsFull purpose
       else page_or_end purpose (known_in view.hold) (page_written writer upto_next)))
 
   abbrev waiting : ℕ
@@ -130,7 +130,7 @@ module _ (setup : Setup) (words : List ℕ) (view : PlainView) (writer : WriterS
 
   abbrev pub at_stores_flushed : Left
   at_stores_flushed = left_going_on StoreFlushed
-      (seen_too (position_of setup.segment_size written) view)
+      (seen_too (position_of setup.seg_size written) view)
       (set words flushed_number written) (PutsBack Line false)
 
   abbrev pub at_sets_down : PlainPurpose → Left

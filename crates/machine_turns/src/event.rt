@@ -1,5 +1,6 @@
 //! What a turn tells: the one step that it made, with its operands, or why it made none. The words
-//! that a step is about, and what it stores, follow from the step and the view before (wal_core).
+//! that a step is about, and what it stores, follow from the step and the view before
+//! (machine_state).
 
 /// A step of a backend: one load, store or exchange of one shared word, or one call of the device.
 #[derive(Clone, Copy, Debug, PartialEq, Eq)]

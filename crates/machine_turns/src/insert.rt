@@ -9,8 +9,8 @@
 
 ghost use Rattle.std.specs.Prelude.{◌≡◌, ◌+◌, ◌*◌, ◌%◌, ◌<◌, ◌≤◌, ◌^◌, ◌==◌, false, if◌then◌else◌};
 ghost use Rattle.wal_page.specs.Placed.{placed_end, placed_word};
-ghost use Rattle.wal_core.specs.Words.{position_word};
-ghost use Rattle.wal_core.specs.Steps.{ring_place};
+ghost use Rattle.machine_state.specs.Words.{position_word};
+ghost use Rattle.machine_state.specs.Steps.{ring_place};
 ghost use Rattle.machine_turns.specs.Left.{Leaves, next_in, page_end_in};
 ghost use Rattle.machine_turns.specs.Inserting.{at_begins, at_copies, at_looks, at_releases, at_reserves, at_tries, has_no_word_left, reserved, watch_visited, watched, with_one_more};
 ghost use Rattle.machine_turns.specs.Lanes.{HasNextOf, HasNextWord, IsLowPlace, line_behind, word_of_body, word_to_copy};
@@ -22,8 +22,8 @@ use crate::view::{PlainFlight, PlainPlace, PlainView, PlainWatching};
 use byte_position::{PAGE_SIZE, PAGE_WORDS, WORD};
 use machine_words::layout::LOCKS;
 use machine_words::{LogShape, MachineWords, Word};
-use record_spelling::Body;
 use wal_page::Placed;
+use wal_spelling::Body;
 use wal_types::Lsn;
 
 impl PlainFlight {

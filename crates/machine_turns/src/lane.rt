@@ -5,7 +5,7 @@
 //! looks at that word or would wait: what the backend holds then stays with it.
 
 ghost use Rattle.std.specs.Prelude.{◌≡◌, ◌+◌, ◌%◌, ◌<◌, ◌^◌, ◌&&◌, ◌||◌, ◌==◌, not, length, slice_get, is_some, option_map, Some, IfSome};
-ghost use Rattle.wal_core.specs.Words.{lock_word, mapping_turn, position_word, mapping_turn_number, lock_number};
+ghost use Rattle.machine_state.specs.Words.{lock_word, mapping_turn, position_word, mapping_turn_number, lock_number};
 ghost use Rattle.machine_words.specs.Numbers.{IsWord, number_of_word};
 ghost use Rattle.machine_turns.specs.Writer.{KeepsDisk, state_of};
 ghost use Rattle.machine_turns.specs.Lanes.{IsLockAwaited, IsOfFlush, LeavesLane, MayPlay, asked_by, finds_full, holds_back, is_away, is_free, lane_answered, lane_behind, loads_down, played, stepped, waits_if, word_awaited};
@@ -87,7 +87,8 @@ impl PlainBackend {
         words: &mut MachineWords,
         writer: &mut MachineWriter,
     ) -> Made
-        // As for a turn, with a line left.
+        // The words are the log's, the disk has just the segments that were made, a line is left,
+        // and its place is ready.
         requires pages { words.old.pages ≡ shape.now.ring_pages }
         requires line { self.old.answered < length self.old.script }
         requires kept { KeepsDisk writer.old }
@@ -124,14 +125,14 @@ impl PlainBackend {
         }
     }
 
-    // And a flush's, the writer's among them.
+    // Makes the step of a flush that the order names, the writer's among them.
     fn step_of_flush(
         &mut self,
         shape: &LogShape,
         words: &mut MachineWords,
         writer: &mut MachineWriter,
     ) -> Made
-        // The same at a place of a flush, or of the writing for an insert.
+        // What `step` asks, at a place of a flush, or of the writing for an insert.
         requires pages { words.old.pages ≡ shape.now.ring_pages }
         requires place { IsOfFlush self.old.doing }
         requires kept { KeepsDisk writer.old }

@@ -1,8 +1,10 @@
-//! A backend's turns on plain data: what each place of the order of steps makes of the words, the
-//! writer and the backend's own view, without a copy of any of them. Turns of all backends come one
-//! after another, so each has the words and the writer for itself (`&mut`) and leaves them to the
-//! next one; what a backend holds beyond its turn (a lock, a turn, the position, the writer) is
-//! said by the words and by its view, as among threads.
+//! The machine turn by turn: which step each backend makes next (`specs/Turned.antt`, and laws),
+//! and its turns on plain data: what each place of the order of steps makes of the words, the
+//! writer and the backend's own view, without a copy of any of them.
+//!
+//! Turns of all backends come one after another, so each has the words and the writer for itself
+//! (`&mut`) and leaves them to the next one; what a backend holds beyond its turn (a lock, a turn,
+//! the position, the writer) is said by the words and by its view, as among threads.
 #![tactic(auto)]
 
 mod doing;
@@ -10,6 +12,7 @@ mod event;
 mod flush;
 mod insert;
 mod lane;
+pub mod laws;
 mod mapping;
 mod script;
 mod view;

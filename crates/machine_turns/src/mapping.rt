@@ -6,7 +6,7 @@
 //! anything is changed. In the latter case it tells its progress under its lock, which would hold
 //! its own watch back else, and writes pages first.
 
-ghost use Rattle.wal_core.specs.Words.{written_number};
+ghost use Rattle.machine_state.specs.Words.{written_number};
 ghost use Rattle.std.specs.Prelude.{◌≡◌, ◌+◌, ◌*◌, ◌/◌, ◌%◌, ◌<◌, ◌≤◌, ◌^◌, slice_index};
 ghost use Rattle.machine_turns.specs.Left.{Leaves, next_in};
 ghost use Rattle.machine_turns.specs.Mapping.{at_gives_turn, at_maps, at_tells, behind_turn, behind_written};

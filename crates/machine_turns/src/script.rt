@@ -5,8 +5,8 @@ ghost use Rattle.std.specs.Prelude.{◌≡◌, ◌≤◌};
 ghost use Rattle.machine_turns.specs.Lanes.{is_commit};
 ghost use Rattle.machine_turns.specs.Scripts.{InsertsLogRecord, body_of, room_of_line};
 
-use record_spelling::{Body, KeptBody};
 use std::marker::Model;
+use wal_spelling::{Body, KeptBody};
 
 /// What a line asks for, with its record assembled.
 #[derive(Debug, Drop)]

@@ -1,7 +1,7 @@
 //! What a backend knows and is about, as plain numbers: what the machine's view has of it (`View`
-//! of wal_core), as far as the next steps rest on it. It changes in the backend's own turns alone.
-//! Which insertion lock a backend holds stands in its place (`PlainDoing`), and the writer is one
-//! for all.
+//! of machine_state), as far as the next steps rest on it. It changes in the backend's own turns
+//! alone. Which insertion lock a backend holds stands in its place (`PlainDoing`); the writer is
+//! one for all.
 
 /// How far a backend is with a reservation. `at` is the byte position that it locked, `prev` the
 /// address at which the record before starts.

@@ -12,11 +12,11 @@ ghost use Rattle.segment_disk.specs.MemDisk.{first_image, tape_of};
 ghost use Rattle.segment_disk.specs.DiskImage.{LeftAt};
 ghost use Rattle.segment_disk.specs.Picks.{IsPicked, choice_of};
 ghost use Rattle.segment_disk.specs.Tape.{state_at};
-ghost use Rattle.wal_core.specs.Suited.{tape_from};
+ghost use Rattle.machine_state.specs.Suited.{tape_from};
 ghost use Rattle.machine_turns.specs.Writer.{IsCreateDue, IsFreshWriter, KeepsDisk, IsSyncDue, IsWriteDue, calls_for, created, maybe, page_at, page_written, segment_at, state_of, succeeds, synced, with_word};
 ghost use Rattle.machine_turns.specs.Writing.{segment_waiting};
 
-use byte_position::{Geometry, PAGE_SIZE};
+use byte_position::{Geometry, PAGE_SIZE, Page};
 use machine_words::LogShape;
 use segment_disk::{Disk, MemDisk, Memory, Pick};
 use std::alloc::Global;
@@ -39,7 +39,7 @@ pub struct MachineWriter {
     made: u64,
     waiting: Option<u64>,
     fault: Option<u64>,
-    page: [u8; 8192],
+    page: Page,
 }
 
 impl MachineWriter {
@@ -53,12 +53,12 @@ impl MachineWriter {
         flushes: u64,
         fail: Vec<u64>,
     ) -> Result<MachineWriter, Memory>
-        requires begun { shape.now.segment_size ≤ end }
+        requires begun { shape.now.seg_size ≤ end }
         requires low { end < 2 ^ 45 }
         requires few_lines { lines ≤ 2 ^ 32 }
         requires few_flushes { flushes ≤ 2 ^ 32 }
         ensures first { IfOk result (λ w.
-            IsFreshWriter shape.now.segment_size end lines flushes fail.items (state_of w)) }
+            IsFreshWriter shape.now.seg_size end lines flushes fail.items (state_of w)) }
         ensures few { IfOk result (λ w. (lines < 2 ^ 32) × (flushes < 2 ^ 32)) }
         ensures kept { IfOk result (λ w. KeepsDisk w) }
     {
@@ -104,7 +104,7 @@ impl MachineWriter {
         self.waiting
     }
 
-    /// The same, 0 where no writes wait.
+    /// The segment of which writes wait for a sync, 0 where no writes wait.
     pub fn segment_waiting(&self) -> u64
         ensures { result ≡ segment_waiting (state_of self.now).plain.waiting }
     {

@@ -121,7 +121,7 @@ impl PlainView {
         purpose: PlainPurpose,
     ) -> Made
         // The written address is to rise, in a segment that is made, and no call has failed.
-        requires size { (state_of writer.old).size ≡ shape.now.segment_size }
+        requires size { (state_of writer.old).size ≡ shape.now.seg_size }
         requires due { IsWriteDue (state_of writer.old)
             (upto_next shape.now words.now.words self.now (state_of writer.old)) }
         requires kept { KeepsDisk writer.old }

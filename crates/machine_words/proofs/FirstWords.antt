@@ -9,12 +9,12 @@ use Rattle.byte_position.proofs.Words.{end_address_of-mod_word}
 use Rattle.wal_page.specs.Order.{Entry}
 use Rattle.wal_page.specs.LogPlace.{IsPlace, LogPlace, end_from, new_place}
 use Rattle.wal_page.proofs.PlaceLaws.{word_from-behind}
-use Rattle.wal_core.specs.declared.setup.Setup.{Setup}
-use Rattle.wal_core.specs.Words.{Opening, found_end, found_position, word_of_ring}
-use Rattle.wal_core.specs.Opened.{AreFirstWords}
-use Rattle.wal_core.specs.Ringed.{log_word_of}
-use Rattle.wal_core.specs.Sound.{IsSetup}
-use Rattle.wal_core.proofs.NothingFound.{nothing_ends, nothing_stands}
+use Rattle.machine_state.specs.declared.setup.Setup.{Setup}
+use Rattle.machine_state.specs.Words.{Opening, found_end, found_position, word_of_ring}
+use Rattle.machine_state.specs.Opened.{AreFirstWords}
+use Rattle.machine_state.specs.Ringed.{log_word_of}
+use Rattle.machine_state.specs.Sound.{IsSetup}
+use Rattle.machine_state.proofs.NothingFound.{nothing_ends, nothing_stands}
 use Rattle.machine_words.specs.declared.first.LogEnd.{LogEnd}
 use Rattle.machine_words.specs.FirstWords.{first_end, GoOnBehind, IsEndOf, IsLastPage, words_below}
 
@@ -30,7 +30,7 @@ apart n p q less near same = apart_by n (p / n) (q / n) (p % n) p q (div-add-mod
     (ap (λ (r : ℕ). q / n * n + r) (sym same) ∙ div-add-mod' q n) less near
 
 module _ (opening : Opening) (valid : IsSetup opening.setup)
-    (placed : IsPlace (opening.setup).segment_size opening.place) (page words : List ℕ) where
+    (placed : IsPlace (opening.setup).seg_size opening.place) (page words : List ℕ) where
   abbrev setup : Setup
   setup = opening.setup
 
@@ -48,15 +48,15 @@ module _ (opening : Opening) (valid : IsSetup opening.setup)
 
   -- the log ends at a word, and has none behind
   aligned : upto % 8 ≡ 0
-  aligned = end_address_of-mod_word setup.segment_size valid.size (found_position opening)
+  aligned = end_address_of-mod_word setup.seg_size valid.size (found_position opening)
       placed.whole
 
-  none_ends : end_from setup.segment_size opening.place [] ≡ found_position opening
+  none_ends : end_from setup.seg_size opening.place [] ≡ found_position opening
   none_ends = omega arith
 
   none_behind : (k : ℕ) → upto ≤ 8 * k → log_words k ≡ 0
-  none_behind k behind = word_from-behind setup.segment_size setup.sysid valid.size opening.place [] tt
-      (8 * k) (omega (arith, ap (λ (n : ℕ). end_address_of setup.segment_size n) none_ends, behind))
+  none_behind k behind = word_from-behind setup.seg_size setup.sysid valid.size opening.place [] tt
+      (8 * k) (omega (arith, ap (λ (n : ℕ). end_address_of setup.seg_size n) none_ends, behind))
 
   abbrev end_of : LogEnd
   end_of = record {
@@ -134,8 +134,8 @@ module _ (opening : Opening) (valid : IsSetup opening.setup)
 
 -- a log that holds nothing ends where segment 1 begins: of its page no word is below
 pub nothing_ends_first : (opening : Opening) → IsSetup opening.setup
-    → opening.place ≡ new_place (opening.setup).segment_size
-    → IsEndOf opening (first_end (opening.setup).segment_size)
+    → opening.place ≡ new_place (opening.setup).seg_size
+    → IsEndOf opening (first_end (opening.setup).seg_size)
 nothing_ends_first opening valid fresh = record {
   position_is = sym (nothing_stands opening valid.size fresh);
   address_is = sym (nothing_ends opening valid.size fresh);
@@ -143,8 +143,8 @@ nothing_ends_first opening valid fresh = record {
 }
 
 pub no_word_below : (opening : Opening) → IsSetup opening.setup
-    → opening.place ≡ new_place (opening.setup).segment_size
+    → opening.place ≡ new_place (opening.setup).seg_size
     → (page : List ℕ) → IsLastPage opening page
 no_word_below opening valid fresh page = λ j below.
-    let whole = (segment_size_in_pages (opening.setup).segment_size valid.size).0 in
+    let whole = (segment_size_in_pages (opening.setup).seg_size valid.size).0 in
     absurd (omega (arith, below, whole, nothing_ends opening valid.size fresh))

@@ -1,10 +1,10 @@
 -- The words with which a log is opened, one that holds nothing or one that is gone on with.
 use Rattle.std.specs.Prelude.{◌≡◌, ℕ, ◌+◌, ◌*◌, ◌/◌, ◌%◌, ◌<◌, ◌≤◌, List, [], length, slice_index}
 use Rattle.byte_position.specs.Position.{first_position}
-use Rattle.record_spelling.specs.Spelling.{word_at}
-use Rattle.wal_core.specs.Words.{Opening, position_word, prev_word, initialised_word, written_word, flushed_word, moment_word, down_word, end_word, found_position, found_end, initialised_number, ends_number}
-use Rattle.wal_core.specs.Paged.{HoldsPage}
-use Rattle.wal_core.specs.Ringed.{log_word_of}
+use Rattle.wal_spelling.specs.Spelling.{word_at}
+use Rattle.machine_state.specs.Words.{Opening, position_word, prev_word, initialised_word, written_word, flushed_word, moment_word, down_word, end_word, found_position, found_end, initialised_number, ends_number}
+use Rattle.machine_state.specs.Paged.{HoldsPage}
+use Rattle.machine_state.specs.Ringed.{log_word_of}
 use Rattle.machine_words.specs.declared.first.LogEnd.{LogEnd}
 
 -- how many whole words of its page lie below an address, and where the page's words stand in a ring

@@ -1,6 +1,6 @@
 -- The numbers of the words that all share.
-use Rattle.wal_core.specs.Words.{mapping_turn_number, write_turn_number, initialised_number, written_number, flushed_number, moment_number, down_number, ends_number, lock_number}
-use Rattle.std.specs.Prelude.{ℕ, ◌+◌, ◌*◌, ◌<◌, List, slice_index}
+use Rattle.machine_state.specs.Words.{mapping_turn_number, write_turn_number, initialised_number, written_number, flushed_number, moment_number, down_number, ends_number, lock_number, position_word, prev_word, lock_word, mapping_turn, write_turn, initialised_word, written_word, flushed_word, moment_word, down_word, end_word}
+use Rattle.std.specs.Prelude.{◌≡◌, ℕ, ◌+◌, ◌*◌, ◌<◌, List, slice_index}
 use Rattle.machine_words.specs.declared.word.Word.{Word}
 use Rattle.machine_words.specs.declared.word.Word.TheVariants.{Position, LastStart, Lock, MappingTurn, WriteTurn, InitialisedEnd, Written, Flushed, Moment, Down, BufferEnd, Ring, Async}
 
@@ -28,6 +28,21 @@ number_of_word pages Async = ends_number + pages + pages * 1024
 -- the word of a name
 abbrev pub word_named : ℕ → List ℕ → Word → ℕ
 word_named pages words word = slice_index words (number_of_word pages word)
+
+-- with so many pages in the ring, the words of the names that stand before the ring are those that
+-- the machine means by them
+pub record AreMachineWords (pages : ℕ) (words : List ℕ) : Type 0 where
+  pub position : word_named pages words Position ≡ position_word words
+  pub last_start : word_named pages words LastStart ≡ prev_word words
+  pub lock : (lock : ℕ) → word_named pages words (Lock lock) ≡ lock_word words lock
+  pub mapping : word_named pages words MappingTurn ≡ mapping_turn words
+  pub write : word_named pages words WriteTurn ≡ write_turn words
+  pub initialised : word_named pages words InitialisedEnd ≡ initialised_word words
+  pub written : word_named pages words Written ≡ written_word words
+  pub flushed : word_named pages words Flushed ≡ flushed_word words
+  pub moment : word_named pages words Moment ≡ moment_word words
+  pub down : word_named pages words Down ≡ down_word words
+  pub end : (buffer : ℕ) → word_named pages words (BufferEnd buffer) ≡ end_word words buffer
 
 -- there is this word: a lock is one of eight, a buffer one of the ring's, and so is a word of it
 abbrev pub IsWord : ℕ → Word → Type 0

@@ -3,15 +3,16 @@
 ghost use Rattle.std.specs.Prelude.{◌≡◌, ℕ, ◌+◌, ◌*◌, ◌/◌, ◌%◌, ◌<◌, ◌≤◌, ◌^◌, length, slice_index};
 ghost use Rattle.byte_position.specs.Geometry.{IsSegmentSize};
 ghost use Rattle.byte_position.specs.Position.{first_position};
-ghost use Rattle.record_spelling.specs.Spelling.{word_at};
-ghost use Rattle.wal_core.specs.Words.{ends_number};
-ghost use Rattle.wal_core.specs.Paged.{HoldsPage};
+ghost use Rattle.wal_spelling.specs.Spelling.{word_at};
+ghost use Rattle.machine_state.specs.Words.{ends_number};
+ghost use Rattle.machine_state.specs.Paged.{HoldsPage};
 ghost use Rattle.machine_words.specs.FirstWords.{GoOnBehind, first_end};
 
 use crate::layout::{
     BUFFER_ENDS, FLUSHED, INITIALISED_END, LAST_START, MOMENT, POSITION, WRITTEN, async_number,
 };
-use byte_position::{LONG_HEADER_LEN, PAGE_SIZE, PAGE_WORDS, SHORT_HEADER_LEN};
+use byte_position::{LONG_HEADER_LEN, PAGE_SIZE, PAGE_WORDS, Page, SHORT_HEADER_LEN};
+use wal_spelling::numbers::u64_at;
 
 /// Where a log ends behind which records go on.
 #[derive(Clone, Copy, Debug)]
@@ -45,7 +46,7 @@ pub(crate) fn set_first_words(
     ring_pages: u32,
     moment: u64,
     end: LogEnd,
-    page: &[u8; PAGE_SIZE as usize],
+    page: &Page,
 )
     requires some { 1 ≤ ring_pages }
     requires few { ring_pages ≤ 64 }
@@ -113,7 +114,7 @@ fn first_page(first: u64, pages: u64, buffer: u64) -> u64
 }
 
 // Copies the first words of a page, to a place on.
-fn copy_words(words: &mut [u64], to: usize, page: &[u8; PAGE_SIZE as usize], count: usize)
+fn copy_words(words: &mut [u64], to: usize, page: &Page, count: usize)
     requires few { count ≤ 1024 }
     requires wide { to + count ≤ length words.old }
     ensures length { length words.new ≡ length words.old }
@@ -128,19 +129,9 @@ fn copy_words(words: &mut [u64], to: usize, page: &[u8; PAGE_SIZE as usize], cou
 }
 
 // A word of a page.
-fn page_word(page: &[u8; PAGE_SIZE as usize], place: usize) -> u64
+fn page_word(page: &Page, place: usize) -> u64
     requires { place < 1024 }
     ensures { result ≡ word_at page.now place }
 {
-    let at = 8 * place;
-    u64::from_le_bytes([
-        page[at],
-        page[at + 1],
-        page[at + 2],
-        page[at + 3],
-        page[at + 4],
-        page[at + 5],
-        page[at + 6],
-        page[at + 7],
-    ])
+    u64_at(page, 8 * place)
 }

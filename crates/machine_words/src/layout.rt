@@ -6,7 +6,7 @@
 //! and nobody touches them.
 
 ghost use Rattle.std.specs.Prelude.{◌≡◌, ◌+◌, ◌*◌, ◌≤◌};
-ghost use Rattle.wal_core.specs.Words.{ends_number, lock_number};
+ghost use Rattle.machine_state.specs.Words.{ends_number, lock_number};
 
 use byte_position::PAGE_WORDS;
 

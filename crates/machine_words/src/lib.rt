@@ -1,5 +1,5 @@
-//! The words that all backends of a log share, as plain numbers in one list: what a machine keeps
-//! of them that plays the backends turn by turn.
+//! The words that all backends of a log share, as plain numbers in one list: their numbers,
+//! which a replay and the log that threads share both take from here.
 #![tactic(auto)]
 
 mod first;

@@ -1,13 +1,13 @@
 ghost use Rattle.std.specs.Prelude.{◌≡◌, ◌*◌, ◌+◌, ◌≤◌, ◌<◌, ◌^◌, SomeIff};
 ghost use Rattle.byte_position.specs.Geometry.{IsSegmentSize};
 ghost use Rattle.byte_position.specs.Position.{first_position, usable_bytes_in_segment};
-ghost use Rattle.wal_core.specs.Sound.{IsSetup};
-ghost use Rattle.wal_core.specs.Words.{log_limit, log_start};
+ghost use Rattle.machine_state.specs.Sound.{IsSetup};
+ghost use Rattle.machine_state.specs.Words.{log_limit, log_start};
 
 use crate::setup::is_setup;
 use byte_position::{Geometry, LONG_HEADER_LEN, PAGE_SIZE, SHORT_HEADER_LEN};
+use machine_state::Setup;
 use std::marker::Model;
-use wal_core::Setup;
 
 /// A log's setup, with what each turn needs of it; contracts see the setup.
 #[derive(Drop)]
@@ -20,15 +20,15 @@ pub struct LogShape {
 
 impl Model for LogShape {
     ghost use Rattle.std.specs.Prelude.{◌≡◌};
-    ghost use Rattle.wal_core.specs.Sound.{IsSetup};
-    ghost use Rattle.wal_core.specs.Words.{log_limit};
-    ghost use Rattle.wal_core.specs.declared.setup.Setup.{Setup};
+    ghost use Rattle.machine_state.specs.Sound.{IsSetup};
+    ghost use Rattle.machine_state.specs.Words.{log_limit};
+    ghost use Rattle.machine_state.specs.declared.setup.Setup.{Setup};
 
     ghost Value = { Setup };
 
     ghost view = { λ s. s.setup };
 
-    ghost invariant = { λ s. IsSetup s.setup × (s.geometry ≡ (s.setup).segment_size)
+    ghost invariant = { λ s. IsSetup s.setup × (s.geometry ≡ (s.setup).seg_size)
         × (s.limit ≡ log_limit s.setup) };
 }
 
@@ -40,8 +40,8 @@ impl LogShape {
         if !is_setup(setup) {
             return None;
         }
-        let geometry = Geometry::new(setup.segment_size)?;
-        let usable = usable_bytes(setup.segment_size);
+        let geometry = Geometry::new(setup.seg_size)?;
+        let usable = usable_bytes(setup.seg_size);
         Some(LogShape {
             setup,
             geometry,
@@ -50,7 +50,7 @@ impl LogShape {
     }
 
     pub fn geometry(&self) -> Geometry
-        ensures { result ≡ self.now.segment_size }
+        ensures { result ≡ self.now.seg_size }
     {
         self.geometry
     }

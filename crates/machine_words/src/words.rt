@@ -1,8 +1,8 @@
 ghost use Rattle.std.specs.Prelude.{◌≡◌, ◌+◌, ◌<◌, ◌≤◌, ◌^◌, [], length, set, IfOk};
 ghost use Rattle.wal_page.specs.LogPlace.{IsPlace, new_place};
-ghost use Rattle.wal_core.specs.Words.{Opening};
-ghost use Rattle.wal_core.specs.Sound.{IsSetup};
-ghost use Rattle.wal_core.specs.Opened.{AreFirstWords};
+ghost use Rattle.machine_state.specs.Words.{Opening};
+ghost use Rattle.machine_state.specs.Sound.{IsSetup};
+ghost use Rattle.machine_state.specs.Opened.{AreFirstWords};
 ghost use Rattle.machine_words.specs.FirstWords.{GoOnBehind, IsEndOf, IsLastPage};
 ghost use Rattle.machine_words.specs.Numbers.{IsWord, number_of_word, word_named};
 
@@ -12,10 +12,10 @@ use crate::layout::{
     WRITE_TURN, WRITTEN, async_number, number_of_lock,
 };
 use crate::word::Word;
-use byte_position::PAGE_SIZE;
+use byte_position::{PAGE_SIZE, Page};
+use machine_state::Setup;
 use std::alloc::{AllocError, Global};
 use std::marker::Model;
-use wal_core::Setup;
 
 /// The words that all backends share, as plain numbers; contracts see the list of them, and how
 /// many pages the ring has.
@@ -27,7 +27,7 @@ pub struct MachineWords {
 
 impl Model for MachineWords {
     ghost use Rattle.std.specs.Prelude.{◌≡◌, ◌+◌, ◌*◌, ◌≤◌, length};
-    ghost use Rattle.wal_core.specs.Words.{ends_number};
+    ghost use Rattle.machine_state.specs.Words.{ends_number};
     ghost use Rattle.machine_words.specs.Numbers.{WordsState};
 
     ghost Value = { WordsState };
@@ -45,10 +45,10 @@ impl MachineWords {
         requires { IsSetup setup }
         ensures pages { IfOk result (λ words. words.pages ≡ setup.ring_pages) }
         ensures first { (opening : Opening) → opening.setup ≡ setup → opening.moment ≡ moment
-            → opening.place ≡ new_place setup.segment_size
+            → opening.place ≡ new_place setup.seg_size
             → IfOk result (λ words. AreFirstWords opening words.words) }
     {
-        let end = LogEnd::first(setup.segment_size);
+        let end = LogEnd::first(setup.seg_size);
         let no_words = [0; PAGE_SIZE as usize];
         MachineWords::resume(alloc, setup, moment, end, &no_words)
     }
@@ -61,14 +61,14 @@ impl MachineWords {
         setup: Setup,
         moment: u64,
         end: LogEnd,
-        page: &[u8; PAGE_SIZE as usize],
+        page: &Page,
     ) -> Result<MachineWords, AllocError>
         requires setup { IsSetup setup }
         requires low { end.address < 2 ^ 44 }
         ensures pages { IfOk result (λ words. words.pages ≡ setup.ring_pages) }
         // For each log that was found so they are the words to begin with.
         ensures first { (opening : Opening) → opening.setup ≡ setup → opening.moment ≡ moment
-            → IsPlace setup.segment_size opening.place → IsEndOf opening end
+            → IsPlace setup.seg_size opening.place → IsEndOf opening end
             → IsLastPage opening page.now
             → IfOk result (λ words. AreFirstWords opening words.words) }
     {
@@ -136,7 +136,7 @@ fn first_words(
     ring_pages: u32,
     moment: u64,
     end: LogEnd,
-    page: &[u8; PAGE_SIZE as usize],
+    page: &Page,
 ) -> Result<Vec<u64>, AllocError>
     requires some { 1 ≤ ring_pages }
     requires few { ring_pages ≤ 64 }

@@ -2,8 +2,8 @@
 #![tactic(auto)]
 
 use backend_cli::{OpenGate, pgwal};
-use command_line::{Request, asked};
-use command_words::Command;
+use cli_line::{Request, asked};
+use cli_words::Command;
 use segment_disk::Memory;
 use segment_files::{Access, FileDisk, StandardSink, StandardSource};
 use std::alloc::AllocError;

@@ -2,13 +2,13 @@
 use Rattle.std.specs.Prelude.{Contains}
 use Rattle.std.proofs.Common.{◌≡◌, ℕ, ◌<◌, true, false, List, Result, Ok, Err, [], None, refl, sym, ap, ◌∙◌, subst, arith}
 use Rattle.wal_types.specs.declared.record.Record.{Record}
-use Rattle.record_spelling.specs.Record.{switch_record}
-use Rattle.record_spelling.specs.Spelling.{Assembled, IsLogRecord, IsWritable, RecordOf, assembled, assembled_size, is_assembled_switch, spelled, switched}
-use Rattle.record_spelling.proofs.SwitchLaws.{ends_its_segment, logged_no_switch, logged_switch, size-switch}
-use Rattle.record_decode.specs.declared.fault.RecErr.{RecErr}
-use Rattle.record_decode.specs.Reading.{reading_of}
+use Rattle.wal_spelling.specs.Record.{switch_record}
+use Rattle.wal_spelling.specs.Spelling.{Assembled, IsLogRecord, IsWritable, RecordOf, assembled, assembled_size, is_assembled_switch, spelled, switched}
+use Rattle.wal_spelling.proofs.SwitchLaws.{ends_its_segment, logged_no_switch, logged_switch, size-switch}
+use Rattle.wal_record.specs.declared.fault.RecErr.{RecErr}
+use Rattle.wal_record.specs.Reading.{reading_of}
 use Rattle.wal_record.proofs.SpellingReads.{spelling_reads}
-use Rattle.wal_core.specs.Steps.{MayStandUnder}
+use Rattle.machine_state.specs.Steps.{MayStandUnder}
 
 abbrev no_record : Record
 no_record = record {

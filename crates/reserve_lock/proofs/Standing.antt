@@ -5,15 +5,15 @@ use Rattle.std.specs.Coded.{Coded-set, coded_ℕ, le_prop}
 use Rattle.atomic_table.proofs.Lists.{at_map}
 use Rattle.wal_page.specs.Order.{Entry}
 use Rattle.wal_page.proofs.PlaceLaws.{end-whole_from}
-use Rattle.wal_core.specs.Words.{log_limit, prev_word, order_end, last_start}
-use Rattle.wal_core.specs.Views.{HasAt, Locked, Place, reserving_of, View}
-use Rattle.wal_core.specs.Ordered.{AtPlace}
+use Rattle.machine_state.specs.Words.{log_limit, prev_word, order_end, last_start}
+use Rattle.machine_state.specs.Views.{HasAt, Locked, Place, reserving_of, View}
+use Rattle.machine_state.specs.Ordered.{AtPlace}
 use Rattle.wal_rule.specs.Stepping.{Stands}
 
 module _ (v : View) (at : ℕ) (live : (v.reserving).live ≡ true)
     (place : (v.reserving).place ≡ Locked at) where
   abbrev size : ℕ
-  size = ((v.opening).setup).segment_size
+  size = ((v.opening).setup).seg_size
 
   module _ (stands : Stands v) where
     abbrev order : List Entry

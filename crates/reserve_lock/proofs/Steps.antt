@@ -5,9 +5,9 @@ use Rattle.std.proofs.Common.{◌≡◌, ℕ, Bool, false, List, sym, ap, subst,
 use Rattle.std.proofs.lemmas.Bool.{eq-eqb}
 use mathlib.Core.Option.{none}
 use Rattle.wal_types.specs.declared.record.Record.{Record}
-use Rattle.wal_core.specs.Views.{Loaded, Locked, Place, Stored, Hold, View}
-use Rattle.wal_core.specs.Moves.{entry_reserved, unlocked, with_place, with_hold}
-use Rattle.wal_core.specs.Steps.{load_position, load_prev, lock_position, store_position, store_prev, view_behind}
+use Rattle.machine_state.specs.Views.{Loaded, Locked, Place, Stored, Hold, View}
+use Rattle.machine_state.specs.Moves.{entry_reserved, unlocked, with_place, with_hold}
+use Rattle.machine_state.specs.Steps.{load_position, load_prev, lock_position, store_position, store_prev, view_behind}
 use Rattle.wal_rule.specs.declared.table.LogTable.{LogTable}
 use Rattle.wal_rule.specs.declared.seated.SeatedPass.{SeatedPass}
 use Rattle.wal_rule.specs.Tables.{setup_of_table}
@@ -65,6 +65,6 @@ module _ (at prev : ℕ) (locks : List ℕ) (v : View) where
 
   pub behind_store_position : (value : Record)
       → view_behind (place_view (Stored at prev) v) (store_position locks value) 0 none
-      ≡ reserved_view ((v.opening).setup).segment_size
+      ≡ reserved_view ((v.opening).setup).seg_size
       (entry_reserved (v.reserving).number at value) prev locks v
   behind_store_position value = refl

@@ -7,23 +7,23 @@ use Rattle.byte_position.specs.Geometry.{IsSegmentSize}
 use Rattle.byte_position.specs.Position.{address_of, end_address_of, position_of}
 use Rattle.byte_position.proofs.Rising.{address_of-lt, position_of-mono}
 use Rattle.byte_position.proofs.Segments.{end_address_of-segment_start, first_position-usable, position_of-segment}
-use Rattle.record_spelling.specs.Spelling.{Assembled, assembled_size, is_assembled_switch}
+use Rattle.wal_spelling.specs.Spelling.{Assembled, assembled_size, is_assembled_switch}
 use Rattle.wal_page.specs.Order.{assembled_room_at, next_segment}
 use Rattle.wal_page.proofs.PaddingLaws.{position_behind_switch}
-use Rattle.wal_core.specs.declared.setup.Setup.{Setup}
-use Rattle.wal_core.specs.Words.{end_form, log_limit}
+use Rattle.machine_state.specs.declared.setup.Setup.{Setup}
+use Rattle.machine_state.specs.Words.{end_form, log_limit}
 use Rattle.reserve_lock.specs.Reserved.{every_lock}
 
 -- the log ends with a segment
-limit_is : (setup : Setup) → IsSegmentSize setup.segment_size → log_limit setup ≡ position_of setup.segment_size (setup.segment_size * (setup.cap_segments + 1))
+limit_is : (setup : Setup) → IsSegmentSize setup.seg_size → log_limit setup ≡ position_of setup.seg_size (setup.seg_size * (setup.cap_segments + 1))
 limit_is setup valid =
-    let size : ℕ = setup.segment_size in
+    let size : ℕ = setup.seg_size in
     omega (arith, first_position-usable size valid, position_of-segment size valid (setup.cap_segments + 1))
 
 -- the segment in which a byte of the log stands ends within the log
-next_within : (setup : Setup) → IsSegmentSize setup.segment_size → (last : ℕ) → last < log_limit setup → next_segment setup.segment_size last ≤ log_limit setup
+next_within : (setup : Setup) → IsSegmentSize setup.seg_size → (last : ℕ) → last < log_limit setup → next_segment setup.seg_size last ≤ log_limit setup
 next_within setup valid last below =
-    let size : ℕ = setup.segment_size in
+    let size : ℕ = setup.seg_size in
     let cap = setup.cap_segments + 1 in
     let limit = limit_is setup valid in
     let under : address_of size last < size * cap = address_of-lt size valid last (size * cap) (omega (arith, below, limit)) in
@@ -32,14 +32,14 @@ next_within setup valid last below =
     let ends : size * (address_of size last / size + 1) ≤ size * cap = mul-le-mul_left size (omega (arith, own)) in
     omega (arith, limit, position_of-mono size (size * (address_of size last / size + 1)) (size * cap) ends)
 
-pub switch_within : (setup : Setup) → IsSegmentSize setup.segment_size → (at : ℕ) (body : Assembled) → at % 8 ≡ 0 → is_assembled_switch body ≡ true → assembled_size body ≡ 24 → at + 24 ≤ log_limit setup → at + assembled_room_at setup.segment_size at body ≤ log_limit setup
+pub switch_within : (setup : Setup) → IsSegmentSize setup.seg_size → (at : ℕ) (body : Assembled) → at % 8 ≡ 0 → is_assembled_switch body ≡ true → assembled_size body ≡ 24 → at + 24 ≤ log_limit setup → at + assembled_room_at setup.seg_size at body ≤ log_limit setup
 switch_within setup valid at body whole switches size fits =
-    let behind = position_behind_switch setup.segment_size valid at body whole switches in
+    let behind = position_behind_switch setup.seg_size valid at body whole switches in
     let next = next_within setup valid (at + assembled_size body - 1) (omega (arith, size, fits)) in
     omega (arith, behind, next)
 
 -- so where it does not fit, fewer are left
-pub few_left : (setup : Setup) → IsSegmentSize setup.segment_size → (at free : ℕ) (body : Assembled) → at % 8 ≡ 0 → is_assembled_switch body ≡ true → assembled_size body ≡ 24 → at ≤ log_limit setup → free ≡ log_limit setup - at → free < assembled_room_at setup.segment_size at body → free < 24
+pub few_left : (setup : Setup) → IsSegmentSize setup.seg_size → (at free : ℕ) (body : Assembled) → at % 8 ≡ 0 → is_assembled_switch body ≡ true → assembled_size body ≡ 24 → at ≤ log_limit setup → free ≡ log_limit setup - at → free < assembled_room_at setup.seg_size at body → free < 24
 few_left setup valid at free body whole switches size within free_is short =
     elim (cases_lt free 24) [
       | inl few ↦ few
@@ -50,10 +50,10 @@ few_left setup valid at free body whole switches size within free_is short =
     ]
 
 -- the log's end is a segment's start
-limit_starts : (setup : Setup) → IsSegmentSize setup.segment_size
-    → end_form setup (log_limit setup) % setup.segment_size ≡ 0
+limit_starts : (setup : Setup) → IsSegmentSize setup.seg_size
+    → end_form setup (log_limit setup) % setup.seg_size ≡ 0
 limit_starts setup valid =
-    let size : ℕ = setup.segment_size in
+    let size : ℕ = setup.seg_size in
     let cap = setup.cap_segments + 1 in
     ap (λ (n : ℕ). end_address_of size n % size)
     (limit_is setup valid ∙ position_of-segment size valid cap)
@@ -61,14 +61,14 @@ limit_starts setup valid =
     ∙ mul-mod_right size cap
 
 -- so where the log does not stand at a segment's start, some bytes are left
-pub some_left : (setup : Setup) → IsSegmentSize setup.segment_size → (at free : ℕ)
+pub some_left : (setup : Setup) → IsSegmentSize setup.seg_size → (at free : ℕ)
     → at ≤ log_limit setup → free ≡ log_limit setup - at
-    → end_form setup at % setup.segment_size ≢ 0 → 1 ≤ free
+    → end_form setup at % setup.seg_size ≢ 0 → 1 ≤ free
 some_left setup valid at free within free_is inside = elim (cases_lt 0 free) [
   | inl some ↦ omega (arith, some)
   | inr none ↦ (
       let last : at ≡ log_limit setup = omega (arith, none, within, free_is) in
-      absurd (inside (ap (λ (n : ℕ). end_form setup n % setup.segment_size) last
+      absurd (inside (ap (λ (n : ℕ). end_form setup n % setup.seg_size) last
       ∙ limit_starts setup valid))
       )
 ]

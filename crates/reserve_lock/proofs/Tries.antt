@@ -4,11 +4,11 @@ use Rattle.std.proofs.Common.{◌≡◌, ◌≢◌, ℕ, ◌%◌, ◌≤◌, tru
 use Rattle.std.proofs.lemmas.Bool.{ne_eqb}
 use Rattle.std.proofs.Math.Nat.{le-max_left, max-eq_right}
 use mathlib.Core.Option.{none}
-use Rattle.wal_core.specs.declared.setup.Setup.{Setup}
-use Rattle.wal_core.specs.Words.{log_limit}
-use Rattle.wal_core.specs.Views.{Locked, View}
-use Rattle.wal_core.specs.Moves.{unlocked}
-use Rattle.wal_core.specs.Steps.{load_position, lock_position, view_behind}
+use Rattle.machine_state.specs.declared.setup.Setup.{Setup}
+use Rattle.machine_state.specs.Words.{log_limit}
+use Rattle.machine_state.specs.Views.{Locked, View}
+use Rattle.machine_state.specs.Moves.{unlocked}
+use Rattle.machine_state.specs.Steps.{load_position, lock_position, view_behind}
 use Rattle.wal_rule.specs.Stepping.{Meets, Stands}
 use Rattle.reserve_lock.specs.Reserved.{IsPositionBusy, IsPositionLocked, locked_view, seen_view}
 use Rattle.reserve_lock.proofs.Standing.{locked_behind_seen, locked_whole, locked_within}

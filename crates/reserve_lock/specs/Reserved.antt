@@ -1,16 +1,16 @@
 -- What a reservation leaves of its pass's view, where it succeeds and where it does not.
-use Rattle.std.specs.Prelude.{◌≡◌, ◌≢◌, ◌⊎◌, ℕ, ◌+◌, ◌-◌, ◌%◌, ◌<◌, ◌≤◌, List, [], ◌∷◌, ◌++◌, length, max}
+use Rattle.std.specs.Prelude.{◌≡◌, ◌≢◌, ◌⊎◌, ℕ, ◌+◌, ◌-◌, ◌%◌, ◌<◌, ◌≤◌, true, Contains, List, [], ◌∷◌, ◌++◌, length, max}
 use Rattle.byte_position.specs.Position.{address_of, end_address_of}
 use Rattle.wal_types.specs.declared.record.Record.{Record}
-use Rattle.record_spelling.specs.Record.{switch_record}
-use Rattle.record_spelling.specs.Spelling.{Assembled, IsLogRecord, IsWritable, assembled}
+use Rattle.wal_spelling.specs.Record.{switch_record}
+use Rattle.wal_spelling.specs.Spelling.{Assembled, IsLogRecord, IsWritable, assembled, is_assembled_switch}
 use Rattle.wal_page.specs.Order.{Entry, assembled_room_at, position_behind}
 use Rattle.wal_page.specs.Placed.{PlacedState, placed_end}
-use Rattle.wal_core.specs.declared.setup.Setup.{Setup}
-use Rattle.wal_core.specs.Words.{end_form, log_limit}
-use Rattle.wal_core.specs.Views.{AtSegmentStart, Copying, Free, Locked, LogFull, StopCause, View}
-use Rattle.wal_core.specs.Moves.{entry_reserved, unlocked}
-use Rattle.wal_core.specs.Steps.{load_position, lock_position}
+use Rattle.machine_state.specs.declared.setup.Setup.{Setup}
+use Rattle.machine_state.specs.Words.{end_form, log_limit}
+use Rattle.machine_state.specs.Views.{AtSegmentStart, Copying, Free, Landed, Locked, LogFull, StopCause, View}
+use Rattle.machine_state.specs.Moves.{entry_reserved, unlocked}
+use Rattle.machine_state.specs.Steps.{load_position, lock_position}
 use Rattle.wal_rule.specs.Stepping.{Meets}
 use Rattle.reserve_lock.specs.declared.reserving.ReserveErr.{ReserveErr}
 use Rattle.reserve_lock.specs.declared.reserving.ReserveErr.TheVariants.{Busy, Full}
@@ -75,6 +75,26 @@ pub record IsPositionLocked (setup : Setup) (at : ℕ) (old new : View) : Type 0
   pub whole : at % 8 ≡ 0
   pub new_is : new ≡ locked_view at old
 
+-- a pass has the position locked, at which a record may be reserved: it has seen nothing reserved
+-- behind it, and it lies within the log. The byte before it ends at the address `behind`, and the
+-- byte there is at the address `start`
+pub record IsLockedAt (setup : Setup) (size at behind start : ℕ) (v : View) : Type 0 where
+  pub geometry : size ≡ setup.seg_size
+  pub place : (v.reserving).place ≡ Locked at
+  pub behind_is : behind ≡ end_address_of size at
+  pub start_is : start ≡ address_of size at
+  pub seen : (v.reserving).seen ≤ at
+  pub within : at ≤ log_limit setup
+  pub whole : at % 8 ≡ 0
+
+-- a pass holds an insertion lock under which the body may stand, all of them if it is a segment
+-- switch, and copies nothing
+pub record HoldsLocksFor (body : Assembled) (v : View) : Type 0 where
+  pub some : 1 ≤ length (v.working).locks
+  pub all : is_assembled_switch body ≡ true → (lock : ℕ) → lock < 8
+      → Contains (v.working).locks lock
+  pub landed : (v.working).flight ≡ Landed
+
 -- the position was not locked: the word loaded was locked already and is told, or it was not and
 -- the one exchange found another word, which is told
 pub record IsPositionBusy (told : ℕ) (old new : View) : Type 0 where
@@ -94,7 +114,7 @@ pub record IsLogFull (setup : Setup) (body : Assembled) (free : ℕ) (old new : 
     pub behind_seen : (old.reserving).seen ≤ at
     pub within : at ≤ log_limit setup
     pub free_is : free ≡ log_limit setup - at
-    pub short : free < assembled_room_at setup.segment_size at body
+    pub short : free < assembled_room_at setup.seg_size at body
     pub new_is : new ≡ full_view at (seen_view at old)
 
 -- an entry of the pass was reserved at a position, of the record that the body was made of, behind
@@ -104,18 +124,18 @@ pub record IsEntryReserved (setup : Setup) (body : Assembled) (at prev : ℕ) (l
   pub value : Record
   pub logged : IsLogRecord value
   pub of_body : assembled value ≡ body
-  pub new_is : new ≡ reserved_view setup.segment_size
+  pub new_is : new ≡ reserved_view setup.seg_size
       (entry_reserved (old.reserving).number at value) prev locks old
 
 -- the record at its place, as its words are to be copied
 abbrev pub placed_first : Setup → Assembled → (start prev : ℕ) → PlacedState
 placed_first setup body start prev = record {
-  size = setup.segment_size;
+  size = setup.seg_size;
   sysid = setup.sysid;
   body = body;
   start = start;
   prev = prev;
-  next = end_address_of setup.segment_size start;
+  next = end_address_of setup.seg_size start;
 }
 
 -- an entry was reserved under these locks, behind all that the pass had seen and before the log's
@@ -126,9 +146,9 @@ pub record IsPlaceReserved (setup : Setup) (body : Assembled) (locks : List ℕ)
   pub prev : ℕ
   pub reserved : IsEntryReserved setup body at prev locks old new
   pub behind_seen : (old.reserving).seen ≤ at
-  pub within : at + assembled_room_at setup.segment_size at body ≤ log_limit setup
+  pub within : at + assembled_room_at setup.seg_size at body ≤ log_limit setup
   pub placed_is : placed ≡ placed_first setup body at prev
-  pub start_is : start ≡ address_of setup.segment_size at
+  pub start_is : start ≡ address_of setup.seg_size at
 
 -- so a record was that can be inserted, under one lock
 pub record IsInsertReserved (setup : Setup) (body : Assembled) (lock : ℕ) (old new : View)
@@ -141,7 +161,7 @@ pub record IsSwitchReserved (setup : Setup) (body : Assembled) (old new : View) 
     (placed : PlacedState) : Type 0 where
   pub place : IsPlaceReserved setup body every_lock old new start placed
   pub switches : (place.reserved).value ≡ switch_record
-  pub inside : end_form setup place.at % setup.segment_size ≢ 0
+  pub inside : end_form setup place.at % setup.seg_size ≢ 0
 
 -- the log ends at this address, a segment's start, where a switch would leave it as it is; and the
 -- pass notes that it stopped there
@@ -150,7 +170,7 @@ pub record StaysAtStart (setup : Setup) (end : ℕ) (old new : View) : Type 0 wh
   pub behind_seen : (old.reserving).seen ≤ at
   pub within : at ≤ log_limit setup
   pub end_is : end ≡ end_form setup at
-  pub starts : end % setup.segment_size ≡ 0
+  pub starts : end % setup.seg_size ≡ 0
   pub new_is : new ≡ stayed_view at (seen_view at old)
 
 -- what a switch comes to where the position was locked and the log not full

@@ -6,7 +6,7 @@
 // address there is made before: nothing but steps is done while the position is locked.
 ghost use Rattle.std.specs.Prelude.{◌≡◌, ◌<◌, ◌^◌, IfErr, IfOk};
 ghost use Rattle.byte_position.specs.Position.{address_of, end_address_of};
-ghost use Rattle.wal_core.specs.Views.{Free};
+ghost use Rattle.machine_state.specs.Views.{Free};
 ghost use Rattle.wal_rule.specs.SeatedPasses.{StaysSeated, setup_of, view_of};
 ghost use Rattle.reserve_lock.specs.Reserved.{IsPositionBusy, IsPositionLocked};
 

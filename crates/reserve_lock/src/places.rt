@@ -9,17 +9,17 @@
 ghost use Rattle.std.specs.Prelude.{◌≡◌, ◌+◌, ◌%◌, ◌<◌, ◌≤◌, ◌^◌, length};
 ghost use Rattle.byte_position.specs.Position.{address_of};
 ghost use Rattle.wal_types.specs.declared.record.Record.{Record};
-ghost use Rattle.record_spelling.specs.Spelling.{assembled};
+ghost use Rattle.wal_spelling.specs.Spelling.{assembled};
 ghost use Rattle.wal_page.specs.Order.{assembled_room_at};
-ghost use Rattle.wal_core.specs.Views.{Landed, Locked};
-ghost use Rattle.wal_core.specs.Words.{end_form, log_limit};
-ghost use Rattle.wal_core.specs.Steps.{MayStandUnder, give_position_back, store_position};
+ghost use Rattle.machine_state.specs.Views.{Landed, Locked};
+ghost use Rattle.machine_state.specs.Words.{end_form, log_limit};
+ghost use Rattle.machine_state.specs.Steps.{MayStandUnder, give_position_back, store_position};
 ghost use Rattle.wal_rule.specs.SeatedPasses.{HasView, StaysSeated, setup_of, view_of};
 ghost use Rattle.reserve_lock.specs.Reserved.{IsEntryReserved, full_view, stayed_view};
 
-use record_spelling::Body;
 use segment_disk::Disk;
 use wal_rule::{OfKind, SeatedPass};
+use wal_spelling::Body;
 use wal_types::Lsn;
 
 // Gives the position back as it was, where too few bytes are left for the record.
@@ -33,7 +33,7 @@ pub(crate) fn give_back<'p, D: Disk, K: OfKind>(
         × (K.kind ≡ give_position_back value) }
     requires place { (view_of seated.old).reserving.place ≡ Locked at }
     requires short { log_limit (setup_of seated.old)
-        < at + assembled_room_at (setup_of seated.old).segment_size at body.now }
+        < at + assembled_room_at (setup_of seated.old).seg_size at body.now }
     // The pass notes that the log was full there, and has the position locked no longer.
     ensures view { HasView (full_view at (view_of seated.old)) seated.old seated.new }
 {
@@ -43,7 +43,7 @@ pub(crate) fn give_back<'p, D: Disk, K: OfKind>(
 // Gives the position back as it was, where the log stands at a segment's start.
 pub(crate) fn stay_there<'p, D: Disk>(seated: &mut SeatedPass<'p, D>, at: u64)
     requires place { (view_of seated.old).reserving.place ≡ Locked at }
-    requires starts { end_form (setup_of seated.old) at % (setup_of seated.old).segment_size ≡ 0 }
+    requires starts { end_form (setup_of seated.old) at % (setup_of seated.old).seg_size ≡ 0 }
     // The pass notes that it stopped there, and has the position locked no longer.
     ensures view { HasView (stayed_view at (view_of seated.old)) seated.old seated.new }
 {
@@ -68,8 +68,8 @@ pub(crate) fn reserve_at<'p, D: Disk, K: OfKind>(
         × (assembled value ≡ body.now)
         × (K.kind ≡ store_position (view_of seated.old).working.locks value) }
     requires place { (view_of seated.old).reserving.place ≡ Locked at }
-    requires start { start.0 ≡ address_of (setup_of seated.old).segment_size at }
-    requires room { room ≡ assembled_room_at (setup_of seated.old).segment_size at body.now }
+    requires start { start.0 ≡ address_of (setup_of seated.old).seg_size at }
+    requires room { room ≡ assembled_room_at (setup_of seated.old).seg_size at body.now }
     requires some { 1 ≤ length (view_of seated.old).working.locks }
     requires landed { (view_of seated.old).working.flight ≡ Landed }
     requires fits { at + room ≤ log_limit (setup_of seated.old) }

@@ -4,25 +4,24 @@
 // behind the record or as it was (places.rt). Once it is stored behind it, the record has its place
 // for good, whatever fails later: its words are the pass's to copy, and the next record names its
 // start as prev. Nobody else reserves those bytes.
-ghost use Rattle.std.specs.Prelude.{◌≡◌, ℕ, ◌-◌, ◌%◌, ◌<◌, ◌≤◌, [], ◌∷◌, false, true, length, Contains, IfErr, IfOk};
-ghost use Rattle.byte_position.specs.Position.{address_of, end_address_of};
-ghost use Rattle.record_spelling.specs.Spelling.{RecordOf, is_assembled_switch};
-ghost use Rattle.wal_core.specs.Views.{Free, Landed, Locked};
-ghost use Rattle.wal_core.specs.Words.{log_limit};
+ghost use Rattle.std.specs.Prelude.{◌≡◌, ◌-◌, ◌<◌, [], ◌∷◌, false, IfErr, IfOk};
+ghost use Rattle.wal_spelling.specs.Spelling.{RecordOf, is_assembled_switch};
+ghost use Rattle.machine_state.specs.Views.{Free, Landed};
+ghost use Rattle.machine_state.specs.Words.{log_limit};
 ghost use Rattle.wal_page.specs.Order.{assembled_room_at};
 ghost use Rattle.wal_page.specs.Placed.{placed_end};
 ghost use Rattle.wal_rule.specs.SeatedPasses.{StaysSeated, setup_of, view_of};
-ghost use Rattle.reserve_lock.specs.Reserved.{IsInsertReserved, IsPlaceReserved, TellsWhy, full_view};
+ghost use Rattle.reserve_lock.specs.Reserved.{HoldsLocksFor, IsInsertReserved, IsLockedAt, IsPlaceReserved, TellsWhy, full_view};
 
 use crate::locking::{LockedAt, lock_seen};
 use crate::places::{give_back, reserve_at};
 use crate::starting::end_behind;
 use byte_position::Geometry;
-use record_spelling::Body;
 use segment_disk::Disk;
 use std::marker::Brand;
 use wal_page::Placed;
 use wal_rule::SeatedPass;
+use wal_spelling::Body;
 use wal_types::Lsn;
 
 /// Why nothing was reserved.
@@ -90,20 +89,12 @@ pub(crate) fn reserve_locked<'a, 'p, D: Disk>(
     locked: LockedAt,
     room: u64,
 ) -> Result<Reserved<'a>, u64>
-    requires geometry { geometry ≡ (setup_of seated.old).segment_size }
     requires known { RecordOf body.now }
-    requires place { (view_of seated.old).reserving.place ≡ Locked locked.at }
-    requires behind { locked.behind.0 ≡ end_address_of geometry locked.at }
-    requires start { locked.start.0 ≡ address_of geometry locked.at }
-    requires seen { (view_of seated.old).reserving.seen ≤ locked.at }
-    requires within { locked.at ≤ log_limit (setup_of seated.old) }
-    requires whole { locked.at % 8 ≡ 0 }
+    requires locked { IsLockedAt (setup_of seated.old) geometry locked.at locked.behind.0
+        locked.start.0 (view_of seated.old) }
     requires room { room
-        ≡ assembled_room_at (setup_of seated.old).segment_size locked.at body.now }
-    requires some { 1 ≤ length (view_of seated.old).working.locks }
-    requires all { is_assembled_switch body.now ≡ true → (lock : ℕ) → lock < 8
-        → Contains (view_of seated.old).working.locks lock }
-    requires landed { (view_of seated.old).working.flight ≡ Landed }
+        ≡ assembled_room_at (setup_of seated.old).seg_size locked.at body.now }
+    requires holds { HoldsLocksFor body.now (view_of seated.old) }
     ensures reserved { IfOk result (λ r. (p : IsPlaceReserved (setup_of seated.old) body.now
         (view_of seated.old).working.locks (view_of seated.old) (view_of seated.new)
         r.start.0 r.placed) × (p.at ≡ locked.at)) }

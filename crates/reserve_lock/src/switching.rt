@@ -3,19 +3,19 @@
 // Where the log stands at a segment's start already, a switch has nothing to do: the position is
 // stored as it was.
 ghost use Rattle.std.specs.Prelude.{◌≡◌, IfErr, IfOk};
-ghost use Rattle.record_spelling.specs.Record.{switch_record};
-ghost use Rattle.record_spelling.specs.Spelling.{assembled};
-ghost use Rattle.wal_core.specs.Views.{Free, Landed};
+ghost use Rattle.wal_spelling.specs.Record.{switch_record};
+ghost use Rattle.wal_spelling.specs.Spelling.{assembled};
+ghost use Rattle.machine_state.specs.Views.{Free, Landed};
 ghost use Rattle.wal_rule.specs.SeatedPasses.{StaysSeated, setup_of, view_of};
 ghost use Rattle.reserve_lock.specs.Reserved.{AnswersSwitchTry, LeavesNoSwitch, TellsWhy, every_lock};
 
 use crate::locking::lock_seen;
 use crate::places::stay_there;
 use crate::reserving::{ReserveErr, Reserved, reserve_locked};
-use record_spelling::Body;
 use segment_disk::Disk;
 use wal_page::room_at;
 use wal_rule::SeatedPass;
+use wal_spelling::Body;
 use wal_types::Lsn;
 
 /// What a segment switch comes to.

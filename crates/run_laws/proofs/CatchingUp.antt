@@ -3,14 +3,14 @@
 -- end of each of its commits that were answered ahead.
 use Rattle.std.proofs.Common.{◌≡◌, ℕ, ◌+◌, ◌≤◌, All, List, [], ◌∷◌, length, max, subst, arith}
 use Rattle.std.proofs.lemmas.List.Elements.{All-head}
-use Rattle.wal_script.specs.Asked.{Asked, AskedLine, Insert, Commit, Flush, CommitAsync, WriteBehind, Switch}
-use Rattle.wal_core.specs.Words.{Opening, log_limit}
-use Rattle.wal_core.specs.Views.{FlushPromise, View}
-use Rattle.told_lines.specs.declared.told.Told.{Told}
-use Rattle.told_lines.specs.declared.told.Told.TheVariants.{Wrote, Hard, Flushed, Async, Idle, Switched, Stayed, Refused}
-use Rattle.told_lines.specs.CatchingUp.{AllCatchUp, CatchesUp, EachCatchesUp, ahead_told, hard_told}
-use Rattle.told_lines.proofs.AllLaws.{parts_all}
-use Rattle.wal_core.specs.PassLogs.{PassLog, log_with_promise}
+use Rattle.run_script.specs.Asked.{Asked, AskedLine, Insert, Commit, Flush, CommitAsync, WriteBehind, Switch}
+use Rattle.machine_state.specs.Words.{Opening, log_limit}
+use Rattle.machine_state.specs.Views.{FlushPromise, View}
+use Rattle.run_laws.specs.declared.told.Told.{Told}
+use Rattle.run_laws.specs.declared.told.Told.TheVariants.{Wrote, Hard, Flushed, Async, Idle, Switched, Stayed, Refused}
+use Rattle.run_laws.specs.CatchingUp.{AllCatchUp, CatchesUp, EachCatchesUp, ahead_told, hard_told}
+use Rattle.run_laws.proofs.AllLaws.{parts_all}
+use Rattle.machine_state.specs.PassLogs.{PassLog, log_with_promise}
 use Rattle.run_laws.specs.Played.{Leaves, PassState, PlaysLines, pass_state_of, state_at_first}
 use Rattle.run_laws.specs.Ended.{HasTakenIn, PlayedAll}
 use Rattle.run_laws.proofs.LaterLines.{line_held}
@@ -136,5 +136,5 @@ each_catches_up size limit pass (lines ∷ script) (told ∷ lists) (w ∷ other
 pub run_catches_up : (opening : Opening) (v : View) (script : List (List AskedLine))
     (lists : List (List Told)) → HasTakenIn opening v script lists → EachCatchesUp script lists
 run_catches_up opening v script lists taken =
-    each_catches_up (opening.setup).segment_size (log_limit opening.setup) 1 script lists
+    each_catches_up (opening.setup).seg_size (log_limit opening.setup) 1 script lists
     taken.others taken.played

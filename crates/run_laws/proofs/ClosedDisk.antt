@@ -11,13 +11,13 @@ use Rattle.byte_position.proofs.SegmentSizes.{segment_size_tests}
 use Rattle.byte_position.proofs.Segments.{first_position-usable}
 use Rattle.segment_disk.specs.Tape.{Tape}
 use Rattle.wal_page.specs.Order.{Entry, IsChained, end_position}
-use Rattle.wal_core.specs.declared.setup.Setup.{Setup}
-use Rattle.wal_core.specs.Words.{GoesOnAtPlace, Opening, down_word, flushed_word, log_limit, moment_word, order_end}
-use Rattle.wal_core.specs.Views.{FlushPromise, Joined, Plain, View, receipts_of}
-use Rattle.wal_core.specs.Durable.{AreKept, IsPromiseKept, IsToldRightly}
-use Rattle.wal_core.specs.Sound.{IsSetup}
-use Rattle.wal_core.specs.Suited.{tape_from}
-use Rattle.wal_core.proofs.Tapes.{at_suited, counted_on}
+use Rattle.machine_state.specs.declared.setup.Setup.{Setup}
+use Rattle.machine_state.specs.Words.{GoesOnAtPlace, Opening, down_word, flushed_word, log_limit, moment_word, order_end}
+use Rattle.machine_state.specs.Views.{FlushPromise, Joined, Plain, View, receipts_of}
+use Rattle.machine_state.specs.Durable.{AreKept, IsPromiseKept, IsToldRightly}
+use Rattle.machine_state.specs.Sound.{IsSetup}
+use Rattle.machine_state.specs.Suited.{tape_from}
+use Rattle.machine_state.proofs.Tapes.{at_suited, counted_on}
 use Rattle.machine_laws.specs.Crashes.{CrashesLeave, HoldsPromise}
 use Rattle.machine_laws.specs.WholeOrders.{IsWholeOrder, LiesBehind}
 use Rattle.machine_laws.proofs.WholeOrders.{whole_order}
@@ -31,9 +31,9 @@ some_number n some_n = elim (cases_lt 0 n) [ inl lt ↦ lt | inr none ↦ absurd
 
 -- a log ends far below the last address that is read
 ends_low : (setup : Setup) → IsSetup setup → (position : ℕ) → position ≤ log_limit setup
-    → end_address_of setup.segment_size position ≤ 2 ^ 60
+    → end_address_of setup.seg_size position ≤ 2 ^ 60
 ends_low setup is position within =
-    let size = setup.segment_size in
+    let size = setup.seg_size in
     let segments = setup.cap_segments in
     let first = first_position size in
     let valid = is.size in
@@ -57,7 +57,7 @@ ends_low setup is position within =
 module _ (opening : Opening) (order : List Entry) (t : Tape) (v : View)
     (c : IsClosedOn opening order t v) where
   abbrev pub size : ℕ
-  size = (opening.setup).segment_size
+  size = (opening.setup).seg_size
 
   abbrev flushed : ℕ
   flushed = flushed_word c.words
@@ -65,7 +65,7 @@ module _ (opening : Opening) (order : List Entry) (t : Tape) (v : View)
   abbrev moment : ℕ
   moment = moment_word c.words
 
-  pub valid : IsSegmentSize (opening.setup).segment_size
+  pub valid : IsSegmentSize (opening.setup).seg_size
   valid = ((c.sound).setup_is).size
 
   pub known : 0 < (opening.setup).sysid
@@ -74,7 +74,7 @@ module _ (opening : Opening) (order : List Entry) (t : Tape) (v : View)
   chained : GoesOnAtPlace opening order
   chained = ((c.closed).accounted).chained
 
-  pub low : end_address_of (opening.setup).segment_size (order_end opening order) ≤ 2 ^ 60
+  pub low : end_address_of (opening.setup).seg_size (order_end opening order) ≤ 2 ^ 60
   low = ends_low opening.setup (c.sound).setup_is (order_end opening order)
       ((c.closed).accounted).within
 
@@ -83,9 +83,9 @@ module _ (opening : Opening) (order : List Entry) (t : Tape) (v : View)
     pub whole_is : IsWholeOrder opening order (front ++ order)
     whole_is = whole_order opening valid front lies order chained
 
-    pub whole_low : end_address_of (opening.setup).segment_size
-        (end_position (opening.setup).segment_size (front ++ order)) ≤ 2 ^ 60
-    whole_low = subst (λ (n : ℕ). end_address_of (opening.setup).segment_size n ≤ 2 ^ 60)
+    pub whole_low : end_address_of (opening.setup).seg_size
+        (end_position (opening.setup).seg_size (front ++ order)) ≤ 2 ^ 60
+    whole_low = subst (λ (n : ℕ). end_address_of (opening.setup).seg_size n ≤ 2 ^ 60)
         (sym whole_is.end) low
 
   -- the writer at home is the one that the state speaks of

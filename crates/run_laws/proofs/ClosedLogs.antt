@@ -5,11 +5,11 @@ use mathlib.Core.Option.{Option, none, some, some-injective}
 use Rattle.segment_disk.specs.Cause.{Rose}
 use Rattle.segment_disk.specs.Tape.{Tape}
 use Rattle.wal_page.specs.Order.{Entry, rooms_of}
-use Rattle.told_lines.proofs.Capacities.{capacity_of-le}
-use Rattle.wal_core.specs.Durable.{IsPromised, IsToldRightly}
-use Rattle.wal_core.specs.Suited.{BeganSuited, tape_from}
-use Rattle.wal_core.specs.Views.{FlushPromise, Joined, View, receipts_of}
-use Rattle.wal_core.specs.Words.{Opening, down_word, flushed_word, moment_word}
+use Rattle.run_laws.proofs.Capacities.{capacity_of-le}
+use Rattle.machine_state.specs.Durable.{IsPromised, IsToldRightly}
+use Rattle.machine_state.specs.Suited.{BeganSuited, tape_from}
+use Rattle.machine_state.specs.Views.{FlushPromise, Joined, View, receipts_of}
+use Rattle.machine_state.specs.Words.{Opening, down_word, flushed_word, moment_word}
 use Rattle.run_laws.specs.Closed.{IsClosedOn}
 use Rattle.run_laws.proofs.Closing.{told_from}
 use Rattle.run_laws.proofs.Promises.{told_rightly}
@@ -72,14 +72,14 @@ module _ (opening : Opening) (order : List Entry) (v : View)
       down_is_set faults knows (((((c.closed).durable).down).at_home refl).1 up)
 
   -- a log has at most 4,096 segments of at most 2 ^ 30 bytes
-  pub rooms_are_low : rooms_of (opening.setup).segment_size order ≤ 2 ^ 42
+  pub rooms_are_low : rooms_of (opening.setup).seg_size order ≤ 2 ^ 42
   rooms_are_low =
       let setup_is = (c.sound).setup_is in
       omega (
         arith,
         ((c.closed).accounted).within,
         (((c.sound).reserved).placed).from,
-        capacity_of-le (opening.setup).segment_size (opening.setup).cap_segments setup_is.size
+        capacity_of-le (opening.setup).seg_size (opening.setup).cap_segments setup_is.size
             setup_is.cap_high,
       )
 

@@ -10,15 +10,15 @@ use Rattle.segment_disk.specs.Tape.{DiskState, Tape}
 use Rattle.segment_disk.specs.declared.disk.Call.{Call}
 use Rattle.flush_core.specs.Pages.{HoldsNothing}
 use Rattle.wal_page.specs.Order.{Entry, IsChained, rooms_of}
-use Rattle.wal_script.specs.Asked.{AskedLine}
-use Rattle.told_lines.specs.declared.told.Told.{Told}
-use Rattle.told_lines.specs.Told.{IsFullAnswer, IsRefused, SomeTold, TellsAll, order_from}
-use Rattle.told_lines.specs.Crash.{EachIsTimely, KeepsFound, SurvivesCrashes}
-use Rattle.told_lines.specs.Whole.{IsWhole}
-use Rattle.wal_core.specs.Suited.{BeganSuited, IsLogAt, tape_from}
-use Rattle.wal_core.specs.Views.{View}
-use Rattle.wal_core.specs.Words.{GoesOnAtPlace, Opening, found_position, order_end}
-use Rattle.wal_core.proofs.Tapes.{at_told, told_as}
+use Rattle.run_script.specs.Asked.{AskedLine}
+use Rattle.run_laws.specs.declared.told.Told.{Told}
+use Rattle.run_laws.specs.Told.{IsFullAnswer, IsRefused, SomeTold, TellsAll, order_from}
+use Rattle.run_laws.specs.Crash.{EachIsTimely, KeepsFound, SurvivesCrashes}
+use Rattle.run_laws.specs.WholeOrders.{IsWhole}
+use Rattle.machine_state.specs.Suited.{BeganSuited, IsLogAt, tape_from}
+use Rattle.machine_state.specs.Views.{View}
+use Rattle.machine_state.specs.Words.{GoesOnAtPlace, Opening, found_position, order_end}
+use Rattle.machine_state.proofs.Tapes.{at_told, told_as}
 use Rattle.machine_laws.specs.Crashes.{LeavesLawful}
 use Rattle.machine_laws.specs.WholeOrders.{LiesBehind}
 use Rattle.run_laws.specs.Closed.{IsClosedOn}
@@ -53,7 +53,7 @@ pub empty_suited : (opening : Opening) (began : Option Tape) → opening.made �
     → HoldsNothing began → HoldsSuited opening began
 empty_suited opening None none_made nothing = tt
 empty_suited opening (Some b) none_made nothing = λ segment. subst
-    (SegmentAssures (opening.setup).segment_size
+    (SegmentAssures (opening.setup).seg_size
     (λ segment. (1 ≤ segment) × (segment ≤ opening.made)) (IsLogAt opening [])
     segment) (sym (nothing segment)) (λ made. omega (arith, none_made, made.0, made.1))
 
@@ -80,7 +80,7 @@ module _ {D : Type 0} (tape : D → Option Tape) (moment faults : D → ℕ) (be
     (script : List (List AskedLine)) (lists : List (List Told))
     (r : IsRunClosed tape moment faults began opening v w position script lists) where
   abbrev size : ℕ
-  size = (opening.setup).segment_size
+  size = (opening.setup).seg_size
 
   abbrev last_view : View
   last_view = v
@@ -102,7 +102,7 @@ module _ {D : Type 0} (tape : D → Option Tape) (moment faults : D → ℕ) (be
   }
 
   -- the state's order is the one that the lines were told
-  order_is : ((r.closes).sound).order ≡ order_from (opening.setup).segment_size 1 script lists
+  order_is : ((r.closes).sound).order ≡ order_from (opening.setup).seg_size 1 script lists
   order_is = sym (told_order opening order last_view closed script lists r.taken)
 
   tells : TellsAll (logged_at_end opening order (faults (slot_disk w))) 1 script lists
@@ -130,7 +130,7 @@ module _ {D : Type 0} (tape : D → Option Tape) (moment faults : D → ℕ) (be
       (crashes opening order t last_view (closed_there suited t is)).only)
 
   timely : HoldsSuited opening began → IfSome (tape (slot_disk w))
-      (λ t. EachIsTimely (opening.setup).segment_size opening.moment order t 1 script lists)
+      (λ t. EachIsTimely (opening.setup).seg_size opening.moment order t 1 script lists)
   timely suited = told_as (tape (slot_disk w)) (λ t is.
       told_timely opening order t last_view (closed_there suited t is) order script lists r.taken)
 
@@ -153,7 +153,7 @@ module _ {D : Type 0} (tape : D → Option Tape) (moment faults : D → ℕ) (be
   }
 
   firm : HoldsSuited opening began → IfSome (tape (slot_disk w))
-      (KeepsToldWords opening (order_from (opening.setup).segment_size 1 script lists) lists)
+      (KeepsToldWords opening (order_from (opening.setup).seg_size 1 script lists) lists)
   firm suited = told_as (tape (slot_disk w)) (λ t is.
       keeps_words opening t (moment (slot_disk w)) script lists
       (subst (λ (o : Option Tape). IsMachineRun opening o (moment (slot_disk w)) script lists) is
@@ -190,23 +190,23 @@ module _ {D : Type 0} (tape : D → Option Tape) (moment faults : D → ℕ) (be
     whole = front ++ order
 
     whole_is : front ++ ((r.closes).sound).order
-        ≡ order_told front (opening.setup).segment_size script lists
+        ≡ order_told front (opening.setup).seg_size script lists
     whole_is = ap (λ (es : List Entry). front ++ es) order_is
 
     words : HoldsSuited opening began → IfSome (tape (slot_disk w))
-        (LeavesLogWords (opening.setup).segment_size (opening.setup).sysid whole opening.moment)
+        (LeavesLogWords (opening.setup).seg_size (opening.setup).sysid whole opening.moment)
     words suited = told_as (tape (slot_disk w)) (λ t is moment image from left k.
         (no_other_words opening order t last_view (closed_there suited t is) front lies
         moment image from left).words k)
 
     crash : HoldsSuited opening began → IfSome (tape (slot_disk w))
-        (SurvivesCrashes (opening.setup).segment_size opening.moment whole lists)
+        (SurvivesCrashes (opening.setup).seg_size opening.moment whole lists)
     crash suited = told_as (tape (slot_disk w)) (λ t is.
         told_survive opening order t last_view (closed_there suited t is) front lies script lists
         r.taken)
 
     keeps : HoldsSuited opening began → IfSome (tape (slot_disk w))
-        (KeepsFound (opening.setup).segment_size opening.moment whole front)
+        (KeepsFound (opening.setup).seg_size opening.moment whole front)
     keeps suited = told_as (tape (slot_disk w)) (λ t is.
         keep opening order t last_view (closed_there suited t is) front lies)
 
@@ -248,9 +248,9 @@ module _ {D : Type 0} (tape : D → Option Tape) (moment faults : D → ℕ) (be
       ])
 
   all_there : (slot_plain tape moment w).fault ≡ none → HoldsSuited opening began
-      → HasFlushedAll (opening.setup).segment_size lists v
+      → HasFlushedAll (opening.setup).seg_size lists v
       → (front : List Entry) → LiesBehind opening front
-      → IsWhole (opening.setup).segment_size (tape (slot_disk w)) (front ++ order)
+      → IsWhole (opening.setup).seg_size (tape (slot_disk w)) (front ++ order)
   all_there up suited (inl p) front lies =
       subst (λ (t : Option Tape). IsWhole size t (front ++ order)) own
       (left_whole opening order last_view closed front lies script lists r.taken up p.0 p.1 p.2
@@ -259,27 +259,27 @@ module _ {D : Type 0} (tape : D → Option Tape) (moment faults : D → ℕ) (be
   all_there up suited (inr f) front lies =
       absurd (knows_no_fault opening order last_view closed up f.0 f.1)
 
-  pub flushed_whole : HasFlushedAll (opening.setup).segment_size lists v
+  pub flushed_whole : HasFlushedAll (opening.setup).seg_size lists v
       → faults (slot_disk w) ≡ opening.faults → opening.faults < 2 ^ 64 - 1
       → HoldsSuited opening began → (front : List Entry) → LiesBehind opening front
-      → IsWhole (opening.setup).segment_size (tape (slot_disk w))
-      (order_told front (opening.setup).segment_size script lists)
+      → IsWhole (opening.setup).seg_size (tape (slot_disk w))
+      (order_told front (opening.setup).seg_size script lists)
   flushed_whole flushed same low suited front lies =
       subst (IsWhole size (tape (slot_disk w))) (whole_is front lies)
       (all_there (none_met same low) suited flushed front lies)
 
   -- ---- the order in numbers
 
-  pub records_counted : length (order_from (opening.setup).segment_size 1 script lists)
+  pub records_counted : length (order_from (opening.setup).seg_size 1 script lists)
       ≡ all_reserved_count lists
   records_counted = own_counted opening last_view script lists r.taken
 
-  pub bytes_told : position ≡ found_position opening + rooms_of (opening.setup).segment_size
-      (order_from (opening.setup).segment_size 1 script lists)
+  pub bytes_told : position ≡ found_position opening + rooms_of (opening.setup).seg_size
+      (order_from (opening.setup).seg_size 1 script lists)
   bytes_told = (r.closes).position_is ∙ (((r.closes).closed).free).position
       ∙ ap (order_end opening) order_is
 
-  pub rooms_within : rooms_of (opening.setup).segment_size
-      (order_from (opening.setup).segment_size 1 script lists) ≤ 2 ^ 42
+  pub rooms_within : rooms_of (opening.setup).seg_size
+      (order_from (opening.setup).seg_size 1 script lists) ≤ 2 ^ 42
   rooms_within = subst (λ (es : List Entry). rooms_of size es ≤ 2 ^ 42) order_is
       (rooms_are_low opening order last_view closed)

@@ -4,10 +4,10 @@ use Rattle.std.proofs.lemmas.Option.{none-some, same_Some}
 use mathlib.Core.Option.{Option, some}
 use Rattle.segment_disk.specs.declared.disk.Call.{Call}
 use Rattle.segment_disk.specs.Tape.{DiskState, Tape}
-use Rattle.wal_core.specs.Suited.{BeganSuited, tape_from}
-use Rattle.wal_core.specs.Words.{Opening}
-use Rattle.wal_core.specs.Views.{HasAt, Plain, View}
-use Rattle.wal_core.specs.Sound.{IsSound}
+use Rattle.machine_state.specs.Suited.{BeganSuited, tape_from}
+use Rattle.machine_state.specs.Words.{Opening}
+use Rattle.machine_state.specs.Views.{HasAt, Plain, View}
+use Rattle.machine_state.specs.Sound.{IsSound}
 use Rattle.machine_laws.specs.ClosedLogs.{IsClosed, IsLastPass}
 use Rattle.machine_laws.proofs.ClosingLaws.{closed}
 use Rattle.run_laws.specs.Closed.{IsClosedOn}

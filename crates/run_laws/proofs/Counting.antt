@@ -2,13 +2,13 @@
 use Rattle.std.proofs.Common.{◌≡◌, ℕ, suc, ◌+◌, cond, Bool, true, false, leb, List, [], ◌∷◌, length, length-append, Some, None, option_to_list, refl, sym, ap, ◌∙◌, arith}
 use Rattle.wal_types.specs.declared.answers.Cause.TheVariants.{Full, Disk, Down}
 use Rattle.wal_page.specs.Order.{Entry}
-use Rattle.wal_script.specs.Asked.{Asked, AskedLine, Insert, Commit, Flush, CommitAsync, WriteBehind, Switch}
-use Rattle.wal_core.specs.Words.{Opening, log_limit}
-use Rattle.wal_core.specs.Views.{View}
-use Rattle.told_lines.specs.declared.told.Told.{Told}
-use Rattle.told_lines.specs.declared.told.Told.TheVariants.{Wrote, Hard, Flushed, Async, Idle, Switched, Stayed, Refused}
-use Rattle.told_lines.specs.Told.{entries_from, entries_of, entry_of, insert_by_start, order_from, sorted_by_start}
-use Rattle.told_lines.specs.Counts.{is_reserved, reserved_count}
+use Rattle.run_script.specs.Asked.{Asked, AskedLine, Insert, Commit, Flush, CommitAsync, WriteBehind, Switch}
+use Rattle.machine_state.specs.Words.{Opening, log_limit}
+use Rattle.machine_state.specs.Views.{View}
+use Rattle.run_laws.specs.declared.told.Told.{Told}
+use Rattle.run_laws.specs.declared.told.Told.TheVariants.{Wrote, Hard, Flushed, Async, Idle, Switched, Stayed, Refused}
+use Rattle.run_laws.specs.Told.{entries_from, entries_of, entry_of, insert_by_start, order_from, sorted_by_start}
+use Rattle.run_laws.specs.Counts.{is_reserved, reserved_count}
 use Rattle.run_laws.specs.Counted.{all_reserved_count}
 use Rattle.run_laws.specs.Played.{Leaves, PassState, PlaysLines, state_at_first, pass_state_of}
 use Rattle.run_laws.specs.Ended.{HasTakenIn, IsClosedLog, PlayedAll}
@@ -126,9 +126,9 @@ length-sorted (e ∷ es) = length-insert e (sorted_by_start es) ∙ ap suc (leng
 
 pub own_counted : (opening : Opening) (v : View) (script : List (List AskedLine))
     (lists : List (List Told)) → HasTakenIn opening v script lists
-    → length (order_from (opening.setup).segment_size 1 script lists) ≡ all_reserved_count lists
+    → length (order_from (opening.setup).seg_size 1 script lists) ≡ all_reserved_count lists
 own_counted opening v script lists taken =
-    let size = (opening.setup).segment_size in
+    let size = (opening.setup).seg_size in
     length-sorted (entries_from size 1 script lists)
     ∙ all_counted size (log_limit opening.setup) 1 script lists taken.others taken.played
 

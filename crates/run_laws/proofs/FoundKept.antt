@@ -12,19 +12,19 @@ use Rattle.segment_disk.specs.Assured.{IsNowhere, TapeAssures}
 use Rattle.segment_disk.specs.Tape.{Tape}
 use Rattle.wal_page.specs.Order.{Entry, FollowsFrom, IsChained, finish_of, position_behind, rooms_of}
 use Rattle.wal_page.proofs.OrderLaws.{FollowsFrom-parts, rooms_of-append, rooms_of_cons}
-use Rattle.wal_core.specs.Durable.{IsFirm, IsLawfulAt}
-use Rattle.wal_core.specs.Views.{View}
-use Rattle.wal_core.specs.Words.{GoesOnAtPlace, Opening, found_end, found_position, order_end}
-use Rattle.wal_core.proofs.Tapes.{at_suited}
+use Rattle.machine_state.specs.Durable.{IsFirm, IsLawfulAt}
+use Rattle.machine_state.specs.Views.{View}
+use Rattle.machine_state.specs.Words.{GoesOnAtPlace, Opening, found_end, found_position, order_end}
+use Rattle.machine_state.proofs.Tapes.{at_suited}
 use Rattle.machine_laws.specs.Crashes.{LeavesLawful}
 use Rattle.machine_laws.specs.WholeOrders.{IsWholeOrder, LiesBehind}
 use Rattle.machine_laws.proofs.CrashLaws.{IsLawfulBehind-left}
 use Rattle.machine_laws.proofs.WholeOrders.{IsLawful-whole}
-use Rattle.written_log.specs.LawfulLog.{IsFrontUpto}
-use Rattle.written_log.specs.Written.{found_from}
-use Rattle.written_log.proofs.LawfulLaws.{lawful_images_decode_to_fronts}
-use Rattle.told_lines.specs.Crash.{KeepsFound}
-use Rattle.told_lines.proofs.FrontLengths.{take-found_from}
+use Rattle.written_log_laws.specs.LawfulLog.{IsFrontUpto}
+use Rattle.written_log_laws.specs.Written.{found_from}
+use Rattle.written_log_laws.proofs.LawfulLaws.{lawful_images_decode_to_fronts}
+use Rattle.run_laws.specs.Crash.{KeepsFound}
+use Rattle.run_laws.proofs.FrontLengths.{take-found_from}
 use Rattle.run_laws.specs.Closed.{IsClosedOn}
 use Rattle.run_laws.proofs.ClosedDisk.{known, sound_tape, valid, whole_is, whole_low}
 
@@ -74,14 +74,14 @@ first_of_front found back order count is within =
 module _ (opening : Opening) (order : List Entry) (t : Tape) (v : View)
     (c : IsClosedOn opening order t v) where
   abbrev size : ℕ
-  size = (opening.setup).segment_size
+  size = (opening.setup).seg_size
 
   found_firm : IsFirm opening (c.sound).order (found_end opening) opening.moment t
   found_firm = at_suited t.at_first opening (c.sound).writer
       (IsFirm opening (c.sound).order (found_end opening) opening.moment) t
       (sound_tape opening order t v c) c.began ((c.sound).durable).found
 
-  only_log : TapeAssures (opening.setup).segment_size IsNowhere
+  only_log : TapeAssures (opening.setup).seg_size IsNowhere
       (IsLawfulAt opening (c.sound).order) opening.moment t
   only_log = at_suited t.at_first opening (c.sound).writer
       (TapeAssures size IsNowhere (IsLawfulAt opening (c.sound).order) opening.moment) t
@@ -100,15 +100,15 @@ module _ (opening : Opening) (order : List Entry) (t : Tape) (v : View)
     front_end : first_position size + rooms_of size front ≡ found_position opening
     front_end = omega (arith, lies.position_is)
 
-    front_ends : All (EndsBelow (opening.setup).segment_size (found_end opening)) front
+    front_ends : All (EndsBelow (opening.setup).seg_size (found_end opening)) front
     front_ends = subst (λ (p : ℕ). All (EndsBelow size (end_address_of size p)) front) front_end
         (ends_of_all size (valid opening order t v c) (first_position size) front lies.chained)
 
 pub keep : (opening : Opening) (order : List Entry) (t : Tape) (v : View)
     → IsClosedOn opening order t v → (front : List Entry) → LiesBehind opening front
-    → KeepsFound (opening.setup).segment_size opening.moment (front ++ order) front t
+    → KeepsFound (opening.setup).seg_size opening.moment (front ++ order) front t
 keep opening order t v c front lies moment image since left torn found answer decodes =
-    let size = (opening.setup).segment_size in
+    let size = (opening.setup).seg_size in
     let whole = whole_is opening order t v c front lies in
     let lawful = IsLawful-whole opening order (front ++ order) image (found_end opening)
     (valid opening order t v c) whole (found_lawful opening order t v c moment image since left) in

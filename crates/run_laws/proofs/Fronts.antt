@@ -6,16 +6,16 @@ use Rattle.byte_position.specs.Position.{address_of}
 use Rattle.segment_disk.specs.DiskImage.{DiskImage, LeftAt}
 use Rattle.segment_disk.specs.Tape.{Tape}
 use Rattle.wal_page.specs.Order.{Entry, finish_of}
-use Rattle.wal_core.specs.Words.{Opening}
-use Rattle.wal_core.specs.Views.{FlushPromise, View}
+use Rattle.machine_state.specs.Words.{Opening}
+use Rattle.machine_state.specs.Views.{FlushPromise, View}
 use Rattle.wal_reader.specs.declared.found.Answer.{Answer}
 use Rattle.wal_reader.specs.declared.found.FoundRecord.{FoundRecord}
 use Rattle.wal_reader.specs.Decodes.{Decodes}
 use Rattle.wal_reader.specs.Pages.{pages_in}
-use Rattle.written_log.specs.LawfulLog.{IsFrontUpto}
-use Rattle.written_log.specs.Torn.{NoTornPass}
-use Rattle.written_log.specs.Written.{found_from}
-use Rattle.written_log.proofs.LawfulLaws.{lawful_images_decode_to_fronts}
+use Rattle.written_log_laws.specs.LawfulLog.{IsFrontUpto}
+use Rattle.written_log_laws.specs.Torn.{NoTornPass}
+use Rattle.written_log_laws.specs.Written.{found_from}
+use Rattle.written_log_laws.proofs.LawfulLaws.{lawful_images_decode_to_fronts}
 use Rattle.machine_laws.specs.Crashes.{IsLawfulBehind}
 use Rattle.machine_laws.specs.WholeOrders.{LiesBehind}
 use Rattle.machine_laws.proofs.WholeOrders.{IsLawful-whole}
@@ -44,12 +44,12 @@ module _ (opening : Opening) (order : List Entry) (t : Tape) (v : View)
     (c : IsClosedOn opening order t v) (front : List Entry) (lies : LiesBehind opening front)
     (moment : ℕ) (image : DiskImage)
     (since : opening.moment ≤ moment) (left : LeftAt t moment image)
-    (torn : NoTornPass (opening.setup).segment_size (pages_in (opening.setup).segment_size image)
+    (torn : NoTornPass (opening.setup).seg_size (pages_in (opening.setup).seg_size image)
     (front ++ order)) (found : List FoundRecord) (answer : Answer)
-    (decodes : Decodes (opening.setup).segment_size (pages_in (opening.setup).segment_size image)
-    (opening.setup).segment_size None found answer) where
+    (decodes : Decodes (opening.setup).seg_size (pages_in (opening.setup).seg_size image)
+    (opening.setup).seg_size None found answer) where
   abbrev size : ℕ
-  size = (opening.setup).segment_size
+  size = (opening.setup).seg_size
 
   abbrev whole : List Entry
   whole = front ++ order
@@ -64,7 +64,7 @@ module _ (opening : Opening) (order : List Entry) (t : Tape) (v : View)
       (IsLawful-whole opening order whole image upto (valid opening order t v c) is lawful) torn
       found answer decodes
 
-  found_front : IsFrontUpto (opening.setup).segment_size whole 0 found
+  found_front : IsFrontUpto (opening.setup).seg_size whole 0 found
   found_front = front_of 0 ((crashes opening order t v c).only moment image since left)
 
   has_promised : (entries : List Entry) (p : FlushPromise) → WasPromised v entries p
@@ -80,7 +80,7 @@ module _ (opening : Opening) (order : List Entry) (t : Tape) (v : View)
         front_length size whole 0 found found_front,
       )
 
-  front_as_promised : IsFrontAsPromised (opening.setup).segment_size moment whole v found
+  front_as_promised : IsFrontAsPromised (opening.setup).seg_size moment whole v found
   front_as_promised = record {
     count = found_front.count;
     within = found_front.within;

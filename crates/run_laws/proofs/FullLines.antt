@@ -8,21 +8,21 @@ use Rattle.wal_types.specs.declared.record.Record.{Record}
 use Rattle.wal_page.specs.LogPlace.{IsPlace}
 use Rattle.wal_page.specs.Order.{Entry, FollowsFrom, room_at}
 use Rattle.wal_page.proofs.OrderLaws.{FollowsFrom-parts}
-use Rattle.wal_core.specs.Views.{AtSegmentStart, LogFull, Stop, StopCause}
-use Rattle.wal_core.specs.Words.{GoesOnAtPlace, Opening, log_limit, order_end}
-use Rattle.wal_core.specs.Ordered.{entries_under, FrontEndsAt}
-use Rattle.told_lines.specs.Told.{Logged, MayBeFull, MayStay, front_end}
-use Rattle.told_lines.proofs.AllLaws.{parts_all}
-use Rattle.wal_core.specs.PassLogs.{PassLog, log_with_stop}
+use Rattle.machine_state.specs.Views.{AtSegmentStart, LogFull, Stop, StopCause}
+use Rattle.machine_state.specs.Words.{GoesOnAtPlace, Opening, log_limit, order_end}
+use Rattle.machine_state.specs.Ordered.{entries_under, FrontEndsAt}
+use Rattle.run_laws.specs.Told.{Logged, MayBeFull, MayStay, front_end}
+use Rattle.run_laws.proofs.AllLaws.{parts_all}
+use Rattle.machine_state.specs.PassLogs.{PassLog, log_with_stop}
 use Rattle.run_laws.specs.Played.{AddsFull, AddsStay, behind_last_own}
 use Rattle.run_laws.specs.Ended.{logged_at_end}
 use Rattle.run_laws.proofs.OwnEnds.{StartsBelow, ends_within, own_starts_below}
 
-module _ (opening : Opening) (placed : IsPlace (opening.setup).segment_size opening.place)
+module _ (opening : Opening) (placed : IsPlace (opening.setup).seg_size opening.place)
     (order : List Entry) (last pass : ℕ) (follows : GoesOnAtPlace opening order)
     (all : List Entry) where
   abbrev pub size : ℕ
-  size = (opening.setup).segment_size
+  size = (opening.setup).seg_size
 
   abbrev pub limit : ℕ
   limit = log_limit opening.setup

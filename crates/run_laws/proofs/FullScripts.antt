@@ -8,23 +8,23 @@ use mathlib.Core.Option.{none, some}
 use Rattle.byte_position.specs.Geometry.{IsSegmentSize}
 use Rattle.byte_position.specs.Position.{first_position, position_of}
 use Rattle.byte_position.proofs.SegmentSizes.{segment_size_in_pages, segment_size_tests}
-use Rattle.record_spelling.specs.Record.{switch_record}
-use Rattle.record_spelling.specs.Spelling.{assembled}
-use Rattle.record_spelling.proofs.SwitchLaws.{room-switch}
+use Rattle.wal_spelling.specs.Record.{switch_record}
+use Rattle.wal_spelling.specs.Spelling.{assembled}
+use Rattle.wal_spelling.proofs.SwitchLaws.{room-switch}
 use Rattle.wal_types.specs.declared.answers.Cause.TheVariants.{Full, Disk, Down}
 use Rattle.wal_types.specs.declared.lsn.Lsn.{Lsn}
 use Rattle.wal_types.specs.declared.record.Record.{Record}
 use Rattle.wal_page.specs.Order.{Entry, room_at, rooms_of}
 use Rattle.wal_page.proofs.OrderLaws.{rooms_of_cons, rooms_of-append}
 use Rattle.wal_page.proofs.PaddingLaws.{assembled_room_at-bound, room_at-inserted}
-use Rattle.wal_script.specs.Asked.{Asked, AskedLine, Insert, Commit, Flush, CommitAsync, WriteBehind, Switch}
-use Rattle.wal_script.specs.Writable.{AsksWritable}
-use Rattle.wal_core.specs.Words.{Opening, found_position, log_limit}
-use Rattle.wal_core.specs.Views.{View}
-use Rattle.told_lines.specs.declared.told.Told.{Told}
-use Rattle.told_lines.specs.declared.told.Told.TheVariants.{Wrote, Hard, Flushed, Async, Idle, Switched, Stayed, Refused}
-use Rattle.told_lines.specs.Told.{FitsLine, IsFullAnswer, Logged, MayBeFull, SomeAnswer, SomeTold, TellsAll, TellsFrom, behind_or, entries_from, entries_of, entry_at, entry_of, front_end, insert_by_start, reserved_by, sorted_by_start}
-use Rattle.told_lines.specs.Rooms.{all_rooms_asked, room_asked, rooms_asked}
+use Rattle.run_script.specs.Asked.{Asked, AskedLine, Insert, Commit, Flush, CommitAsync, WriteBehind, Switch}
+use Rattle.run_script.specs.Writable.{AsksWritable}
+use Rattle.machine_state.specs.Words.{Opening, found_position, log_limit}
+use Rattle.machine_state.specs.Views.{View}
+use Rattle.run_laws.specs.declared.told.Told.{Told}
+use Rattle.run_laws.specs.declared.told.Told.TheVariants.{Wrote, Hard, Flushed, Async, Idle, Switched, Stayed, Refused}
+use Rattle.run_laws.specs.Told.{FitsLine, IsFullAnswer, Logged, MayBeFull, SomeAnswer, SomeTold, TellsAll, TellsFrom, behind_or, entries_from, entries_of, entry_at, entry_of, front_end, insert_by_start, reserved_by, sorted_by_start}
+use Rattle.run_laws.specs.Rooms.{all_rooms_asked, room_asked, rooms_asked}
 use Rattle.run_laws.specs.Ended.{HasTakenIn, IsClosedLog, logged_at_end}
 use Rattle.run_laws.proofs.RunOrder.{told_order, valid}
 use Rattle.run_laws.proofs.RunTells.{run_tells}
@@ -239,9 +239,9 @@ upper_count (some last) =
 pub too_much_asked : (opening : Opening) (order : List Entry) (v : View)
     → IsClosedLog opening order v → (script : List (List AskedLine)) (lists : List (List Told))
     → HasTakenIn opening v script lists → SomeTold IsFullAnswer lists → log_limit opening.setup
-    < found_position opening + all_rooms_asked (opening.setup).segment_size script
+    < found_position opening + all_rooms_asked (opening.setup).seg_size script
 too_much_asked opening order v c script lists taken full =
-    let size = (opening.setup).segment_size in
+    let size = (opening.setup).seg_size in
     let size_is = valid opening order v c script lists taken in
     let last = upper_count (c.writer).fault in
     let tells = run_tells opening order v c script lists taken last.0 last.1 in

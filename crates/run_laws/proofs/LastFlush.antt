@@ -9,18 +9,18 @@ use Rattle.byte_position.specs.Position.{end_address_of, first_position}
 use Rattle.wal_types.specs.declared.answers.Cause.TheVariants.{Full, Disk, Down}
 use Rattle.wal_page.specs.Order.{Entry, FollowsFrom, finish_of, position_behind, rooms_of}
 use Rattle.wal_page.proofs.OrderLaws.{rooms_of_cons}
-use Rattle.wal_script.specs.Asked.{Asked, AskedLine, Insert, Commit, Flush, CommitAsync, WriteBehind, Switch}
-use Rattle.wal_core.specs.Words.{Opening, end_form, flushed_word, moment_word, order_end}
-use Rattle.wal_core.specs.Suited.{BeganSuited, tape_from}
-use Rattle.wal_core.specs.Views.{FlushPromise, View}
-use Rattle.wal_core.specs.Durable.{IsPromised}
+use Rattle.run_script.specs.Asked.{Asked, AskedLine, Insert, Commit, Flush, CommitAsync, WriteBehind, Switch}
+use Rattle.machine_state.specs.Words.{Opening, end_form, flushed_word, moment_word, order_end}
+use Rattle.machine_state.specs.Suited.{BeganSuited, tape_from}
+use Rattle.machine_state.specs.Views.{FlushPromise, View}
+use Rattle.machine_state.specs.Durable.{IsPromised}
 use Rattle.run_laws.specs.Closed.{IsClosedOn}
 use Rattle.run_laws.proofs.Promises.{told_rightly}
 use Rattle.run_laws.proofs.ReadWhole.{whole}
-use Rattle.told_lines.specs.declared.told.Told.{Told}
-use Rattle.told_lines.specs.declared.told.Told.TheVariants.{Wrote, Hard, Flushed, Async, Idle, Switched, Stayed, Refused}
-use Rattle.told_lines.specs.Told.{FitsLine, Logged, TellsAll, TellsFrom, behind_or, entries_from, entries_of, entry_of, insert_by_start, sorted_by_start}
-use Rattle.told_lines.specs.Whole.{IsWhole}
+use Rattle.run_laws.specs.declared.told.Told.{Told}
+use Rattle.run_laws.specs.declared.told.Told.TheVariants.{Wrote, Hard, Flushed, Async, Idle, Switched, Stayed, Refused}
+use Rattle.run_laws.specs.Told.{FitsLine, Logged, TellsAll, TellsFrom, behind_or, entries_from, entries_of, entry_of, insert_by_start, sorted_by_start}
+use Rattle.run_laws.specs.WholeOrders.{IsWhole}
 use Rattle.machine_laws.specs.WholeOrders.{LiesBehind}
 use Rattle.run_laws.specs.Ended.{HasTakenIn, IsClosedLog, logged_at_end}
 use Rattle.run_laws.specs.Reached.{EndsBy, ReachesAll}
@@ -159,12 +159,12 @@ module _ (opening : Opening) (order : List Entry) (v : View) (c : IsClosedLog op
     (script : List (List AskedLine)) (lists : List (List Told))
     (taken : HasTakenIn opening v script lists) (up : (c.writer).fault ≡ none)
     (p : FlushPromise) (was : Contains (v.writing).promises p)
-    (reaches : ReachesAll (opening.setup).segment_size p.upto lists) where
+    (reaches : ReachesAll (opening.setup).seg_size p.upto lists) where
   abbrev size : ℕ
-  size = (opening.setup).segment_size
+  size = (opening.setup).seg_size
 
   abbrev EndsThere : Entry → Type 0
-  EndsThere e = finish_of (opening.setup).segment_size e ≤ p.upto
+  EndsThere e = finish_of (opening.setup).seg_size e ≤ p.upto
 
   -- all that this run reserved ends so low
   own_ended : All EndsThere order
@@ -189,7 +189,7 @@ module _ (opening : Opening) (order : List Entry) (v : View) (c : IsClosedLog op
   whole_of : (front : List Entry) → LiesBehind opening front → (opening.setup).sysid < 2 ^ 64
       → (calls : Option (List Call)) → (c.writer).calls ≡ calls
       → IfSome (tape_from c.first calls) (BeganSuited opening)
-      → IsWhole (opening.setup).segment_size (tape_from c.first calls) (front ++ order)
+      → IsWhole (opening.setup).seg_size (tape_from c.first calls) (front ++ order)
   whole_of front lies narrow None is began = tt
   whole_of front lies narrow (Some calls) is began =
       let t : Tape = record { at_first = c.first; calls = calls } in
@@ -214,9 +214,9 @@ pub left_whole : (opening : Opening) (order : List Entry) (v : View)
     → (script : List (List AskedLine)) (lists : List (List Told))
     → HasTakenIn opening v script lists → (c.writer).fault ≡ none
     → (p : FlushPromise) → Contains (v.writing).promises p
-    → ReachesAll (opening.setup).segment_size p.upto lists → (opening.setup).sysid < 2 ^ 64
+    → ReachesAll (opening.setup).seg_size p.upto lists → (opening.setup).sysid < 2 ^ 64
     → IfSome (tape_from c.first (c.writer).calls) (BeganSuited opening)
-    → IsWhole (opening.setup).segment_size (tape_from c.first (c.writer).calls) (front ++ order)
+    → IsWhole (opening.setup).seg_size (tape_from c.first (c.writer).calls) (front ++ order)
 left_whole opening order v c front lies script lists taken up p was reaches narrow began =
     whole_of opening order v c script lists taken up p was reaches front lies narrow
     (c.writer).calls refl began

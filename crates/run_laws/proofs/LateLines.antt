@@ -5,12 +5,12 @@ use Rattle.std.specs.Prelude.{IfSome, slice_get}
 use Rattle.byte_position.specs.Geometry.{IsSegmentSize}
 use Rattle.segment_disk.specs.Tape.{Tape}
 use Rattle.wal_page.specs.Order.{Entry}
-use Rattle.wal_script.specs.Asked.{AskedLine}
-use Rattle.wal_core.specs.Words.{Opening}
-use Rattle.told_lines.specs.declared.told.Told.{Told}
-use Rattle.told_lines.specs.declared.told.Told.TheVariants.{Wrote, Hard, Flushed, Async, Idle, Switched, Stayed, Refused}
-use Rattle.told_lines.specs.Crash.{IsBefore, NoneIsLate, WritesNone, moment_told}
-use Rattle.told_lines.specs.Told.{entries_of}
+use Rattle.run_script.specs.Asked.{AskedLine}
+use Rattle.machine_state.specs.Words.{Opening}
+use Rattle.run_laws.specs.declared.told.Told.{Told}
+use Rattle.run_laws.specs.declared.told.Told.TheVariants.{Wrote, Hard, Flushed, Async, Idle, Switched, Stayed, Refused}
+use Rattle.run_laws.specs.Crash.{IsBefore, NoneIsLate, WritesNone, moment_told}
+use Rattle.run_laws.specs.Told.{entries_of}
 use Rattle.run_laws.specs.Timely.{IsTimely}
 use Rattle.run_laws.specs.Played.{PassState, PlaysLines}
 use Rattle.run_laws.proofs.LineEntries.{lines_entries}
@@ -32,14 +32,14 @@ module _ (P : Entry → Type 0) where
       all_behind front later (λ k e low is. each (suc k) e (omega (arith, low)) is)
 
 module _ (opening : Opening) (order : List Entry) (t : Tape) (limit pass : ℕ)
-    (valid : IsSegmentSize (opening.setup).segment_size) where
+    (valid : IsSegmentSize (opening.setup).seg_size) where
   abbrev size : ℕ
-  size = (opening.setup).segment_size
+  size = (opening.setup).seg_size
 
   module _ (front later es : List Entry) (parts : es ≡ front ++ later) where
     told_before : (address moment : ℕ)
         → IsPromisedSo (IsTimely opening order t es) address moment (length front)
-        → IsBefore (opening.setup).segment_size opening.moment order t later moment
+        → IsBefore (opening.setup).seg_size opening.moment order t later moment
     told_before address moment is =
         let calls = drop opening.moment (take (is.promise).moment t.calls) in
         subst (IsBefore size opening.moment order t later) is.moment_is (record {
@@ -52,7 +52,7 @@ module _ (opening : Opening) (order : List Entry) (t : Tape) (limit pass : ℕ)
     answer_before : (answer : Told)
         → Promised (IsTimely opening order t es) answer (length front)
         → IfSome (moment_told answer)
-        (IsBefore (opening.setup).segment_size opening.moment order t later)
+        (IsBefore (opening.setup).seg_size opening.moment order t later)
     answer_before (Wrote start end) is = tt
     answer_before (Hard start end moment) is = told_before end.0 moment is
     answer_before (Flushed upto moment) is = told_before upto.0 moment is
@@ -63,9 +63,9 @@ module _ (opening : Opening) (order : List Entry) (t : Tape) (limit pass : ℕ)
     answer_before (Refused cause reserved) is = tt
 
   pub none_late : (lines : List AskedLine) (told : List Told) (before after : PassState)
-      → PlaysLines (opening.setup).segment_size limit pass before lines told after
+      → PlaysLines (opening.setup).seg_size limit pass before lines told after
       → All (IsTimely opening order t (after.log).entries) (after.log).promises
-      → NoneIsLate (opening.setup).segment_size opening.moment order t pass lines told
+      → NoneIsLate (opening.setup).seg_size opening.moment order t pass lines told
   none_late [] told before after plays all = tt
   none_late (line ∷ lines) [] before after plays all = tt
   none_late (line ∷ lines) (answer ∷ told) before after plays all =

@@ -1,3 +1,9 @@
+pub mod AllLaws
+pub mod Orders
+pub mod FrontLengths
+pub mod Capacities
+pub mod AnswerCounts
+pub mod AnswerLoops
 pub mod WholeOrders
 pub mod LineEntries
 pub mod LineFaults

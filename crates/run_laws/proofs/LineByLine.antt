@@ -1,7 +1,7 @@
 -- Lines are played one after another.
 use Rattle.std.proofs.Common.{List, [], ◌∷◌, ◌++◌, ℕ, refl, subst}
-use Rattle.wal_script.specs.Asked.{AskedLine}
-use Rattle.told_lines.specs.declared.told.Told.{Told}
+use Rattle.run_script.specs.Asked.{AskedLine}
+use Rattle.run_laws.specs.declared.told.Told.{Told}
 use Rattle.run_laws.specs.Played.{PassState, PlaysLine, PlaysLines}
 
 module _ (size limit pass : ℕ) where

@@ -3,17 +3,17 @@ use Rattle.std.proofs.Common.{◌≡◌, ℕ, List, [], ◌∷◌, ◌++◌, Opt
 use Rattle.byte_position.specs.Geometry.{IsSegmentSize}
 use Rattle.byte_position.specs.Position.{position_of}
 use Rattle.byte_position.proofs.PositionLaws.{position_of-address_of}
-use Rattle.record_spelling.specs.Record.{switch_record}
+use Rattle.wal_spelling.specs.Record.{switch_record}
 use Rattle.wal_types.specs.declared.answers.Cause.{Cause}
 use Rattle.wal_types.specs.declared.answers.Cause.TheVariants.{Full, Disk, Down}
 use Rattle.wal_types.specs.declared.lsn.Lsn.{Lsn}
 use Rattle.wal_types.specs.declared.record.Record.{Record}
 use Rattle.wal_page.specs.Order.{Entry}
-use Rattle.wal_script.specs.Asked.{Asked, AskedLine, Insert, Commit, Flush, CommitAsync, WriteBehind, Switch}
-use Rattle.told_lines.specs.declared.told.Told.{Told}
-use Rattle.told_lines.specs.declared.told.Told.TheVariants.{Wrote, Hard, Flushed, Async, Idle, Switched, Stayed, Refused}
-use Rattle.told_lines.specs.Told.{entries_of, entry_at, entry_of}
-use Rattle.wal_core.specs.PassLogs.{PassLog}
+use Rattle.run_script.specs.Asked.{Asked, AskedLine, Insert, Commit, Flush, CommitAsync, WriteBehind, Switch}
+use Rattle.run_laws.specs.declared.told.Told.{Told}
+use Rattle.run_laws.specs.declared.told.Told.TheVariants.{Wrote, Hard, Flushed, Async, Idle, Switched, Stayed, Refused}
+use Rattle.run_laws.specs.Told.{entries_of, entry_at, entry_of}
+use Rattle.machine_state.specs.PassLogs.{PassLog}
 use Rattle.run_laws.specs.Played.{Leaves, PassState, PlaysLines, RefusesRecordLine, Reserves}
 use Rattle.run_laws.proofs.LineFaults.{refused_as_record}
 

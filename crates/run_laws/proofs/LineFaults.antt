@@ -1,15 +1,15 @@
 -- Once a pass knows that the disk failed, each line is told so.
 use Rattle.std.proofs.Common.{ℕ, ◌+◌, List, [], ◌∷◌, Option, Some, None, subst}
-use Rattle.record_spelling.specs.Record.{switch_record}
+use Rattle.wal_spelling.specs.Record.{switch_record}
 use Rattle.wal_types.specs.declared.answers.Cause.{Cause}
 use Rattle.wal_types.specs.declared.answers.Cause.TheVariants.{Full, Disk, Down}
 use Rattle.wal_types.specs.declared.lsn.Lsn.{Lsn}
-use Rattle.wal_script.specs.Asked.{Asked, AskedLine, Insert, Commit, Flush, CommitAsync, WriteBehind, Switch}
-use Rattle.told_lines.specs.declared.told.Told.{Told}
-use Rattle.told_lines.specs.declared.told.Told.TheVariants.{Wrote, Hard, Flushed, Async, Idle, Switched, Stayed, Refused}
-use Rattle.told_lines.specs.Told.{AllDown, EachStaysDown, StaysDown}
-use Rattle.wal_core.specs.Words.{Opening, log_limit}
-use Rattle.wal_core.specs.Views.{View}
+use Rattle.run_script.specs.Asked.{Asked, AskedLine, Insert, Commit, Flush, CommitAsync, WriteBehind, Switch}
+use Rattle.run_laws.specs.declared.told.Told.{Told}
+use Rattle.run_laws.specs.declared.told.Told.TheVariants.{Wrote, Hard, Flushed, Async, Idle, Switched, Stayed, Refused}
+use Rattle.run_laws.specs.Told.{AllDown, EachStaysDown, StaysDown}
+use Rattle.machine_state.specs.Words.{Opening, log_limit}
+use Rattle.machine_state.specs.Views.{View}
 use Rattle.run_laws.specs.Played.{KnowsFault, Leaves, PassState, PlaysLines, RefusesRecordLine, RefusesSwitchLine, state_at_first, pass_state_of}
 use Rattle.run_laws.specs.Ended.{HasTakenIn, PlayedAll}
 
@@ -129,5 +129,5 @@ lists_stay_down size limit pass (lines ∷ script) (told ∷ lists) (w ∷ other
 pub run_stays_down : (opening : Opening) (v : View) (script : List (List AskedLine))
     (lists : List (List Told)) → HasTakenIn opening v script lists → EachStaysDown lists
 run_stays_down opening v script lists taken =
-    lists_stay_down (opening.setup).segment_size (log_limit opening.setup) 1 script lists
+    lists_stay_down (opening.setup).seg_size (log_limit opening.setup) 1 script lists
     taken.others taken.played

@@ -1,14 +1,14 @@
 -- What a line tells to be durable is a promise of its pass's log.
 use Rattle.std.proofs.Common.{◌≡◌, ℕ, ◌≤◌, All, List, [], ◌∷◌, inl, inr, length, refl, sym, ap, subst, arith}
 use Rattle.std.proofs.lemmas.List.Elements.{All-head}
-use Rattle.wal_script.specs.Asked.{Asked, AskedLine, Insert, Commit, Flush, CommitAsync, WriteBehind, Switch}
-use Rattle.wal_core.specs.Views.{Stop, FlushPromise}
-use Rattle.told_lines.specs.declared.told.Told.{Told}
-use Rattle.told_lines.specs.declared.told.Told.TheVariants.{Wrote, Hard, Flushed, Async, Idle, Switched, Stayed, Refused}
-use Rattle.told_lines.specs.Crash.{SaysDurable}
-use Rattle.told_lines.specs.Told.{SomeAnswer}
-use Rattle.told_lines.proofs.AllLaws.{parts_all}
-use Rattle.wal_core.specs.PassLogs.{PassLog, log_with_promise}
+use Rattle.run_script.specs.Asked.{Asked, AskedLine, Insert, Commit, Flush, CommitAsync, WriteBehind, Switch}
+use Rattle.machine_state.specs.Views.{Stop, FlushPromise}
+use Rattle.run_laws.specs.declared.told.Told.{Told}
+use Rattle.run_laws.specs.declared.told.Told.TheVariants.{Wrote, Hard, Flushed, Async, Idle, Switched, Stayed, Refused}
+use Rattle.run_laws.specs.Crash.{SaysDurable}
+use Rattle.run_laws.specs.Told.{SomeAnswer}
+use Rattle.run_laws.proofs.AllLaws.{parts_all}
+use Rattle.machine_state.specs.PassLogs.{PassLog, log_with_promise}
 use Rattle.run_laws.specs.Played.{Leaves, PassState, PlaysLines}
 use Rattle.run_laws.proofs.LaterLines.{lines_held}
 

@@ -5,19 +5,19 @@ use mathlib.Core.Option.{none, some, some-injective}
 use Rattle.segment_disk.specs.Assured.{IsMadeUpto}
 use Rattle.segment_disk.specs.Tape.{Tape}
 use Rattle.wal_page.specs.Order.{Entry}
-use Rattle.wal_script.specs.Asked.{AskedLine}
-use Rattle.wal_core.specs.Durable.{AreKept, IsFirm, IsLogBelow, IsPromiseKept}
-use Rattle.wal_core.specs.Locked.{HasWriteTurn, IsWriteTurn, StandsTo}
-use Rattle.wal_core.specs.Moves.{joined_of}
-use Rattle.wal_core.specs.Suited.{BeganSuited, tape_from}
-use Rattle.wal_core.specs.Views.{FlushPromise, Hold, Idle, Joined, Out, Plain, Turned}
-use Rattle.wal_core.specs.Words.{Opening, found_end, log_limit}
-use Rattle.wal_core.proofs.Tapes.{at_suited}
+use Rattle.run_script.specs.Asked.{AskedLine}
+use Rattle.machine_state.specs.Durable.{AreKept, IsFirm, IsLogBelow, IsPromiseKept}
+use Rattle.machine_state.specs.Locked.{HasWriteTurn, IsWriteTurn, StandsTo}
+use Rattle.machine_state.specs.Moves.{joined_of}
+use Rattle.machine_state.specs.Suited.{BeganSuited, tape_from}
+use Rattle.machine_state.specs.Views.{FlushPromise, Hold, Idle, Joined, Out, Plain, Turned}
+use Rattle.machine_state.specs.Words.{Opening, found_end, log_limit}
+use Rattle.machine_state.proofs.Tapes.{at_suited}
 use Rattle.machine_laws.proofs.DurableGrowth.{IsFirm-lower}
 use Rattle.machine_laws.proofs.DurableTapes.{TapeAssures-later}
-use Rattle.told_lines.specs.declared.told.Told.{Told}
-use Rattle.told_lines.specs.Crash.{SaysDurable}
-use Rattle.told_lines.specs.Told.{SomeTold, order_from}
+use Rattle.run_laws.specs.declared.told.Told.{Told}
+use Rattle.run_laws.specs.Crash.{SaysDurable}
+use Rattle.run_laws.specs.Told.{SomeTold, order_from}
 use Rattle.run_laws.proofs.Promises.{told_rightly}
 use Rattle.run_laws.specs.Assured.{IsMachineRun, KeepsToldWords}
 use Rattle.run_laws.proofs.RunCrashes.{ArePromises, all_promised}
@@ -50,7 +50,7 @@ module _ (opening : Opening) (now : Tape) (moment : ℕ)
     (script : List (List AskedLine)) (lists : List (List Told))
     (m : IsMachineRun opening (Some now) moment script lists) where
   abbrev size : ℕ
-  size = (opening.setup).segment_size
+  size = (opening.setup).seg_size
 
   home_is : m.writer ≡ (m.sound).writer
   home_is = same_writer _ m.writer (m.sound).writer _ ((m.sound).locks).writing
@@ -91,6 +91,6 @@ module _ (opening : Opening) (now : Tape) (moment : ℕ)
         (p.2).firm)
 
     pub keeps_words : KeepsToldWords opening
-        (order_from (opening.setup).segment_size 1 script lists) lists now
+        (order_from (opening.setup).seg_size 1 script lists) lists now
     keeps_words = subst (λ (es : List Entry). KeepsToldWords opening es lists now) m.order_is
         (record { found = found_firm; told = told_firm })

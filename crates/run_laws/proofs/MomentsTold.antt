@@ -5,16 +5,16 @@ use Rattle.std.proofs.lemmas.List.Elements.{All-cons, All-head, All-tail}
 use Rattle.std.specs.Prelude.{slice_get, Some}
 use Rattle.byte_position.specs.Position.{end_address_of, first_position}
 use Rattle.wal_page.specs.Order.{Entry, finish_of, position_behind}
-use Rattle.wal_script.specs.Asked.{Asked, AskedLine, Insert, Commit, Flush, CommitAsync, WriteBehind, Switch}
-use Rattle.wal_core.specs.Words.{Opening, log_limit}
-use Rattle.wal_core.specs.Views.{FlushPromise, Joined, View}
-use Rattle.wal_core.specs.Moves.{joined_of}
-use Rattle.told_lines.specs.declared.told.Told.{Told}
-use Rattle.told_lines.specs.declared.told.Told.TheVariants.{Wrote, Hard, Flushed, Async, Idle, Switched, Stayed, Refused}
-use Rattle.told_lines.specs.Moments.{EachRises, FlushMoment, LastTold, MomentStep, MomentsReach, may_repeat}
-use Rattle.told_lines.proofs.AllLaws.{parts_all}
+use Rattle.run_script.specs.Asked.{Asked, AskedLine, Insert, Commit, Flush, CommitAsync, WriteBehind, Switch}
+use Rattle.machine_state.specs.Words.{Opening, log_limit}
+use Rattle.machine_state.specs.Views.{FlushPromise, Joined, View}
+use Rattle.machine_state.specs.Moves.{joined_of}
+use Rattle.run_laws.specs.declared.told.Told.{Told}
+use Rattle.run_laws.specs.declared.told.Told.TheVariants.{Wrote, Hard, Flushed, Async, Idle, Switched, Stayed, Refused}
+use Rattle.run_laws.specs.Moments.{EachRises, FlushMoment, LastTold, MomentStep, MomentsReach, may_repeat}
+use Rattle.run_laws.proofs.AllLaws.{parts_all}
 use Rattle.machine_laws.specs.RisingMoments.{LogsRise, PromisesRise, Rises, RisesAbove, promised_of, with_opening}
-use Rattle.wal_core.specs.PassLogs.{PassLog, log_with_entry, log_with_promise}
+use Rattle.machine_state.specs.PassLogs.{PassLog, log_with_entry, log_with_promise}
 use Rattle.run_laws.specs.Played.{PassState, PlaysLines, behind_last_own, end_of_own, state_at_first, pass_state_of}
 use Rattle.run_laws.specs.Ended.{HasTakenIn, PlayedAll}
 use Rattle.run_laws.specs.Latest.{NoneIsLater}
@@ -71,7 +71,7 @@ last_own size behind (e ∷ f ∷ es) some =
 
 module _ (opening : Opening) where
   abbrev size : ℕ
-  size = (opening.setup).segment_size
+  size = (opening.setup).seg_size
 
   -- what was told last is the log's newest promise, behind which an entry stands where something
   -- was written since
@@ -129,7 +129,7 @@ module _ (opening : Opening) where
     next_rises : (upto moment : ℕ) (after end : PassLog)
         → after ≡ log_with_promise upto moment before → Extends after end
         → PromisesRise opening end.entries end.promises
-        → RisesAbove (opening.setup).segment_size end.entries t.newest upto moment
+        → RisesAbove (opening.setup).seg_size end.entries t.newest upto moment
     next_rises upto moment after end is x rise =
         let q : FlushPromise =
         record { upto = upto; moment = moment; entries = length before.entries } in
@@ -144,7 +144,7 @@ module _ (opening : Opening) where
     strictly : (upto moment : ℕ) (after end : PassLog)
         → after ≡ log_with_promise upto moment before → Extends after end
         → PromisesRise opening end.entries end.promises
-        → end_of_own (opening.setup).segment_size before.entries ≤ upto
+        → end_of_own (opening.setup).seg_size before.entries ≤ upto
         → (t.newest).entries < length before.entries → (t.newest).moment < moment
     strictly upto moment after end is x rise covers some =
         let r = next_rises upto moment after end is x rise in
@@ -162,7 +162,7 @@ module _ (opening : Opening) where
         → after ≡ log_with_promise upto moment before → Extends after end
         → PromisesRise opening end.entries end.promises
         → (may_repeat asked false ≡ false
-        → end_of_own (opening.setup).segment_size before.entries ≤ upto)
+        → end_of_own (opening.setup).seg_size before.entries ≤ upto)
         → (b : Bool) → may_repeat asked last.is_latest ≡ b → FlushMoment b last.moment moment
     flush_rises asked upto moment after end is x rise covers true again =
         omega (arith, t.moment_is, (next_rises upto moment after end is x rise).never_falls)
@@ -178,7 +178,7 @@ module _ (opening : Opening) where
       (rise : PromisesRise opening end.entries end.promises) (last : LastTold)
       (t : Tracks before last) where
     commit_steps : (e : Entry) (upto moment : ℕ)
-        → finish_of (opening.setup).segment_size e ≤ upto
+        → finish_of (opening.setup).seg_size e ≤ upto
         → after ≡ log_with_promise upto moment (log_with_entry e before)
         → (last.moment < moment)
         × Tracks after (record { moment = moment; is_latest = true })
@@ -215,7 +215,7 @@ module _ (opening : Opening) where
         }
 
     answer_steps : (asked : Asked) (told : Told)
-        → Grows (opening.setup).segment_size asked told before after
+        → Grows (opening.setup).seg_size asked told before after
         → Steps last asked told after
     answer_steps asked (Wrote start end) g = (
       record { moment = last.moment; is_latest = false },
@@ -258,7 +258,7 @@ module _ (opening : Opening) where
     IsUpto p = p.moment ≤ top
 
     lines_rise : (pass : ℕ) (lines : List AskedLine) (told : List Told) (before after : PassState)
-        → PlaysLines (opening.setup).segment_size limit pass before lines told after
+        → PlaysLines (opening.setup).seg_size limit pass before lines told after
         → PromisesRise opening (after.log).entries (after.log).promises
         → All IsUpto (with_opening opening (after.log).promises)
         → (last : LastTold) → Tracks before.log last
@@ -288,7 +288,7 @@ module _ (opening : Opening) where
 
     lists_rise : (pass : ℕ) (script : List (List AskedLine)) (lists : List (List Told))
         (others : List View)
-        → PlayedAll (opening.setup).segment_size limit pass script lists others
+        → PlayedAll (opening.setup).seg_size limit pass script lists others
         → opening.moment ≤ top → All Rise (map joined_of others) → All Upto (map joined_of others)
         → EachRises opening.moment script lists top
     lists_rise pass [] [] [] played begun rise upto = tt

@@ -2,16 +2,16 @@
 use Rattle.std.proofs.Common.{◌≡◌, ◌≢◌, ℕ, ◌+◌, ◌≤◌, ◌==◌, cond, Bool, true, false, ne_eqb, All, List, [], ◌∷◌, map, Some, None, inl, inr, refl, sym, ap, ◌∙◌, subst, arith}
 use Rattle.std.proofs.lemmas.List.Elements.{All-head, All-tail}
 use Rattle.wal_types.specs.declared.answers.Cause.TheVariants.{Full, Disk, Down}
-use Rattle.wal_script.specs.Asked.{Asked, AskedLine, Insert, Commit, Flush, CommitAsync, WriteBehind, Switch}
-use Rattle.told_lines.specs.declared.told.Told.{Told}
-use Rattle.told_lines.specs.declared.told.Told.TheVariants.{Wrote, Hard, Flushed, Async, Idle, Switched, Stayed, Refused}
-use Rattle.told_lines.specs.Told.{AllDown, IsDownAnswer, SomeAnswer, SomeTold}
-use Rattle.told_lines.specs.Counts.{TellsOneFault, all_own_faults_of, is_own_fault, own_faults_of}
+use Rattle.run_script.specs.Asked.{Asked, AskedLine, Insert, Commit, Flush, CommitAsync, WriteBehind, Switch}
+use Rattle.run_laws.specs.declared.told.Told.{Told}
+use Rattle.run_laws.specs.declared.told.Told.TheVariants.{Wrote, Hard, Flushed, Async, Idle, Switched, Stayed, Refused}
+use Rattle.run_laws.specs.Told.{AllDown, IsDownAnswer, SomeAnswer, SomeTold}
+use Rattle.run_laws.specs.Counts.{TellsOneFault, all_own_faults_of, is_own_fault, own_faults_of}
 use Rattle.wal_page.specs.Order.{Entry}
-use Rattle.wal_core.specs.Durable.{one_if_some, setters_among}
-use Rattle.wal_core.specs.Moves.{joined_of}
-use Rattle.wal_core.specs.Views.{View}
-use Rattle.wal_core.specs.Words.{Opening, down_word, log_limit}
+use Rattle.machine_state.specs.Durable.{one_if_some, setters_among}
+use Rattle.machine_state.specs.Moves.{joined_of}
+use Rattle.machine_state.specs.Views.{View}
+use Rattle.machine_state.specs.Words.{Opening, down_word, log_limit}
 use Rattle.run_laws.specs.Ended.{HasTakenIn, IsClosedLog, IsKnownTo, PlayedAll}
 use Rattle.run_laws.specs.Played.{KnowsFault, Leaves, PassState, PlaysLines, TellsCause, pass_state_of, state_at_first}
 use Rattle.run_laws.proofs.ClosedLogs.{down_is_set}
@@ -205,7 +205,7 @@ pub told_once : (opening : Opening) (order : List Entry) (v : View)
     → IsClosedLog opening order v → (script : List (List AskedLine)) (lists : List (List Told))
     → HasTakenIn opening v script lists → TellsOneFault lists
 told_once opening order v c script lists taken =
-    let size = (opening.setup).segment_size in
+    let size = (opening.setup).seg_size in
     let limit = log_limit opening.setup in
     let counted = all_counted size limit 1 script lists taken.others taken.played in
     let joined = ap setters_among taken.joined in

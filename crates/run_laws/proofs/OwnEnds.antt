@@ -5,7 +5,7 @@ use Rattle.std.proofs.lemmas.Bool.{true≢false}
 use Rattle.std.proofs.lemmas.List.Elements.{All-cons, All-nil}
 use Rattle.wal_page.specs.Order.{Entry, FollowsFrom, position_behind, rooms_of}
 use Rattle.wal_page.proofs.OrderLaws.{room_at-pos, rooms_of_cons}
-use Rattle.wal_core.specs.Ordered.{entries_under, is_pass}
+use Rattle.machine_state.specs.Ordered.{entries_under, is_pass}
 use Rattle.machine_laws.proofs.OrderedEntries.{is_pass_own}
 use Rattle.run_laws.specs.Played.{behind_last_own}
 

@@ -3,11 +3,11 @@ use Rattle.std.proofs.Common.{◌≤◌, inl, inr, All, List, ℕ, sym, subst, a
 use Rattle.std.proofs.lemmas.List.Elements.{All-contains}
 use mathlib.Core.Option.{Option}
 use Rattle.wal_page.specs.Order.{Entry}
-use Rattle.wal_core.specs.Words.{Opening, down_word, end_form, flushed_word, moment_word, order_end}
-use Rattle.wal_core.specs.Views.{HasAt, FlushPromise, Joined, Plain, View, receipts_of}
-use Rattle.wal_core.specs.Durable.{IsPromised, IsToldRightly}
-use Rattle.wal_core.specs.Sound.{IsSound}
-use Rattle.wal_core.proofs.Lists.{part_at}
+use Rattle.machine_state.specs.Words.{Opening, down_word, end_form, flushed_word, moment_word, order_end}
+use Rattle.machine_state.specs.Views.{HasAt, FlushPromise, Joined, Plain, View, receipts_of}
+use Rattle.machine_state.specs.Durable.{IsPromised, IsToldRightly}
+use Rattle.machine_state.specs.Sound.{IsSound}
+use Rattle.machine_state.proofs.Lists.{part_at}
 use Rattle.run_laws.specs.Closed.{WasPromised}
 use Rattle.segment_disk.specs.Tape.{DiskState}
 

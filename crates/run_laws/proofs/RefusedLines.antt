@@ -4,12 +4,12 @@ use Rattle.std.proofs.lemmas.List.Elements.{All-head, All-tail, All-weaker}
 use mathlib.Core.Option.{Option, none, some}
 use Rattle.wal_types.specs.declared.answers.Cause.TheVariants.{Full, Disk, Down}
 use Rattle.wal_page.specs.Order.{Entry}
-use Rattle.wal_script.specs.Asked.{Asked, AskedLine, Insert, Commit, Flush, CommitAsync, WriteBehind, Switch}
-use Rattle.wal_core.specs.Words.{Opening, log_limit}
-use Rattle.wal_core.specs.Views.{View}
-use Rattle.told_lines.specs.declared.told.Told.{Told}
-use Rattle.told_lines.specs.declared.told.Told.TheVariants.{Wrote, Hard, Flushed, Async, Idle, Switched, Stayed, Refused}
-use Rattle.told_lines.specs.Told.{IsFault, IsFullAnswer, IsRefused, Logged, SomeAnswer, SomeTold, TellsAll}
+use Rattle.run_script.specs.Asked.{Asked, AskedLine, Insert, Commit, Flush, CommitAsync, WriteBehind, Switch}
+use Rattle.machine_state.specs.Words.{Opening, log_limit}
+use Rattle.machine_state.specs.Views.{View}
+use Rattle.run_laws.specs.declared.told.Told.{Told}
+use Rattle.run_laws.specs.declared.told.Told.TheVariants.{Wrote, Hard, Flushed, Async, Idle, Switched, Stayed, Refused}
+use Rattle.run_laws.specs.Told.{IsFault, IsFullAnswer, IsRefused, Logged, SomeAnswer, SomeTold, TellsAll}
 use Rattle.run_laws.specs.Ended.{HasTakenIn, IsClosedLog, IsKnownTo, PlayedAll, logged_at_end}
 use Rattle.run_laws.specs.Played.{KnowsFault, Leaves, PassState, PlaysLines, pass_state_of, state_at_first}
 use Rattle.run_laws.proofs.ClosedLogs.{knows_no_fault}
@@ -129,7 +129,7 @@ module _ (opening : Opening) (order : List Entry) (v : View) (c : IsClosedLog op
   pub refused_for_want_of_room : (c.writer).fault ≡ none → SomeTold IsRefused lists
       → SomeTold IsFullAnswer lists
   refused_for_want_of_room up =
-      full_lists (opening.setup).segment_size (log_limit opening.setup) 1 script lists taken.others
+      full_lists (opening.setup).seg_size (log_limit opening.setup) 1 script lists taken.others
       taken.played (All-weaker (IsKnownTo opening v) KnowsNone
       (λ w known faults knows. let more = known.kept faults knows in
       knows_no_fault opening order v c up more.0 more.2) taken.others taken.known)

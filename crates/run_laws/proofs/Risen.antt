@@ -1,9 +1,9 @@
 -- The entries of one number rise, since the order has no gap.
 use Rattle.std.proofs.Common.{ℕ, ◌≤◌, cond, Bool, true, false, List, [], ◌∷◌, arith}
 use Rattle.wal_page.specs.Order.{Entry, FollowsFrom, position_behind}
-use Rattle.wal_core.specs.Words.{Opening}
-use Rattle.wal_core.specs.Views.{Reserving, View}
-use Rattle.wal_core.specs.Ordered.{entries_under, is_pass}
+use Rattle.machine_state.specs.Words.{Opening}
+use Rattle.machine_state.specs.Views.{Reserving, View}
+use Rattle.machine_state.specs.Ordered.{entries_under, is_pass}
 use Rattle.machine_laws.specs.ClosedLogs.{OrderIsAccounted}
 use Rattle.run_laws.specs.Rising.{LogsAreOfOrder, RiseFrom}
 
@@ -30,7 +30,7 @@ pub risen : (opening : Opening) (order : List Entry) (words : List ℕ) (views :
 risen opening order words views r accounted =
     let first = (opening.place).position in
     record {
-      rise = λ number. entries_rise (opening.setup).segment_size number first first order
+      rise = λ number. entries_rise (opening.setup).seg_size number first first order
           accounted.chained (omega arith);
       own = (accounted.part).entries;
       joined = (accounted.part).joined;

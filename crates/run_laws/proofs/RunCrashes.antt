@@ -4,14 +4,14 @@ use Rattle.std.proofs.lemmas.List.Elements.{All-cons, All-head, All-nil, All-tai
 use Rattle.byte_position.specs.Geometry.{IsSegmentSize}
 use Rattle.segment_disk.specs.Tape.{Tape}
 use Rattle.wal_page.specs.Order.{Entry, finish_of}
-use Rattle.wal_script.specs.Asked.{AskedLine}
-use Rattle.wal_core.specs.Words.{Opening, log_limit}
-use Rattle.wal_core.specs.Views.{FlushPromise, Joined, View}
-use Rattle.wal_core.specs.Moves.{joined_of}
-use Rattle.told_lines.specs.declared.told.Told.{Told}
-use Rattle.told_lines.specs.Crash.{EachIsTimely, SaysDurable, SurvivesCrashes}
-use Rattle.told_lines.specs.Told.{SomeTold}
-use Rattle.told_lines.proofs.AnswerLoops.{some_told}
+use Rattle.run_script.specs.Asked.{AskedLine}
+use Rattle.machine_state.specs.Words.{Opening, log_limit}
+use Rattle.machine_state.specs.Views.{FlushPromise, Joined, View}
+use Rattle.machine_state.specs.Moves.{joined_of}
+use Rattle.run_laws.specs.declared.told.Told.{Told}
+use Rattle.run_laws.specs.Crash.{EachIsTimely, SaysDurable, SurvivesCrashes}
+use Rattle.run_laws.specs.Told.{SomeTold}
+use Rattle.run_laws.proofs.AnswerLoops.{some_told}
 use Rattle.machine_laws.specs.WholeOrders.{LiesBehind}
 use Rattle.run_laws.specs.Closed.{IsClosedOn, WasPromised}
 use Rattle.run_laws.specs.Timely.{IsTimely}
@@ -64,11 +64,11 @@ module _ (R : List Entry → FlushPromise → Type 0) where
       (All-tail (λ (w : View). ArePromises R (joined_of w)) w others all) later
 
 all_timely : (opening : Opening) (order : List Entry) (t : Tape) (limit : ℕ)
-    → IsSegmentSize (opening.setup).segment_size → (pass : ℕ)
+    → IsSegmentSize (opening.setup).seg_size → (pass : ℕ)
     (script : List (List AskedLine)) (lists : List (List Told)) (others : List View)
-    → PlayedAll (opening.setup).segment_size limit pass script lists others
+    → PlayedAll (opening.setup).seg_size limit pass script lists others
     → All (λ w. ArePromises (IsTimely opening order t) (joined_of w)) others
-    → EachIsTimely (opening.setup).segment_size opening.moment order t pass script lists
+    → EachIsTimely (opening.setup).seg_size opening.moment order t pass script lists
 all_timely opening order t limit valid pass [] lists others played all = tt
 all_timely opening order t limit valid pass (lines ∷ script) [] others played all = tt
 all_timely opening order t limit valid pass (lines ∷ script) (told ∷ lists) [] played all =
@@ -86,7 +86,7 @@ module _ (opening : Opening) (order : List Entry) (t : Tape) (v : View)
     (c : IsClosedOn opening order t v) (script : List (List AskedLine))
     (lists : List (List Told)) (taken : HasTakenIn opening v script lists) where
   abbrev size : ℕ
-  size = (opening.setup).segment_size
+  size = (opening.setup).seg_size
 
   -- what holds of all that was promised holds of the promises of the passes taken in
   of_others : (R : List Entry → FlushPromise → Type 0)
@@ -100,7 +100,7 @@ module _ (opening : Opening) (order : List Entry) (t : Tape) (v : View)
       (λ p among. each j.entries p (inr (j, there, refl, among))))))
 
   pub survive_told : (front : List Entry) → LiesBehind opening front
-      → SurvivesCrashes (opening.setup).segment_size opening.moment (front ++ order) lists t
+      → SurvivesCrashes (opening.setup).seg_size opening.moment (front ++ order) lists t
   survive_told front lies moment image since left torn found answer decodes =
       let f = survive opening order t v c front lies moment image since left torn found answer
       decodes in
@@ -116,7 +116,7 @@ module _ (opening : Opening) (order : List Entry) (t : Tape) (v : View)
       }
 
   timely_told : (whole : List Entry)
-      → EachIsTimely (opening.setup).segment_size opening.moment whole t 1 script lists
+      → EachIsTimely (opening.setup).seg_size opening.moment whole t 1 script lists
   timely_told whole =
       all_timely opening whole t (log_limit opening.setup) ((c.sound).setup_is).size 1 script lists
       taken.others taken.played
@@ -126,13 +126,13 @@ pub told_survive : (opening : Opening) (order : List Entry) (t : Tape) (v : View
     → IsClosedOn opening order t v → (front : List Entry) → LiesBehind opening front
     → (script : List (List AskedLine)) (lists : List (List Told))
     → HasTakenIn opening v script lists
-    → SurvivesCrashes (opening.setup).segment_size opening.moment (front ++ order) lists t
+    → SurvivesCrashes (opening.setup).seg_size opening.moment (front ++ order) lists t
 told_survive opening order t v c front lies script lists taken =
     survive_told opening order t v c script lists taken front lies
 
 pub told_timely : (opening : Opening) (order : List Entry) (t : Tape) (v : View)
     → IsClosedOn opening order t v → (whole : List Entry) (script : List (List AskedLine))
     (lists : List (List Told)) → HasTakenIn opening v script lists
-    → EachIsTimely (opening.setup).segment_size opening.moment whole t 1 script lists
+    → EachIsTimely (opening.setup).seg_size opening.moment whole t 1 script lists
 told_timely opening order t v c whole script lists taken =
     timely_told opening order t v c script lists taken whole

@@ -6,16 +6,16 @@ use Rattle.wal_page.specs.Order.{Entry}
 use Rattle.byte_position.specs.Geometry.{IsSegmentSize}
 use Rattle.wal_page.proofs.OrderLaws.{room_at-pos}
 use Rattle.wal_page.specs.Order.{position_behind}
-use Rattle.wal_script.specs.Asked.{AskedLine}
-use Rattle.wal_core.specs.Words.{Opening, log_limit}
-use Rattle.wal_core.specs.Views.{Joined, View}
-use Rattle.wal_core.specs.Moves.{joined_of}
-use Rattle.wal_core.specs.Ordered.{entries_under, TookIn}
+use Rattle.run_script.specs.Asked.{AskedLine}
+use Rattle.machine_state.specs.Words.{Opening, log_limit}
+use Rattle.machine_state.specs.Views.{Joined, View}
+use Rattle.machine_state.specs.Moves.{joined_of}
+use Rattle.machine_state.specs.Ordered.{entries_under, TookIn}
 use Rattle.machine_laws.specs.ClosedLogs.{OrderIsAccounted}
 use Rattle.run_laws.specs.Rising.{RiseFrom}
 use Rattle.run_laws.proofs.Risen.{risen}
-use Rattle.told_lines.specs.declared.told.Told.{Told}
-use Rattle.told_lines.specs.Told.{entries_from, entries_of, order_from, sorted_by_start, IsRising, RiseInLineOrder}
+use Rattle.run_laws.specs.declared.told.Told.{Told}
+use Rattle.run_laws.specs.Told.{entries_from, entries_of, order_from, sorted_by_start, IsRising, RiseInLineOrder}
 use Rattle.run_laws.specs.Played.{PlaysAllLines, state_at_first, pass_state_of}
 use Rattle.run_laws.specs.Ended.{HasTakenIn, IsClosedLog, PlayedAll}
 use Rattle.run_laws.proofs.LineEntries.{lines_entries}
@@ -103,12 +103,12 @@ module _ (opening : Opening) (order : List Entry) (v : View) (c : IsClosedLog op
     (script : List (List AskedLine)) (lists : List (List Told))
     (taken : HasTakenIn opening v script lists) where
   abbrev size : ℕ
-  size = (opening.setup).segment_size
+  size = (opening.setup).seg_size
 
-  pub valid : IsSegmentSize (opening.setup).segment_size
+  pub valid : IsSegmentSize (opening.setup).seg_size
   valid = ((c.sound).setup_is).size
 
-  pub at_place : IsPlace (opening.setup).segment_size opening.place
+  pub at_place : IsPlace (opening.setup).seg_size opening.place
   at_place = ((c.sound).reserved).placed
 
   pub accounted : OrderIsAccounted opening order c.words c.views v.reserving
@@ -141,7 +141,7 @@ module _ (opening : Opening) (order : List Entry) (v : View) (c : IsClosedLog op
             below t.1,
       ))
 
-  pub told_order : order_from (opening.setup).segment_size 1 script lists ≡ order
+  pub told_order : order_from (opening.setup).seg_size 1 script lists ≡ order
   told_order =
       let passes = length taken.others in
       ap sorted_by_start (all_entries size (log_limit opening.setup) valid order 1 script lists
@@ -149,7 +149,7 @@ module _ (opening : Opening) (order : List Entry) (v : View) (c : IsClosedLog op
       ∙ sorted_under size (opening.place).position 1 passes order accounted.chained
       accounted.owned none_outside
 
-  pub told_rise : RiseInLineOrder (opening.setup).segment_size 1 script lists
+  pub told_rise : RiseInLineOrder (opening.setup).seg_size 1 script lists
   told_rise =
       let rise = (risen opening order c.words c.views v.reserving accounted).rise in
       all_rise size (log_limit opening.setup) valid order

@@ -5,15 +5,15 @@ use mathlib.Core.Option.{some}
 use Rattle.byte_position.specs.Geometry.{IsSegmentSize}
 use Rattle.wal_page.specs.LogPlace.{IsPlace}
 use Rattle.wal_page.specs.Order.{Entry}
-use Rattle.wal_script.specs.Asked.{AskedLine}
-use Rattle.wal_core.specs.Words.{GoesOnAtPlace, Opening, down_word, end_form, flushed_word, log_limit, moment_word, order_end}
-use Rattle.wal_core.specs.Views.{FlushPromise, Joined, View}
-use Rattle.wal_core.specs.Durable.{IsPromised}
-use Rattle.wal_core.specs.Moves.{joined_of}
-use Rattle.wal_core.specs.Ordered.{FrontEndsAt}
+use Rattle.run_script.specs.Asked.{AskedLine}
+use Rattle.machine_state.specs.Words.{GoesOnAtPlace, Opening, down_word, end_form, flushed_word, log_limit, moment_word, order_end}
+use Rattle.machine_state.specs.Views.{FlushPromise, Joined, View}
+use Rattle.machine_state.specs.Durable.{IsPromised}
+use Rattle.machine_state.specs.Moves.{joined_of}
+use Rattle.machine_state.specs.Ordered.{FrontEndsAt}
 use Rattle.run_laws.proofs.Promises.{told_rightly}
-use Rattle.told_lines.specs.declared.told.Told.{Told}
-use Rattle.told_lines.specs.Told.{IsFault, Logged, TellsAll}
+use Rattle.run_laws.specs.declared.told.Told.{Told}
+use Rattle.run_laws.specs.Told.{IsFault, Logged, TellsAll}
 use Rattle.run_laws.specs.Played.{KnowsFault, state_at_first, pass_state_of}
 use Rattle.run_laws.specs.Ended.{HasTakenIn, IsClosedLog, IsKnownTo, PlayedAll, logged_at_end}
 use Rattle.run_laws.proofs.RunOrder.{accounted, at_place, unmapped, valid}
@@ -30,7 +30,7 @@ ArePromised opening order j = All (IsWithin opening order) j.promises
 abbrev AreFilled : Opening → List Entry → Joined → Type 0
 AreFilled opening order j = All (FrontEndsAt opening j.number order j.entries) j.stops
 
-module _ (opening : Opening) (placed : IsPlace (opening.setup).segment_size opening.place)
+module _ (opening : Opening) (placed : IsPlace (opening.setup).seg_size opening.place)
     (order : List Entry) (last : ℕ) where
   -- a pass of which both hold, which knows faults that the disk told, and saw what was reserved
   record IsRight (w : View) : Type 0 where
@@ -40,10 +40,10 @@ module _ (opening : Opening) (placed : IsPlace (opening.setup).segment_size open
         → IsFault (logged_at_end opening order last) faults
     seen_low : (w.reserving).seen ≤ order_end opening order
 
-  all_tell : IsSegmentSize (opening.setup).segment_size
+  all_tell : IsSegmentSize (opening.setup).seg_size
       → GoesOnAtPlace opening order → (pass : ℕ)
       (script : List (List AskedLine)) (lists : List (List Told)) (others : List View)
-      → PlayedAll (opening.setup).segment_size (log_limit opening.setup) pass script lists others
+      → PlayedAll (opening.setup).seg_size (log_limit opening.setup) pass script lists others
       → All IsRight others
       → TellsAll (logged_at_end opening order last) pass script lists
   all_tell size_is follows pass [] [] [] played right = tt
@@ -70,7 +70,7 @@ module _ (opening : Opening) (order : List Entry) (v : View) (c : IsClosedLog op
     (taken : HasTakenIn opening v script lists) (last : ℕ)
     (counted : (faults : ℕ) → (c.writer).fault ≡ some faults → faults ≤ last) where
   abbrev size : ℕ
-  size = (opening.setup).segment_size
+  size = (opening.setup).seg_size
 
   abbrev logged : Logged
   logged = logged_at_end opening order last

@@ -4,10 +4,10 @@ use Rattle.std.proofs.lemmas.Bool.{le-leb, lt-leb}
 use Rattle.std.proofs.lemmas.List.Elements.{All-head, All-tail}
 use Rattle.wal_page.specs.Order.{Entry, FollowsFrom, position_behind}
 use Rattle.wal_page.proofs.OrderLaws.{room_at-pos}
-use Rattle.wal_core.specs.Ordered.{entries_under, is_pass}
+use Rattle.machine_state.specs.Ordered.{entries_under, is_pass}
 use Rattle.machine_laws.proofs.OrderedEntries.{is_pass_own, is_pass_other}
 use Rattle.machine_laws.proofs.OrderUnique.{named}
-use Rattle.told_lines.specs.Told.{insert_by_start, sorted_by_start}
+use Rattle.run_laws.specs.Told.{insert_by_start, sorted_by_start}
 
 -- each starts behind a position
 abbrev AreBehind : ℕ → List Entry → Type 0

@@ -4,14 +4,14 @@ use Rattle.std.proofs.lemmas.List.{map-append}
 use Rattle.std.proofs.lemmas.List.Elements.{All-nil, All-push, All-weaker}
 use mathlib.Core.Option.{Option, some}
 use Rattle.segment_disk.specs.Cause.{Rose}
-use Rattle.wal_script.specs.Asked.{AskedLine}
-use Rattle.wal_core.specs.Words.{Opening, log_limit}
-use Rattle.wal_core.specs.Views.{HasAt, Joined, Plain, View}
-use Rattle.wal_core.specs.Moves.{after_join, joined_of}
-use Rattle.wal_core.specs.Sound.{IsSound}
+use Rattle.run_script.specs.Asked.{AskedLine}
+use Rattle.machine_state.specs.Words.{Opening, log_limit}
+use Rattle.machine_state.specs.Views.{HasAt, Joined, Plain, View}
+use Rattle.machine_state.specs.Moves.{after_join, joined_of}
+use Rattle.machine_state.specs.Sound.{IsSound}
 use Rattle.machine_laws.specs.ClosedLogs.{IsClosed, IsLastPass}
 use Rattle.machine_laws.proofs.ClosingLaws.{closed}
-use Rattle.told_lines.specs.declared.told.Told.{Told}
+use Rattle.run_laws.specs.declared.told.Told.{Told}
 use Rattle.run_laws.specs.Played.{KnowsFault, PlaysAllLines, pass_state_of}
 use Rattle.run_laws.specs.Ended.{HasTakenIn, IsClosedLog, IsKnownTo, KnowsAtLeast, PlayedAll}
 use Rattle.segment_disk.specs.Tape.{DiskState}
@@ -115,7 +115,7 @@ pub one_more_taken_in : (opening : Opening) (v w : View) (script : List (List As
     (lists : List (List Told)) (lines : List AskedLine) (told : List Told)
     → HasTakenIn opening v script lists → (w.reserving).number ≡ 1 + length script
     → (w.reserving).joined ≡ []
-    → PlaysAllLines (opening.setup).segment_size (log_limit opening.setup) (1 + length script)
+    → PlaysAllLines (opening.setup).seg_size (log_limit opening.setup) (1 + length script)
     lines told (pass_state_of w)
     → ((faults : ℕ) → KnowsFault faults (pass_state_of w) → Rose opening.faults faults)
     → (v.writing).down_set ≡ 0
@@ -144,7 +144,7 @@ one_more_taken_in opening v w script lists lines told taken number alone plays r
             first_set_none = λ faults k. none;
             seen = omega arith;
           });
-      played = played_push (opening.setup).segment_size (log_limit opening.setup) 1 script lists
+      played = played_push (opening.setup).seg_size (log_limit opening.setup) 1 script lists
           taken.others lines told w taken.played number plays;
     }
 

@@ -6,22 +6,22 @@ use Rattle.byte_position.specs.Geometry.{IsSegmentSize}
 use Rattle.byte_position.specs.Position.{position_of, address_of, end_address_of, first_position}
 use Rattle.byte_position.proofs.EndAddresses.{end_address_of-mono}
 use Rattle.byte_position.proofs.PositionLaws.{position_of-address_of}
-use Rattle.record_spelling.specs.Record.{switch_record}
+use Rattle.wal_spelling.specs.Record.{switch_record}
 use Rattle.wal_types.specs.declared.answers.Cause.{Cause}
 use Rattle.wal_types.specs.declared.answers.Cause.TheVariants.{Full, Disk, Down}
 use Rattle.wal_types.specs.declared.lsn.Lsn.{Lsn}
 use Rattle.wal_types.specs.declared.record.Record.{Record}
 use Rattle.wal_page.specs.LogPlace.{IsPlace}
 use Rattle.wal_page.specs.Order.{Entry, position_behind, room_at}
-use Rattle.wal_script.specs.Asked.{Asked, AskedLine, Insert, Commit, Flush, CommitAsync, WriteBehind, Switch}
-use Rattle.wal_core.specs.Views.{Stop, FlushPromise}
-use Rattle.wal_core.specs.Words.{GoesOnAtPlace, Opening, end_form, log_limit, order_end}
-use Rattle.wal_core.specs.Ordered.{FrontEndsAt}
-use Rattle.told_lines.specs.declared.told.Told.{Told}
-use Rattle.told_lines.specs.declared.told.Told.TheVariants.{Wrote, Hard, Flushed, Async, Idle, Switched, Stayed, Refused}
-use Rattle.told_lines.specs.Told.{FitsLine, IsFault, IsPlaced, LeavesFew, Logged, MayRefuseFlush, MayRefuseRecord, TellsFrom, behind_or, entries_of, entry_of, front_end}
-use Rattle.told_lines.proofs.AllLaws.{parts_all}
-use Rattle.wal_core.specs.PassLogs.{PassLog, log_with_promise}
+use Rattle.run_script.specs.Asked.{Asked, AskedLine, Insert, Commit, Flush, CommitAsync, WriteBehind, Switch}
+use Rattle.machine_state.specs.Views.{Stop, FlushPromise}
+use Rattle.machine_state.specs.Words.{GoesOnAtPlace, Opening, end_form, log_limit, order_end}
+use Rattle.machine_state.specs.Ordered.{FrontEndsAt}
+use Rattle.run_laws.specs.declared.told.Told.{Told}
+use Rattle.run_laws.specs.declared.told.Told.TheVariants.{Wrote, Hard, Flushed, Async, Idle, Switched, Stayed, Refused}
+use Rattle.run_laws.specs.Told.{FitsLine, IsFault, IsPlaced, LeavesFew, Logged, MayRefuseFlush, MayRefuseRecord, TellsFrom, behind_or, entries_of, entry_of, front_end}
+use Rattle.run_laws.proofs.AllLaws.{parts_all}
+use Rattle.machine_state.specs.PassLogs.{PassLog, log_with_promise}
 use Rattle.run_laws.specs.Played.{KnowsFault, Leaves, PassState, PlaysLines, RefusesFlushLine, RefusesRecordLine, RefusesSwitchLine, Reserves, ReservesUpto, behind_last_own}
 use Rattle.run_laws.specs.Ended.{logged_at_end}
 use Rattle.run_laws.proofs.FullLines.{full_cause, stay_cause}
@@ -37,11 +37,11 @@ behind_more size behind [] None = refl
 behind_more size behind [] (Some e) = refl
 behind_more size behind (f ∷ es) e = behind_more size (position_behind size f) es e
 
-module _ (opening : Opening) (placed : IsPlace (opening.setup).segment_size opening.place)
-    (order : List Entry) (last pass : ℕ) (valid : IsSegmentSize (opening.setup).segment_size)
+module _ (opening : Opening) (placed : IsPlace (opening.setup).seg_size opening.place)
+    (order : List Entry) (last pass : ℕ) (valid : IsSegmentSize (opening.setup).seg_size)
     (follows : GoesOnAtPlace opening order) (all : List Entry) where
   abbrev pub size : ℕ
-  size = (opening.setup).segment_size
+  size = (opening.setup).seg_size
 
   abbrev pub limit : ℕ
   limit = log_limit opening.setup
@@ -50,7 +50,7 @@ module _ (opening : Opening) (placed : IsPlace (opening.setup).segment_size open
   logged = logged_at_end opening order last
 
   abbrev first : ℕ
-  first = first_position (opening.setup).segment_size
+  first = first_position (opening.setup).seg_size
 
   -- each promise is of what was reserved
   abbrev pub IsWithin : FlushPromise → Type 0

@@ -4,19 +4,19 @@ use Rattle.std.proofs.lemmas.List.Elements.{All-weaker}
 use mathlib.Core.Option.{some}
 use Rattle.byte_position.specs.Geometry.{IsSegmentSize}
 use Rattle.byte_position.specs.Position.{position_of}
-use Rattle.record_spelling.specs.Spelling.{assembled}
+use Rattle.wal_spelling.specs.Spelling.{assembled}
 use Rattle.segment_disk.specs.declared.disk.Call.{Call}
 use Rattle.segment_disk.specs.declared.disk.CallKind.{CallKind}
 use Rattle.segment_disk.specs.declared.disk.CallKind.TheVariants.{Create, Write, Sync}
 use Rattle.segment_disk.specs.Tape.{Tape}
 use Rattle.wal_page.specs.Order.{Entry}
 use Rattle.wal_page.proofs.OwnerLaws.{Owns-between, owner_of-found}
-use Rattle.wal_core.specs.Words.{Opening}
-use Rattle.wal_core.specs.Views.{FlushPromise, View}
-use Rattle.wal_core.specs.Durable.{PutsNone}
+use Rattle.machine_state.specs.Words.{Opening}
+use Rattle.machine_state.specs.Views.{FlushPromise, View}
+use Rattle.machine_state.specs.Durable.{PutsNone}
 use Rattle.run_laws.specs.Closed.{IsClosedOn, WasPromised}
 use Rattle.run_laws.specs.Timely.{IsTimely}
-use Rattle.told_lines.specs.Crash.{WritesNoWord, WritesNone}
+use Rattle.run_laws.specs.Crash.{WritesNoWord, WritesNone}
 use Rattle.run_laws.proofs.ClosedDisk.{moment_passed, promise_held, promise_since, valid}
 use Rattle.run_laws.proofs.Promises.{within_words}
 
@@ -35,7 +35,7 @@ pub timely : (opening : Opening) (order : List Entry) (t : Tape) (v : View)
     → IsClosedOn opening order t v → (whole entries : List Entry) (p : FlushPromise)
     → WasPromised v entries p → IsTimely opening whole t entries p
 timely opening order t v c whole entries p was =
-    let size = (opening.setup).segment_size in
+    let size = (opening.setup).seg_size in
     let held = promise_held opening order t v c entries p was in
     record {
       since = promise_since opening order t v c entries p was;

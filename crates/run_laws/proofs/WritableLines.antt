@@ -1,10 +1,10 @@
 -- Where a script's lines were played, the records that they ask for can be inserted.
 use Rattle.std.proofs.Common.{ℕ, ◌+◌, All, List, [], ◌∷◌}
 use Rattle.std.proofs.lemmas.List.Elements.{All-cons, All-nil}
-use Rattle.wal_script.specs.Asked.{AskedLine}
-use Rattle.wal_script.specs.Writable.{AsksWritable}
-use Rattle.wal_core.specs.Views.{View}
-use Rattle.told_lines.specs.declared.told.Told.{Told}
+use Rattle.run_script.specs.Asked.{AskedLine}
+use Rattle.run_script.specs.Writable.{AsksWritable}
+use Rattle.machine_state.specs.Views.{View}
+use Rattle.run_laws.specs.declared.told.Told.{Told}
 use Rattle.run_laws.specs.Ended.{PlayedAll}
 use Rattle.run_laws.specs.Played.{PassState, PlaysLines, pass_state_of, state_at_first}
 

@@ -7,20 +7,20 @@ use Rattle.segment_disk.specs.ImageWords.{image_word}
 use Rattle.segment_disk.specs.Tape.{DiskState, Tape, state_now}
 use Rattle.wal_page.specs.Log.{IsLawfulWord}
 use Rattle.wal_page.specs.Order.{Entry, IsChained}
-use Rattle.wal_core.specs.Durable.{IsFirm}
-use Rattle.wal_core.specs.Sound.{IsSound}
-use Rattle.wal_core.specs.Suited.{IsSuited, tape_from}
-use Rattle.wal_core.specs.Views.{HasAt, Plain, View}
-use Rattle.wal_core.specs.Words.{GoesOnAtPlace, Opening, found_end, found_position, log_limit}
+use Rattle.machine_state.specs.Durable.{IsFirm}
+use Rattle.machine_state.specs.Sound.{IsSound}
+use Rattle.machine_state.specs.Suited.{IsSuited, tape_from}
+use Rattle.machine_state.specs.Views.{HasAt, Plain, View}
+use Rattle.machine_state.specs.Words.{GoesOnAtPlace, Opening, found_end, found_position, log_limit}
 use Rattle.machine_laws.specs.Crashes.{LeavesLawful}
-use Rattle.wal_script.specs.Asked.{AskedLine}
-use Rattle.told_lines.specs.declared.told.Told.{Told}
-use Rattle.told_lines.specs.Told.{EachStaysDown, IsFullAnswer, RiseInLineOrder, SomeTold, TellsAll, order_from}
-use Rattle.told_lines.specs.Counts.{TellsOneFault}
-use Rattle.told_lines.specs.Moments.{EachRises}
-use Rattle.told_lines.specs.CatchingUp.{EachCatchesUp}
-use Rattle.told_lines.specs.Crash.{EachIsTimely, KeepsFound, SaysDurable, SurvivesCrashes}
-use Rattle.told_lines.specs.Rooms.{all_rooms_asked}
+use Rattle.run_script.specs.Asked.{AskedLine}
+use Rattle.run_laws.specs.declared.told.Told.{Told}
+use Rattle.run_laws.specs.Told.{EachStaysDown, IsFullAnswer, RiseInLineOrder, SomeTold, TellsAll, order_from}
+use Rattle.run_laws.specs.Counts.{TellsOneFault}
+use Rattle.run_laws.specs.Moments.{EachRises}
+use Rattle.run_laws.specs.CatchingUp.{EachCatchesUp}
+use Rattle.run_laws.specs.Crash.{EachIsTimely, KeepsFound, SaysDurable, SurvivesCrashes}
+use Rattle.run_laws.specs.Rooms.{all_rooms_asked}
 use Rattle.run_laws.specs.Ended.{HasTakenIn, logged_at_end}
 
 -- the whole order, where what lies below the opening's place is known entry by entry: these, and
@@ -68,7 +68,7 @@ pub record IsMachineRun (opening : Opening) (now : Option Tape) (moment : ℕ)
   pub id : ℕ
   pub view : View
   pub sound : IsSound first opening words (some writer) views
-  pub order_is : sound.order ≡ order_from (opening.setup).segment_size 1 script lists
+  pub order_is : sound.order ≡ order_from (opening.setup).seg_size 1 script lists
   pub tape_is : tape_from first writer.calls ≡ now
   pub moment_is : writer.moment ≡ moment
   pub here : HasAt views id view
@@ -88,34 +88,34 @@ pub record RunAssures (opening : Opening) (began now : Option Tape) (moment faul
     (script : List (List AskedLine)) (lists : List (List Told)) : Type 0 where
   pub machine : IsMachineRun opening now moment script lists
   pub told : TellsAll (logged_at_end opening
-      (order_from (opening.setup).segment_size 1 script lists) faults) 1 script lists
+      (order_from (opening.setup).seg_size 1 script lists) faults) 1 script lists
   pub stays_down : EachStaysDown lists
   pub one_fault : TellsOneFault lists
-  pub gapless : GoesOnAtPlace opening (order_from (opening.setup).segment_size 1 script lists)
-  pub in_line_order : RiseInLineOrder (opening.setup).segment_size 1 script lists
+  pub gapless : GoesOnAtPlace opening (order_from (opening.setup).seg_size 1 script lists)
+  pub in_line_order : RiseInLineOrder (opening.setup).seg_size 1 script lists
   pub caught_up : EachCatchesUp script lists
   pub moments : EachRises opening.moment script lists moment
   pub goes_on : TapeGoesOn began now
   pub firm : HoldsSuited opening began → IfSome now (KeepsToldWords opening
-      (order_from (opening.setup).segment_size 1 script lists) lists)
+      (order_from (opening.setup).seg_size 1 script lists) lists)
   pub only_log : HoldsSuited opening began → IfSome now (LeavesLawful opening
-      (order_from (opening.setup).segment_size 1 script lists) 0 opening.moment)
+      (order_from (opening.setup).seg_size 1 script lists) 0 opening.moment)
   pub no_late_receipt : HoldsSuited opening began → IfSome now
-      (λ t. EachIsTimely (opening.setup).segment_size opening.moment
-      (order_from (opening.setup).segment_size 1 script lists) t 1 script lists)
+      (λ t. EachIsTimely (opening.setup).seg_size opening.moment
+      (order_from (opening.setup).seg_size 1 script lists) t 1 script lists)
   pub full : SomeTold IsFullAnswer lists → log_limit opening.setup
-      < found_position opening + all_rooms_asked (opening.setup).segment_size script
+      < found_position opening + all_rooms_asked (opening.setup).seg_size script
 
 -- .. and besides, where these entries lie below the place: what crashes leave of the whole order
 pub record AssuresBehind (opening : Opening) (front : List Entry) (began now : Option Tape)
     (script : List (List AskedLine)) (lists : List (List Told)) : Type 0 where
-  pub gapless : IsChained (opening.setup).segment_size
-      (order_told front (opening.setup).segment_size script lists)
-  pub words : HoldsSuited opening began → IfSome now (LeavesLogWords (opening.setup).segment_size
-      (opening.setup).sysid (order_told front (opening.setup).segment_size script lists)
+  pub gapless : IsChained (opening.setup).seg_size
+      (order_told front (opening.setup).seg_size script lists)
+  pub words : HoldsSuited opening began → IfSome now (LeavesLogWords (opening.setup).seg_size
+      (opening.setup).sysid (order_told front (opening.setup).seg_size script lists)
       opening.moment)
-  pub crash : HoldsSuited opening began → IfSome now (SurvivesCrashes (opening.setup).segment_size
-      opening.moment (order_told front (opening.setup).segment_size script lists) lists)
+  pub crash : HoldsSuited opening began → IfSome now (SurvivesCrashes (opening.setup).seg_size
+      opening.moment (order_told front (opening.setup).seg_size script lists) lists)
   pub keeps_found : HoldsSuited opening began → IfSome now (KeepsFound
-      (opening.setup).segment_size opening.moment
-      (order_told front (opening.setup).segment_size script lists) front)
+      (opening.setup).seg_size opening.moment
+      (order_told front (opening.setup).seg_size script lists) front)

@@ -3,10 +3,10 @@ use Rattle.std.specs.Prelude.{◌≡◌, ◌⊎◌, ℕ, ◌^◌, ◌<◌, Conta
 use mathlib.Core.Option.{some}
 use Rattle.segment_disk.specs.Tape.{Tape}
 use Rattle.wal_page.specs.Order.{Entry}
-use Rattle.wal_core.specs.Words.{Opening}
-use Rattle.wal_core.specs.Suited.{BeganSuited}
-use Rattle.wal_core.specs.Views.{HasAt, FlushPromise, Joined, Plain, View}
-use Rattle.wal_core.specs.Sound.{IsSound}
+use Rattle.machine_state.specs.Words.{Opening}
+use Rattle.machine_state.specs.Suited.{BeganSuited}
+use Rattle.machine_state.specs.Views.{HasAt, FlushPromise, Joined, Plain, View}
+use Rattle.machine_state.specs.Sound.{IsSound}
 use Rattle.machine_laws.specs.ClosedLogs.{IsClosed}
 
 -- a log with this order was closed in a sound state, in which this was the last pass, with its

@@ -1,13 +1,13 @@
 -- A run of several backends whose log was closed.
 use Rattle.std.specs.Prelude.{◌≡◌, ◌⊎◌, ℕ, ◌^◌, ◌<◌, Contains, List, length, IfSome, Option}
 use Rattle.segment_disk.specs.Tape.{Tape}
-use Rattle.wal_core.specs.Words.{Opening}
-use Rattle.wal_core.specs.Views.{FlushPromise, View}
+use Rattle.machine_state.specs.Words.{Opening}
+use Rattle.machine_state.specs.Views.{FlushPromise, View}
 use Rattle.wal_rule.specs.Closing.{ClosesWith}
 use Rattle.wal_rule.specs.Downs.{KnowsDown}
 use Rattle.wal_rule.specs.declared.writer.LogWriter.{LogWriter}
-use Rattle.wal_script.specs.Asked.{AskedLine}
-use Rattle.told_lines.specs.declared.told.Told.{Told}
+use Rattle.run_script.specs.Asked.{AskedLine}
+use Rattle.run_laws.specs.declared.told.Told.{Told}
 use Rattle.run_laws.specs.Ended.{HasTakenIn}
 use Rattle.run_laws.specs.Reached.{ReachesAll}
 

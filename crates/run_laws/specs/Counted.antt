@@ -1,7 +1,7 @@
 -- Counts of answers of several backends.
 use Rattle.std.specs.Prelude.{ℕ, ◌+◌, List, [], ◌∷◌}
-use Rattle.told_lines.specs.declared.told.Told.{Told}
-use Rattle.told_lines.specs.Counts.{reserved_count}
+use Rattle.run_laws.specs.declared.told.Told.{Told}
+use Rattle.run_laws.specs.Counts.{reserved_count}
 
 -- how many answers say that a record was reserved
 abbrev pub all_reserved_count : List (List Told) → ℕ

@@ -5,13 +5,13 @@ use mathlib.Core.Option.{some}
 use Rattle.segment_disk.specs.Cause.{Rose}
 use Rattle.segment_disk.specs.Tape.{DiskState}
 use Rattle.wal_page.specs.Order.{Entry}
-use Rattle.wal_script.specs.Asked.{AskedLine}
-use Rattle.told_lines.specs.declared.told.Told.{Told}
-use Rattle.told_lines.specs.Told.{Logged}
-use Rattle.wal_core.specs.Words.{Opening, found_position, log_limit}
-use Rattle.wal_core.specs.Views.{HasAt, Plain, View}
-use Rattle.wal_core.specs.Moves.{joined_of}
-use Rattle.wal_core.specs.Sound.{IsSound}
+use Rattle.run_script.specs.Asked.{AskedLine}
+use Rattle.run_laws.specs.declared.told.Told.{Told}
+use Rattle.run_laws.specs.Told.{Logged}
+use Rattle.machine_state.specs.Words.{Opening, found_position, log_limit}
+use Rattle.machine_state.specs.Views.{HasAt, Plain, View}
+use Rattle.machine_state.specs.Moves.{joined_of}
+use Rattle.machine_state.specs.Sound.{IsSound}
 use Rattle.machine_laws.specs.ClosedLogs.{IsClosed}
 use Rattle.run_laws.specs.Played.{KnowsFault, PassState, PlaysAllLines, pass_state_of}
 
@@ -62,14 +62,14 @@ pub record HasTakenIn (opening : Opening) (v : View) (script : List (List AskedL
   pub none : (v.reserving).entries ≡ []
   pub joined : (v.reserving).joined ≡ map joined_of others
   pub known : All (IsKnownTo opening v) others
-  pub played : PlayedAll (opening.setup).segment_size (log_limit opening.setup) 1 script lists
+  pub played : PlayedAll (opening.setup).seg_size (log_limit opening.setup) 1 script lists
       others
 
 -- the log that lines are told of, with its order since the opening, where its disk's count of
 -- faults was `last` at the end
 abbrev pub logged_at_end : Opening → (order : List Entry) → ℕ → Logged
 logged_at_end opening order last = record {
-  size = (opening.setup).segment_size;
+  size = (opening.setup).seg_size;
   limit = log_limit opening.setup;
   start = found_position opening;
   order = order;

@@ -1,7 +1,7 @@
 -- The latest moment that passes which were taken in were promised.
 use Rattle.std.specs.Prelude.{ℕ, ◌≤◌, All}
-use Rattle.wal_core.specs.Words.{Opening}
-use Rattle.wal_core.specs.Views.{FlushPromise, Joined, View}
+use Rattle.machine_state.specs.Words.{Opening}
+use Rattle.machine_state.specs.Views.{FlushPromise, Joined, View}
 
 -- neither the opening's moment nor any that a pass which this view took in was promised is later
 pub record NoneIsLater (opening : Opening) (last : ℕ) (v : View) : Type 0 where

@@ -1,3 +1,12 @@
+pub mod Told
+pub mod Answered
+pub mod Counts
+pub mod Moments
+pub mod Crash
+pub mod WholeOrders
+pub mod Rooms
+pub mod CatchingUp
+pub mod Kept
 pub mod Played
 pub mod Ended
 pub mod Counted

@@ -3,18 +3,18 @@
 use Rattle.std.specs.Prelude.{◌≡◌, ◌≢◌, ◌⊎◌, ℕ, ◌+◌, ◌*◌, ◌/◌, ◌%◌, ◌<◌, ◌≤◌, All, List, [], ◌∷◌, Option, Some, None}
 use Rattle.wal_types.specs.declared.lsn.Lsn.{Lsn}
 use Rattle.wal_types.specs.declared.record.Record.{Record}
-use Rattle.record_spelling.specs.Record.{switch_record}
+use Rattle.wal_spelling.specs.Record.{switch_record}
 use Rattle.wal_types.specs.declared.answers.Cause.{Cause}
 use Rattle.wal_types.specs.declared.answers.Cause.TheVariants.{Full, Disk, Down}
 use Rattle.byte_position.specs.Position.{end_address_of, first_position}
 use Rattle.wal_page.specs.Order.{Entry, finish_of, position_behind, room_at, start_of}
-use Rattle.wal_script.specs.Asked.{Asked, AskedLine, Insert, Commit, Flush, CommitAsync, WriteBehind, Switch}
-use Rattle.wal_script.specs.Writable.{AsksWritable}
-use Rattle.told_lines.specs.declared.told.Told.{Told}
-use Rattle.told_lines.specs.declared.told.Told.TheVariants.{Wrote, Hard, Flushed, Async, Idle, Switched, Stayed, Refused}
-use Rattle.wal_core.specs.Views.{FlushPromise, View}
-use Rattle.wal_core.specs.Moves.{entry_reserved}
-use Rattle.wal_core.specs.PassLogs.{PassLog, log_of_view, log_with_entry, log_with_full, log_with_promise, log_with_stay}
+use Rattle.run_script.specs.Asked.{Asked, AskedLine, Insert, Commit, Flush, CommitAsync, WriteBehind, Switch}
+use Rattle.run_script.specs.Writable.{AsksWritable}
+use Rattle.run_laws.specs.declared.told.Told.{Told}
+use Rattle.run_laws.specs.declared.told.Told.TheVariants.{Wrote, Hard, Flushed, Async, Idle, Switched, Stayed, Refused}
+use Rattle.machine_state.specs.Views.{FlushPromise, View}
+use Rattle.machine_state.specs.Moves.{entry_reserved}
+use Rattle.machine_state.specs.PassLogs.{PassLog, log_of_view, log_with_entry, log_with_full, log_with_promise, log_with_stay}
 
 -- what a pass has between two lines: its log, the down values that it met and set, 0 for none, the
 -- highest async address that it met, and the byte position up to which it saw records reserved

@@ -1,7 +1,7 @@
 -- That an address is no less than each end that lines were told.
 use Rattle.std.specs.Prelude.{ℕ, ◌≤◌, All, List}
-use Rattle.told_lines.specs.declared.told.Told.{Told}
-use Rattle.told_lines.specs.declared.told.Told.TheVariants.{Wrote, Hard, Flushed, Async, Idle, Switched, Stayed, Refused}
+use Rattle.run_laws.specs.declared.told.Told.{Told}
+use Rattle.run_laws.specs.declared.told.Told.TheVariants.{Wrote, Hard, Flushed, Async, Idle, Switched, Stayed, Refused}
 
 -- where an answer tells a record's end, the record ends at or below this address
 abbrev pub EndsBy : ℕ → Told → Type 0

@@ -4,14 +4,14 @@ use Rattle.segment_disk.specs.DiskImage.{DiskImage, LeftAt}
 use Rattle.segment_disk.specs.Tape.{Tape}
 use Rattle.wal_page.specs.Order.{Entry, finish_of}
 use Rattle.flush_core.specs.Lawful.{IsLawful}
-use Rattle.wal_core.specs.Words.{Opening}
-use Rattle.wal_core.specs.Views.{FlushPromise, View}
+use Rattle.machine_state.specs.Words.{Opening}
+use Rattle.machine_state.specs.Views.{FlushPromise, View}
 use Rattle.wal_reader.specs.declared.found.Answer.{Answer}
 use Rattle.wal_reader.specs.declared.found.FoundRecord.{FoundRecord}
 use Rattle.wal_reader.specs.Pages.{pages_in}
 use Rattle.wal_reader.specs.Decodes.{Decodes}
-use Rattle.written_log.specs.Torn.{NoTornPass}
-use Rattle.written_log.specs.Written.{found_of}
+use Rattle.written_log_laws.specs.Torn.{NoTornPass}
+use Rattle.written_log_laws.specs.Written.{found_of}
 use Rattle.run_laws.specs.Closed.{WasPromised}
 
 -- records that were found are a front of the order, each whole, and in it is each entry that ends
@@ -29,7 +29,7 @@ pub record IsFrontAsPromised (size moment : ℕ) (order : List Entry) (v : View)
 abbrev pub LeavesWordsOf : Opening → List Entry → Tape → Type 0
 LeavesWordsOf opening order t =
     (moment : ℕ) (image : DiskImage) → opening.moment ≤ moment → LeftAt t moment image
-    → IsLawful (opening.setup).segment_size (opening.setup).sysid image order 0
+    → IsLawful (opening.setup).seg_size (opening.setup).sysid image order 0
 
 -- from the opening on, whatever a crash at a moment leaves decodes, from segment 1's start, to such
 -- a front; the premise is that no torn record passes its CRC in what is left. The disk may have
@@ -37,8 +37,8 @@ LeavesWordsOf opening order t =
 abbrev pub LeavesFronts : Opening → List Entry → Tape → View → Type 0
 LeavesFronts opening order t v =
     (moment : ℕ) (image : DiskImage) → opening.moment ≤ moment → LeftAt t moment image
-    → NoTornPass (opening.setup).segment_size (pages_in (opening.setup).segment_size image) order
+    → NoTornPass (opening.setup).seg_size (pages_in (opening.setup).seg_size image) order
     → (found : List FoundRecord) (answer : Answer)
-    → Decodes (opening.setup).segment_size (pages_in (opening.setup).segment_size image)
-    (opening.setup).segment_size None found answer
-    → IsFrontAsPromised (opening.setup).segment_size moment order v found
+    → Decodes (opening.setup).seg_size (pages_in (opening.setup).seg_size image)
+    (opening.setup).seg_size None found answer
+    → IsFrontAsPromised (opening.setup).seg_size moment order v found

@@ -3,7 +3,7 @@ use Rattle.std.specs.Prelude.{ℕ, List}
 use Rattle.segment_disk.specs.DiskImage.{DiskImage, MayLeave, image_as_read}
 use Rattle.segment_disk.specs.Tape.{Tape, state_now}
 use Rattle.wal_page.specs.Order.{Entry}
-use Rattle.told_lines.specs.Whole.{DecodesTo}
+use Rattle.run_laws.specs.WholeOrders.{DecodesTo}
 
 -- every image that a crash may leave now, and the disk as it is read, decode to all of an order and
 -- then to a clean end

@@ -6,15 +6,15 @@ ghost use Rattle.segment_disk.specs.Cause.{Rose};
 ghost use Rattle.segment_disk.specs.Tape.{Tape};
 ghost use Rattle.flush_core.specs.Pages.{HoldsNothing};
 ghost use Rattle.wal_page.specs.Order.{Entry, rooms_of};
-ghost use Rattle.wal_core.specs.Words.{Opening, found_position};
-ghost use Rattle.wal_core.specs.Views.{View};
+ghost use Rattle.machine_state.specs.Words.{Opening, found_position};
+ghost use Rattle.machine_state.specs.Views.{View};
 ghost use Rattle.machine_laws.specs.WholeOrders.{LiesBehind};
 ghost use Rattle.wal_rule.specs.Slotted.{slot_disk, slot_plain};
 ghost use Rattle.wal_rule.specs.declared.writer.LogWriter.{LogWriter};
-ghost use Rattle.wal_script.specs.Asked.{AskedLine};
-ghost use Rattle.told_lines.specs.declared.told.Told.{Told};
-ghost use Rattle.told_lines.specs.Told.{order_from, IsFullAnswer, IsRefused, SomeTold};
-ghost use Rattle.told_lines.specs.Whole.{IsWhole};
+ghost use Rattle.run_script.specs.Asked.{AskedLine};
+ghost use Rattle.run_laws.specs.declared.told.Told.{Told};
+ghost use Rattle.run_laws.specs.Told.{order_from, IsFullAnswer, IsRefused, SomeTold};
+ghost use Rattle.run_laws.specs.WholeOrders.{IsWhole};
 ghost use Rattle.run_laws.specs.Counted.{all_reserved_count};
 ghost use Rattle.run_laws.specs.Assured.{AssuresBehind, HoldsSuited, RunAssures, order_told};
 ghost use Rattle.run_laws.specs.ClosedRuns.{HasFlushedAll, IsRunClosed};
@@ -33,7 +33,7 @@ pub fn closed_runs_assure<D>()
         → IsRunClosed tape moment faults began opening v w position script lists
         → RunAssures opening began (tape (slot_disk w)) (moment (slot_disk w))
         (faults (slot_disk w)) script lists }
-    // Of the whole order, where these entries lie below the opening's place.
+    // What is assured of the whole order, where these entries lie below the opening's place.
     ensures behind { (tape : D → Option Tape) (moment faults : D → ℕ) (began : Option Tape)
         (opening : Opening) (v : View) (w : LogWriter D) (position : ℕ)
         (script : List (List AskedLine)) (lists : List (List Told))
@@ -66,11 +66,11 @@ pub fn flushed_runs_are_whole<D>()
         (opening : Opening) (v : View) (w : LogWriter D) (position : ℕ)
         (script : List (List AskedLine)) (lists : List (List Told))
         → IsRunClosed tape moment faults began opening v w position script lists
-        → HasFlushedAll (opening.setup).segment_size lists v
+        → HasFlushedAll (opening.setup).seg_size lists v
         → faults (slot_disk w) ≡ opening.faults → opening.faults < 2 ^ 64 - 1
         → HoldsSuited opening began → (front : List Entry) → LiesBehind opening front
-        → IsWhole (opening.setup).segment_size (tape (slot_disk w))
-        (order_told front (opening.setup).segment_size script lists) }
+        → IsWhole (opening.setup).seg_size (tape (slot_disk w))
+        (order_told front (opening.setup).seg_size script lists) }
 {}
 
 /// The order of what the lines were told has an entry for each answer that says that a record was
@@ -81,18 +81,18 @@ pub fn closed_runs_are_summed_up<D>()
         (opening : Opening) (v : View) (w : LogWriter D) (position : ℕ)
         (script : List (List AskedLine)) (lists : List (List Told))
         → IsRunClosed tape moment faults began opening v w position script lists
-        → length (order_from (opening.setup).segment_size 1 script lists)
+        → length (order_from (opening.setup).seg_size 1 script lists)
         ≡ all_reserved_count lists }
     ensures bytes { (tape : D → Option Tape) (moment faults : D → ℕ) (began : Option Tape)
         (opening : Opening) (v : View) (w : LogWriter D) (position : ℕ)
         (script : List (List AskedLine)) (lists : List (List Told))
         → IsRunClosed tape moment faults began opening v w position script lists
-        → position ≡ found_position opening + rooms_of (opening.setup).segment_size
-        (order_from (opening.setup).segment_size 1 script lists) }
+        → position ≡ found_position opening + rooms_of (opening.setup).seg_size
+        (order_from (opening.setup).seg_size 1 script lists) }
     ensures within { (tape : D → Option Tape) (moment faults : D → ℕ) (began : Option Tape)
         (opening : Opening) (v : View) (w : LogWriter D) (position : ℕ)
         (script : List (List AskedLine)) (lists : List (List Told))
         → IsRunClosed tape moment faults began opening v w position script lists
-        → rooms_of (opening.setup).segment_size
-        (order_from (opening.setup).segment_size 1 script lists) ≤ 2 ^ 42 }
+        → rooms_of (opening.setup).seg_size
+        (order_from (opening.setup).seg_size 1 script lists) ≤ 2 ^ 42 }
 {}

@@ -4,11 +4,11 @@ ghost use Rattle.std.specs.Prelude.{◌≡◌, ℕ, ◌^◌, ◌<◌, ◌≤◌,
 ghost use mathlib.Core.Option.{Option};
 ghost use Rattle.segment_disk.specs.Tape.{DiskState, Tape};
 ghost use Rattle.wal_page.specs.Order.{Entry};
-ghost use Rattle.wal_core.specs.Words.{Opening, end_form, flushed_word, moment_word, order_end};
-ghost use Rattle.wal_core.specs.Suited.{BeganSuited, tape_from};
-ghost use Rattle.wal_core.specs.Views.{HasAt, FlushPromise, Plain, Reserving, View};
-ghost use Rattle.wal_core.specs.Durable.{IsPromised};
-ghost use Rattle.wal_core.specs.Sound.{IsSound};
+ghost use Rattle.machine_state.specs.Words.{Opening, end_form, flushed_word, moment_word, order_end};
+ghost use Rattle.machine_state.specs.Suited.{BeganSuited, tape_from};
+ghost use Rattle.machine_state.specs.Views.{HasAt, FlushPromise, Plain, Reserving, View};
+ghost use Rattle.machine_state.specs.Durable.{IsPromised};
+ghost use Rattle.machine_state.specs.Sound.{IsSound};
 ghost use Rattle.machine_laws.specs.ClosedLogs.{IsLastPass, OrderIsAccounted};
 ghost use Rattle.machine_laws.specs.WholeOrders.{LiesBehind};
 ghost use Rattle.run_laws.specs.Closed.{IsClosedOn, WasPromised};
@@ -16,7 +16,7 @@ ghost use Rattle.run_laws.specs.Surviving.{LeavesFronts, LeavesWordsOf};
 ghost use Rattle.run_laws.specs.Timely.{IsTimely};
 ghost use Rattle.run_laws.specs.Whole.{HoldsWhole};
 ghost use Rattle.run_laws.specs.Rising.{LogsAreOfOrder};
-ghost use Rattle.told_lines.specs.Crash.{KeepsFound};
+ghost use Rattle.run_laws.specs.Crash.{KeepsFound};
 
 /// Each sound state in which one pass is left, has all numbers and is about nothing is that of a
 /// closed log, where the disk tells a tape on which a log may begin.
@@ -42,7 +42,7 @@ pub fn closed_logs_survive_crashes()
 pub fn closed_logs_keep_what_was_found()
     ensures keep { (opening : Opening) (order : List Entry) (t : Tape) (v : View)
         → IsClosedOn opening order t v → (front : List Entry) → LiesBehind opening front
-        → KeepsFound (opening.setup).segment_size opening.moment (front ++ order) front t }
+        → KeepsFound (opening.setup).seg_size opening.moment (front ++ order) front t }
 {}
 
 /// Whatever a crash leaves, at any moment since the opening, holds nothing but words of the log, as
@@ -81,7 +81,7 @@ pub fn closed_logs_are_whole()
         (c : IsClosedOn opening order t v)
         → end_form opening.setup (order_end opening order) ≤ flushed_word c.words
         → (front : List Entry) → LiesBehind opening front
-        → HoldsWhole (opening.setup).segment_size t (front ++ order) }
+        → HoldsWhole (opening.setup).seg_size t (front ++ order) }
 {}
 
 /// What was reserved under one number rises in the order, and is the log of the pass that had the

@@ -4,11 +4,11 @@
 ghost use Rattle.std.specs.Prelude.{◌++◌, List};
 ghost use Rattle.segment_disk.specs.Tape.{Tape};
 ghost use Rattle.wal_page.specs.Order.{Entry};
-ghost use Rattle.wal_script.specs.Asked.{AskedLine};
-ghost use Rattle.told_lines.specs.declared.told.Told.{Told};
-ghost use Rattle.told_lines.specs.Crash.{EachIsTimely, SurvivesCrashes};
-ghost use Rattle.wal_core.specs.Words.{Opening};
-ghost use Rattle.wal_core.specs.Views.{View};
+ghost use Rattle.run_script.specs.Asked.{AskedLine};
+ghost use Rattle.run_laws.specs.declared.told.Told.{Told};
+ghost use Rattle.run_laws.specs.Crash.{EachIsTimely, SurvivesCrashes};
+ghost use Rattle.machine_state.specs.Words.{Opening};
+ghost use Rattle.machine_state.specs.Views.{View};
 ghost use Rattle.machine_laws.specs.WholeOrders.{LiesBehind};
 ghost use Rattle.run_laws.specs.Closed.{IsClosedOn};
 ghost use Rattle.run_laws.specs.Ended.{HasTakenIn};
@@ -21,7 +21,7 @@ pub fn told_records_survive()
         → IsClosedOn opening order t v → (front : List Entry) → LiesBehind opening front
         → (script : List (List AskedLine)) (lists : List (List Told))
         → HasTakenIn opening v script lists
-        → SurvivesCrashes (opening.setup).segment_size opening.moment (front ++ order) lists t }
+        → SurvivesCrashes (opening.setup).seg_size opening.moment (front ++ order) lists t }
 {}
 
 /// Each moment that a line is told is one of the disk's, and comes before anything is written of
@@ -30,5 +30,5 @@ pub fn no_told_moment_is_late()
     ensures timely { (opening : Opening) (order : List Entry) (t : Tape) (v : View)
         → IsClosedOn opening order t v → (whole : List Entry) (script : List (List AskedLine))
         (lists : List (List Told)) → HasTakenIn opening v script lists
-        → EachIsTimely (opening.setup).segment_size opening.moment whole t 1 script lists }
+        → EachIsTimely (opening.setup).seg_size opening.moment whole t 1 script lists }
 {}

@@ -4,14 +4,14 @@
 ghost use Rattle.std.specs.Prelude.{◌≡◌, ℕ, ◌+◌, ◌++◌, ◌^◌, ◌<◌, ◌≤◌, Contains, IfSome, List};
 ghost use mathlib.Core.Option.{none};
 ghost use Rattle.wal_page.specs.Order.{Entry};
-ghost use Rattle.wal_script.specs.Asked.{AskedLine};
-ghost use Rattle.told_lines.specs.declared.told.Told.{Told};
-ghost use Rattle.told_lines.specs.Told.{IsFullAnswer, IsRefused, SomeTold};
-ghost use Rattle.told_lines.specs.Rooms.{all_rooms_asked};
-ghost use Rattle.told_lines.specs.Whole.{IsWhole};
-ghost use Rattle.wal_core.specs.Words.{Opening, end_form, flushed_word, found_position, log_limit, order_end};
-ghost use Rattle.wal_core.specs.Views.{FlushPromise, View};
-ghost use Rattle.wal_core.specs.Suited.{BeganSuited, tape_from};
+ghost use Rattle.run_script.specs.Asked.{AskedLine};
+ghost use Rattle.run_laws.specs.declared.told.Told.{Told};
+ghost use Rattle.run_laws.specs.Told.{IsFullAnswer, IsRefused, SomeTold};
+ghost use Rattle.run_laws.specs.Rooms.{all_rooms_asked};
+ghost use Rattle.run_laws.specs.WholeOrders.{IsWhole};
+ghost use Rattle.machine_state.specs.Words.{Opening, end_form, flushed_word, found_position, log_limit, order_end};
+ghost use Rattle.machine_state.specs.Views.{FlushPromise, View};
+ghost use Rattle.machine_state.specs.Suited.{BeganSuited, tape_from};
 ghost use Rattle.machine_laws.specs.WholeOrders.{LiesBehind};
 ghost use Rattle.run_laws.specs.Ended.{HasTakenIn, IsClosedLog};
 ghost use Rattle.run_laws.specs.Reached.{ReachesAll};
@@ -31,7 +31,7 @@ pub fn full_logs_have_too_much_asked_of_them()
         → IsClosedLog opening order v → (script : List (List AskedLine))
         (lists : List (List Told)) → HasTakenIn opening v script lists
         → SomeTold IsFullAnswer lists → log_limit opening.setup
-        < found_position opening + all_rooms_asked (opening.setup).segment_size script }
+        < found_position opening + all_rooms_asked (opening.setup).seg_size script }
 {}
 
 /// Where the disk did not fail, a promise to the first pass of all that the lines were told of
@@ -41,7 +41,7 @@ pub fn last_flush_reaches()
         (c : IsClosedLog opening order v) (script : List (List AskedLine))
         (lists : List (List Told)) → HasTakenIn opening v script lists → (c.writer).fault ≡ none
         → (p : FlushPromise) → Contains (v.writing).promises p
-        → ReachesAll (opening.setup).segment_size p.upto lists
+        → ReachesAll (opening.setup).seg_size p.upto lists
         → end_form opening.setup (order_end opening order) ≤ flushed_word c.words }
 {}
 
@@ -53,9 +53,9 @@ pub fn runs_leave_whole_logs()
         → (script : List (List AskedLine)) (lists : List (List Told))
         → HasTakenIn opening v script lists → (c.writer).fault ≡ none
         → (p : FlushPromise) → Contains (v.writing).promises p
-        → ReachesAll (opening.setup).segment_size p.upto lists
+        → ReachesAll (opening.setup).seg_size p.upto lists
         → (opening.setup).sysid < 2 ^ 64
         → IfSome (tape_from c.first (c.writer).calls) (BeganSuited opening)
-        → IsWhole (opening.setup).segment_size (tape_from c.first (c.writer).calls)
+        → IsWhole (opening.setup).seg_size (tape_from c.first (c.writer).calls)
         (front ++ order) }
 {}

@@ -9,19 +9,19 @@ ghost use Rattle.byte_position.specs.Position.{first_position};
 ghost use Rattle.wal_types.specs.declared.record.Record.{Record};
 ghost use Rattle.wal_page.specs.LogPlace.{IsPlace};
 ghost use Rattle.wal_page.specs.Order.{Entry, FollowsFrom, rooms_of};
-ghost use Rattle.wal_script.specs.Asked.{AskedLine};
-ghost use Rattle.told_lines.specs.declared.told.Told.{Told};
-ghost use Rattle.told_lines.specs.Counts.{TellsOneFault, own_faults_of, reserved_count};
-ghost use Rattle.told_lines.specs.Told.{entries_of, AllDown, EachStaysDown, MayBeFull, RiseInLineOrder, StaysDown, TellsAll, order_from};
+ghost use Rattle.run_script.specs.Asked.{AskedLine};
+ghost use Rattle.run_laws.specs.declared.told.Told.{Told};
+ghost use Rattle.run_laws.specs.Counts.{TellsOneFault, own_faults_of, reserved_count};
+ghost use Rattle.run_laws.specs.Told.{entries_of, AllDown, EachStaysDown, MayBeFull, RiseInLineOrder, StaysDown, TellsAll, order_from};
 ghost use Rattle.segment_disk.specs.Tape.{DiskState};
-ghost use Rattle.wal_core.specs.Words.{GoesOnAtPlace, Opening, log_limit};
-ghost use Rattle.wal_core.specs.Views.{HasAt, Plain, View};
-ghost use Rattle.wal_core.specs.Durable.{one_if_some};
-ghost use Rattle.wal_core.specs.Moves.{after_join};
-ghost use Rattle.wal_core.specs.Sound.{IsSound};
-ghost use Rattle.wal_core.specs.Ordered.{entries_under, FrontEndsAt};
+ghost use Rattle.machine_state.specs.Words.{GoesOnAtPlace, Opening, log_limit};
+ghost use Rattle.machine_state.specs.Views.{HasAt, Plain, View};
+ghost use Rattle.machine_state.specs.Durable.{one_if_some};
+ghost use Rattle.machine_state.specs.Moves.{after_join};
+ghost use Rattle.machine_state.specs.Sound.{IsSound};
+ghost use Rattle.machine_state.specs.Ordered.{entries_under, FrontEndsAt};
 ghost use Rattle.machine_laws.specs.ClosedLogs.{IsLastPass};
-ghost use Rattle.wal_core.specs.PassLogs.{PassLog};
+ghost use Rattle.machine_state.specs.PassLogs.{PassLog};
 ghost use Rattle.run_laws.specs.Counted.{all_reserved_count};
 ghost use Rattle.run_laws.specs.Played.{AddsFull, KnowsFault, PassState, PlaysAllLines, PlaysLine, PlaysLines, behind_last_own, pass_state_of};
 ghost use Rattle.run_laws.specs.Ended.{HasTakenIn, IsClosedLog, logged_at_end};
@@ -45,7 +45,7 @@ pub fn passes_are_taken_in()
         (lists : List (List Told)) (lines : List AskedLine) (told : List Told)
         → HasTakenIn opening v script lists → (w.reserving).number ≡ 1 + length script
         → (w.reserving).joined ≡ []
-        → PlaysAllLines (opening.setup).segment_size (log_limit opening.setup) (1 + length script)
+        → PlaysAllLines (opening.setup).seg_size (log_limit opening.setup) (1 + length script)
         lines told (pass_state_of w)
         → ((faults : ℕ) → KnowsFault faults (pass_state_of w) → Rose opening.faults faults)
         → (v.writing).down_set ≡ 0
@@ -95,7 +95,7 @@ pub fn orders_are_told()
     ensures order { (opening : Opening) (order : List Entry) (v : View)
         → IsClosedLog opening order v → (script : List (List AskedLine))
         (lists : List (List Told)) → HasTakenIn opening v script lists
-        → order_from (opening.setup).segment_size 1 script lists ≡ order }
+        → order_from (opening.setup).seg_size 1 script lists ≡ order }
 {}
 
 /// What each backend's lines are told to have reserved rises in the order of the lines.
@@ -103,7 +103,7 @@ pub fn lines_are_told_in_order()
     ensures rise { (opening : Opening) (order : List Entry) (v : View)
         → IsClosedLog opening order v → (script : List (List AskedLine))
         (lists : List (List Told)) → HasTakenIn opening v script lists
-        → RiseInLineOrder (opening.setup).segment_size 1 script lists }
+        → RiseInLineOrder (opening.setup).seg_size 1 script lists }
 {}
 
 /// What one pass has in an order from a position on ends no later than the order, for a pass that
@@ -141,16 +141,16 @@ pub fn faults_are_told_once()
 /// A line that is told that the log is full had too few bytes left behind a front of the order,
 /// which has what the line's pass had reserved, and nothing that it reserved later.
 pub fn full_has_its_cause()
-    ensures cause { (opening : Opening) → IsPlace (opening.setup).segment_size opening.place
+    ensures cause { (opening : Opening) → IsPlace (opening.setup).seg_size opening.place
         → (order : List Entry) (last pass : ℕ) → GoesOnAtPlace opening order
         → (all : List Entry) (value : Record) (free : ℕ) (before after : PassLog)
-        → AddsFull (opening.setup).segment_size (log_limit opening.setup) pass value free
+        → AddsFull (opening.setup).seg_size (log_limit opening.setup) pass value free
         before after
         → All (FrontEndsAt opening pass order all) after.stops
         → take (length before.entries) all ≡ before.entries
         → MayBeFull (logged_at_end opening order last) pass
-        (behind_last_own (opening.setup).segment_size
-        (first_position (opening.setup).segment_size) before.entries) value free }
+        (behind_last_own (opening.setup).seg_size
+        (first_position (opening.setup).seg_size) before.entries) value free }
 {}
 
 /// Each line is told what it may be told of the log: `last` is no less than the count of faults

@@ -1,12 +1,12 @@
 //! How what lines are told follows what was told before; proved by functions that do nothing.
 
 ghost use Rattle.std.specs.Prelude.{ℕ, List};
-ghost use Rattle.wal_script.specs.Asked.{AskedLine};
-ghost use Rattle.told_lines.specs.declared.told.Told.{Told};
-ghost use Rattle.told_lines.specs.CatchingUp.{EachCatchesUp};
-ghost use Rattle.told_lines.specs.Moments.{EachRises};
-ghost use Rattle.wal_core.specs.Words.{Opening};
-ghost use Rattle.wal_core.specs.Views.{View};
+ghost use Rattle.run_script.specs.Asked.{AskedLine};
+ghost use Rattle.run_laws.specs.declared.told.Told.{Told};
+ghost use Rattle.run_laws.specs.CatchingUp.{EachCatchesUp};
+ghost use Rattle.run_laws.specs.Moments.{EachRises};
+ghost use Rattle.machine_state.specs.Words.{Opening};
+ghost use Rattle.machine_state.specs.Views.{View};
 ghost use Rattle.machine_laws.specs.RisingMoments.{LogsRise, promised_of};
 ghost use Rattle.run_laws.specs.Ended.{HasTakenIn};
 ghost use Rattle.run_laws.specs.Latest.{NoneIsLater};

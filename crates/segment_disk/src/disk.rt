@@ -9,12 +9,12 @@ ghost use Rattle.byte_position.specs.Geometry.{pages_of};
 ghost use Rattle.segment_disk.specs.Cause.{HasCause};
 
 use crate::failed::Failed;
-use byte_position::Geometry;
+use byte_position::{Geometry, Page};
 
 /// The bytes of one page.
 #[derive(Clone, Copy, Debug)]
 pub struct PageBytes {
-    pub bytes: [u8; 8192],
+    pub bytes: Page,
 }
 
 /// Which call of a disk it was.
@@ -77,7 +77,7 @@ pub trait Disk {
         geometry: Geometry,
         segment: u64,
         page: u32,
-        bytes: &[u8; 8192],
+        bytes: &Page,
     ) -> Result<(), Failed>
         requires segment { segment < 2 ^ 64 / geometry }
         requires page { page < pages_of geometry }
@@ -99,7 +99,7 @@ pub trait Disk {
         geometry: Geometry,
         segment: u64,
         page: u32,
-        bytes: &mut [u8; 8192],
+        bytes: &mut Page,
     ) -> Result<bool, Failed>
         requires segment { segment < 2 ^ 64 / geometry }
         requires page { page < pages_of geometry }

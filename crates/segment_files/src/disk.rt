@@ -2,7 +2,7 @@ ghost use Rattle.std.specs.Prelude.{◌≡◌, ◌<◌, ◌/◌, ◌^◌, None, 
 
 use crate::lock::{Access, Lockable};
 use crate::segments::SegmentFiles;
-use byte_position::Geometry;
+use byte_position::{Geometry, Page};
 use segment_disk::{Disk, Failed, Memory, count_fault};
 use std::alloc::{Alloc, Global};
 use std::fs::Files;
@@ -77,7 +77,7 @@ where
         geometry: Geometry,
         segment: u64,
         page: u32,
-        bytes: &[u8; 8192],
+        bytes: &Page,
     ) -> Result<(), Failed> {
         if self.moment == u64::MAX {
             return Err(count_fault(&mut self.faults));
@@ -105,7 +105,7 @@ where
         geometry: Geometry,
         segment: u64,
         page: u32,
-        bytes: &mut [u8; 8192],
+        bytes: &mut Page,
     ) -> Result<bool, Failed> {
         match self.files.read_page(geometry, segment, page, bytes) {
             Ok(there) => Ok(there),

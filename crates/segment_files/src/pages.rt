@@ -2,6 +2,7 @@
 ghost use Rattle.std.specs.Prelude.{◌≡◌, ◌≢◌, ◌+◌, ◌*◌, ◌<◌, ◌++◌, ◌↔◌, [], length, IfOk, IsFalse, IsTrue, OnErr, OnOk};
 ghost use Rattle.segment_files.specs.Pages.{GivesPage, HoldsFrom};
 
+use byte_position::Page;
 use std::alloc::{AllocError, Global};
 use std::io;
 use std::os::unix::fs::FileExt;
@@ -19,7 +20,7 @@ fn offset_of(page: u32) -> u64
 }
 
 /// Reads a page alone.
-pub fn read_page(file: &impl FileExt, page: u32, bytes: &mut [u8; 8192]) -> io::Result<()> {
+pub fn read_page(file: &impl FileExt, page: u32, bytes: &mut Page) -> io::Result<()> {
     file.read_exact_at(bytes, offset_of(page))
 }
 
@@ -58,7 +59,7 @@ impl PagesHeld {
     }
 
     /// Holds a page behind the others, or the first one.
-    pub fn push(&mut self, page: u32, bytes: &[u8; 8192]) -> Result<(), AllocError>
+    pub fn push(&mut self, page: u32, bytes: &Page) -> Result<(), AllocError>
         ensures bytes { OnOk result (self.new.bytes.items ≡ self.old.bytes.items ++ bytes.now) }
         ensures first { OnOk result
             (HoldsFrom self.old.first self.old.bytes.items page self.new.first) }
@@ -111,7 +112,7 @@ impl PagesAhead {
     }
 
     /// Gives a page that is here, and answers whether it is.
-    pub fn give(&mut self, page: u32, bytes: &mut [u8; 8192]) -> bool
+    pub fn give(&mut self, page: u32, bytes: &mut Page) -> bool
         ensures given { IsTrue result → GivesPage self.old self.new page bytes.new }
         ensures kept { IsFalse result → bytes.new ≡ bytes.old }
     {

@@ -5,7 +5,7 @@ use crate::folder::Folder;
 use crate::lock::{Access, Lockable};
 use crate::pages;
 use crate::pages::{PagesAhead, PagesHeld};
-use byte_position::Geometry;
+use byte_position::{Geometry, Page};
 use std::alloc::{Alloc, AllocError, Global};
 use std::fs::{Files, OpenFile};
 use std::io;
@@ -93,7 +93,7 @@ where
         geometry: Geometry,
         segment: u64,
         page: u32,
-        bytes: &[u8; 8192],
+        bytes: &Page,
     ) -> io::Result<()>
         requires { segment < 2 ^ 64 / geometry }
         ensures { FailsForGood self.old.folder.has_failed self.new.folder.has_failed result }
@@ -126,7 +126,7 @@ where
         geometry: Geometry,
         segment: u64,
         page: u32,
-        bytes: &mut [u8; 8192],
+        bytes: &mut Page,
     ) -> io::Result<bool>
         requires { segment < 2 ^ 64 / geometry }
         ensures { FailsForGood self.old.folder.has_failed self.new.folder.has_failed result }
@@ -147,12 +147,7 @@ where
     // Reads pages from this one on; where these are not all there or not all readable, this one
     // alone. A call of its own, since few pages need it.
     #[inline(never)]
-    fn read_ahead(
-        &mut self,
-        geometry: Geometry,
-        page: u32,
-        bytes: &mut [u8; 8192],
-    ) -> io::Result<bool>
+    fn read_ahead(&mut self, geometry: Geometry, page: u32, bytes: &mut Page) -> io::Result<bool>
         ensures stays { IsTrue self.old.folder.has_failed → IsTrue self.new.folder.has_failed }
     {
         let Some(open) = &self.reading else {

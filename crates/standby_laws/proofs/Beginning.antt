@@ -9,7 +9,7 @@ use Rattle.flush_core.specs.SettledLog.{IsZeroOrLogWord}
 use Rattle.wal_page.specs.Order.{Entry}
 use Rattle.wal_reader.specs.declared.found.FoundRecord.{FoundRecord}
 use Rattle.wal_stream.specs.FollowedLog.{IsLogOrder}
-use Rattle.reopened_log.specs.WasLeft.{WasLeft}
+use Rattle.reopened_log_laws.specs.WasLeft.{WasLeft}
 use Rattle.standby_laws.specs.History.{MayFollow}
 use Rattle.standby_laws.proofs.Turns.{few_are_low}
 

@@ -12,8 +12,8 @@ use Rattle.byte_position.specs.Position.{end_address_of}
 use Rattle.byte_position.proofs.SegmentSizes.{segment_size_in_pages}
 use Rattle.segment_disk.specs.DiskImage.{image_as_read, word_of}
 use Rattle.segment_disk.specs.Tape.{DiskState, Segment, Tape, page_as_read, page_of_segment, state_now}
-use Rattle.record_spelling.specs.Spelling.{word_at}
-use Rattle.record_spelling.proofs.Bytes.{IsBytes-drop, IsBytes-from_All, IsBytes-take, wide64}
+use Rattle.wal_spelling.specs.Spelling.{word_at}
+use Rattle.wal_spelling.proofs.Bytes.{IsBytes-drop, IsBytes-from_All, IsBytes-take, wide64}
 use Rattle.flush_core.specs.Settled.{IsAmong, IsAsRead}
 use Rattle.flush_core.specs.SettledLog.{IsLogWord}
 use Rattle.wal_page.specs.Order.{Entry}
@@ -23,7 +23,7 @@ use Rattle.wal_page.proofs.LogWordLaws.{log_word_bytes}
 use Rattle.wal_reader.specs.Cache.{log_of}
 use Rattle.wal_reader.specs.Pages.{IsPage, page_of_image}
 use Rattle.wal_reader.specs.declared.found.FoundRecord.{FoundRecord}
-use Rattle.written_log.specs.FoundLog.{end_behind}
+use Rattle.written_log_laws.specs.FoundLog.{end_behind}
 use Rattle.found_log.specs.Found.{IsDiskLog}
 use Rattle.found_log.specs.Words.{start_of_page, word_in, word_of_page}
 use Rattle.standby_laws.proofs.LeftLogs.{ReadsOrder, end_from, read_below}

@@ -13,17 +13,17 @@ use Rattle.wal_reader.specs.declared.found.Answer.{Answer}
 use Rattle.wal_reader.specs.declared.found.FoundRecord.{FoundRecord}
 use Rattle.wal_reader.specs.Decodes.{Decodes}
 use Rattle.wal_reader.specs.Pages.{pages_in}
-use Rattle.written_log.specs.LawfulLog.{IsFrontUpto}
-use Rattle.written_log.specs.SettledFound.{NothingWaits}
-use Rattle.written_log.specs.Torn.{NoTornPass}
-use Rattle.written_log.proofs.LawfulLaws.{lawful_images_decode_to_fronts}
+use Rattle.written_log_laws.specs.LawfulLog.{IsFrontUpto}
+use Rattle.written_log_laws.specs.SettledFound.{NothingWaits}
+use Rattle.written_log_laws.specs.Torn.{NoTornPass}
+use Rattle.written_log_laws.proofs.LawfulLaws.{lawful_images_decode_to_fronts}
 use Rattle.wal_stream.specs.Following.{ComesOfLog, NotHardened, Offer}
 use Rattle.wal_stream.specs.Opened.{StandsAtFound}
 use Rattle.wal_stream.specs.Standby.{standby_disk, standby_end}
 use Rattle.wal_stream.specs.declared.standby.Standby.{Standby}
 use Rattle.wal_stream.proofs.FollowLaws.{never_diverges}
-use Rattle.reopened_log.specs.Again.{IsLeftByCrash}
-use Rattle.reopened_log.specs.StopsAt.{StopsAt}
+use Rattle.reopened_log_laws.specs.Again.{IsLeftByCrash}
+use Rattle.reopened_log_laws.specs.StopsAt.{StopsAt}
 use Rattle.standby_laws.specs.History.{Closed, IsFoundSince, KeepsStandbyPromises, Lived, NoneTornRead, Open, ReachesEntries, StandbyState, begins, closes, crashes, disk_standing, fails_to_harden, fails_to_open, hardens, is_killed, is_offered, opens, told_by, told_since}
 use Rattle.standby_laws.proofs.Holding.{HoldsOrder, IsHeld, held_crashed, held_stopped, image_held, image_lawful, order_begun, order_crashed, order_stopped}
 use Rattle.standby_laws.proofs.OpenSteps.{HoldsClosed, HoldsOpen, IsHeldBy, is_closed, open_promises, open_with, step_hardened, step_open}

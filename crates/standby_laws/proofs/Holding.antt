@@ -21,15 +21,15 @@ use Rattle.flush_core.proofs.LeftLaws.{left_moved}
 use Rattle.flush_core.specs.Settled.{AreThere, HaveWholePages, IsAmong}
 use Rattle.flush_core.specs.SettledLog.{AreOnly, IsLogWord, IsZeroOrLogWord}
 use Rattle.wal_page.specs.Order.{Entry}
-use Rattle.written_log.specs.SettledFound.{NothingWaits}
-use Rattle.written_log.proofs.ReadImages.{fits_lawful}
+use Rattle.written_log_laws.specs.SettledFound.{NothingWaits}
+use Rattle.written_log_laws.proofs.ReadImages.{fits_lawful}
 use Rattle.wal_stream.specs.FollowedLog.{IsLogOrder}
 use Rattle.wal_stream.proofs.FollowedImages.{lawful_upto}
-use Rattle.reopened_log.specs.Again.{HasMadeInTurn, IsLeftByCrash}
-use Rattle.reopened_log.specs.StopsAt.{StopsAt, write_to}
-use Rattle.reopened_log.proofs.CutWrites.{left_as_read}
-use Rattle.reopened_log.proofs.LeftAgain.{left_whole}
-use Rattle.reopened_log.proofs.MadeSegments.{AreFirst, are_only, are_there, first_page, made_segments, on_image}
+use Rattle.reopened_log_laws.specs.Again.{HasMadeInTurn, IsLeftByCrash}
+use Rattle.reopened_log_laws.specs.StopsAt.{StopsAt, write_to}
+use Rattle.reopened_log_laws.proofs.CutWrites.{left_as_read}
+use Rattle.reopened_log_laws.proofs.LeftAgain.{left_whole}
+use Rattle.reopened_log_laws.proofs.MadeSegments.{AreFirst, are_only, are_there, first_page, made_segments, on_image}
 use Rattle.standby_laws.specs.History.{MayFollow, ReachesEntries}
 use Rattle.standby_laws.proofs.AgainPages.{stands_read}
 use Rattle.standby_laws.proofs.LogPages.{log_pages, page_word}

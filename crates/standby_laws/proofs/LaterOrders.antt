@@ -11,15 +11,15 @@ use Rattle.wal_page.specs.Order.{Entry, FollowsFrom, IsChained, end_position, fi
 use Rattle.wal_page.specs.Log.{log_word}
 use Rattle.wal_page.proofs.OrderLaws.{rooms_of_cons}
 use Rattle.wal_reader.specs.declared.found.FoundRecord.{FoundRecord}
-use Rattle.written_log.specs.LawfulLog.{IsFrontUpto}
-use Rattle.written_log.specs.Written.{found_from, found_of}
-use Rattle.written_log.proofs.FoundImages.{chained_front}
-use Rattle.written_log.proofs.LawfulLaws.{lawful_images_decode_to_fronts}
-use Rattle.told_lines.specs.Told.{order_from}
+use Rattle.written_log_laws.specs.LawfulLog.{IsFrontUpto}
+use Rattle.written_log_laws.specs.Written.{found_from, found_of}
+use Rattle.written_log_laws.proofs.FoundImages.{chained_front}
+use Rattle.written_log_laws.proofs.LawfulLaws.{lawful_images_decode_to_fronts}
+use Rattle.run_laws.specs.Told.{order_from}
 use Rattle.wal_stream.specs.FollowedLog.{IsLogOrder}
 use Rattle.wal_stream.specs.Frame.{IsFrameOfLog}
-use Rattle.reopened_log.specs.FoundFirst.{as_found}
-use Rattle.reopened_log.proofs.FirstEntries.{same_entries, word-as_found}
+use Rattle.reopened_log_laws.specs.FoundFirst.{as_found}
+use Rattle.reopened_log_laws.proofs.FirstEntries.{same_entries, word-as_found}
 use Rattle.standby_laws.specs.Later.{BeginsUpto, FramesStayOfLog, LaterOrdersBegin}
 use Rattle.standby_laws.proofs.LeftLogs.{finish_within, word_of_front}
 
@@ -61,7 +61,7 @@ begins_with_found size sysid upto order es more found is chained nobodys same fr
 
 pub later_orders_begin : LaterOrdersBegin
 later_orders_begin opening front order since at upto handed t left began found script lists is hardened later crash none_torn reopened =
-    let size = (opening.setup).segment_size in
+    let size = (opening.setup).seg_size in
     let sysid = (opening.setup).sysid in
     let image = image_as_read (state_now left) in
     let has = reopened.left.has_found in

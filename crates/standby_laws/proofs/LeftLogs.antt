@@ -21,14 +21,14 @@ use Rattle.wal_reader.specs.declared.found.Answer.{Answer}
 use Rattle.wal_reader.specs.declared.found.FoundRecord.{FoundRecord}
 use Rattle.wal_reader.specs.Decodes.{Decodes}
 use Rattle.wal_reader.specs.Pages.{pages_in}
-use Rattle.written_log.specs.FoundLog.{ReadsUntorn, ReadsFirstEntries, end_behind}
-use Rattle.written_log.proofs.FoundImages.{chained_front}
-use Rattle.written_log.proofs.FoundLogs.{found_logs_read_as_log}
-use Rattle.written_log.proofs.LawfulLaws.{log_byte-front}
-use Rattle.written_log.specs.Torn.{NoTornPass}
+use Rattle.written_log_laws.specs.FoundLog.{ReadsUntorn, ReadsFirstEntries, end_behind}
+use Rattle.written_log_laws.proofs.FoundImages.{chained_front}
+use Rattle.written_log_laws.proofs.FoundLogs.{found_logs_read_as_log}
+use Rattle.written_log_laws.proofs.LawfulLaws.{log_byte-front}
+use Rattle.written_log_laws.specs.Torn.{NoTornPass}
 use Rattle.wal_stream.specs.FollowedLog.{IsLogOrder}
 use Rattle.found_log.specs.Found.{IsDiskLog}
-use Rattle.reopened_log.proofs.SuitedDisks.{same_count}
+use Rattle.reopened_log_laws.proofs.SuitedDisks.{same_count}
 use Rattle.standby_laws.proofs.Holding.{HasFirstSegments}
 
 -- the log of a front has the order's words below its end

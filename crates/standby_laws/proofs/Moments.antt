@@ -19,8 +19,8 @@ use Rattle.flush_core.proofs.GrowingTapes.{with_calls-some}
 use Rattle.flush_core.proofs.LeftLaws.{TapeAssures-now, TapeAssures-with_call, TapeAssures-with_calls, read_word}
 use Rattle.flush_core.proofs.SettledPages.{after_calls-append}
 use Rattle.flush_core.proofs.StateLaws.{after_each, after_writes-push}
-use Rattle.reopened_log.specs.StopsAt.{IsCutShort, StopsAt, tape_until, write_to}
-use Rattle.reopened_log.proofs.SettlingCalls.{each_at, each_both, each_take, get_behind}
+use Rattle.reopened_log_laws.specs.StopsAt.{IsCutShort, StopsAt, tape_until, write_to}
+use Rattle.reopened_log_laws.proofs.SettlingCalls.{each_at, each_both, each_take, get_behind}
 
 -- ---- lists
 

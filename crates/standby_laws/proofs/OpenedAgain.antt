@@ -19,18 +19,18 @@ use Rattle.flush_core.proofs.GrowingTapes.{with_calls-some}
 use Rattle.flush_core.proofs.SettledLeft.{at_number}
 use Rattle.flush_core.proofs.SettledPages.{after_calls-append}
 use Rattle.found_log.specs.Found.{FindsLog, IsDiskLog, place_of_log}
-use Rattle.record_spelling.specs.Spelling.{word_at}
+use Rattle.wal_spelling.specs.Spelling.{word_at}
 use Rattle.wal_page.specs.Order.{Entry}
 use Rattle.wal_page.specs.LogPlace.{LogPlace}
 use Rattle.wal_reader.specs.declared.found.FoundRecord.{FoundRecord}
 use Rattle.wal_reader.specs.Pages.{pages_in}
-use Rattle.written_log.specs.SettledFound.{NothingWaits}
-use Rattle.written_log.specs.Torn.{NoTornPass}
+use Rattle.written_log_laws.specs.SettledFound.{NothingWaits}
+use Rattle.written_log_laws.specs.Torn.{NoTornPass}
 use Rattle.wal_stream.specs.Following.{FollowsLog, HaveLogBelow, KeepsLogUpto}
 use Rattle.wal_stream.specs.Opened.{StandsAtFound}
 use Rattle.wal_stream.specs.Standby.{HasResumed, own_page, standby_disk, standby_end}
 use Rattle.wal_stream.specs.declared.standby.Standby.{Standby}
-use Rattle.reopened_log.proofs.SettlingCalls.{Settles, all_settle}
+use Rattle.reopened_log_laws.proofs.SettlingCalls.{Settles, all_settle}
 use Rattle.standby_laws.proofs.AgainPages.{holds_log_pages, settled_pages, stands_read, word_below}
 use Rattle.standby_laws.proofs.EndPages.{own_word}
 use Rattle.standby_laws.proofs.Holding.{HoldsOrder, IsHeld, IsLogBelow, KeepsUpto, pages_now, words_now}

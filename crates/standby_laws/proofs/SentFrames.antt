@@ -25,9 +25,9 @@ use Rattle.flush_core.proofs.SettledLogs.{synced_logs_are_lawful}
 use Rattle.wal_reader.specs.declared.found.Answer.TheVariants as answers
 use Rattle.wal_reader.specs.declared.found.FoundRecord.{FoundRecord}
 use Rattle.wal_reader.specs.declared.standing.ReadErr.TheVariants as reading
-use Rattle.written_log.specs.FoundLog.{ReadsFirstEntries, end_behind}
-use Rattle.written_log.proofs.FoundImages.{chained_front, front_bounded}
-use Rattle.written_log.proofs.FoundLogs.{found_logs_read_as_log}
+use Rattle.written_log_laws.specs.FoundLog.{ReadsFirstEntries, end_behind}
+use Rattle.written_log_laws.proofs.FoundImages.{chained_front, front_bounded}
+use Rattle.written_log_laws.proofs.FoundLogs.{found_logs_read_as_log}
 use Rattle.wal_stream.specs.FollowedLog.{IsLogOrder}
 use Rattle.wal_stream.specs.Following.{ComesOfLog}
 use Rattle.wal_stream.specs.Frame.{EndsInPage, IsFrameOfLog, IsSentOfLog, SentPage}
@@ -37,9 +37,9 @@ use Rattle.wal_stream.specs.SentFrames.{frame_count, frame_of, frames_between, p
 use Rattle.wal_stream.specs.Synced.{HasSynced}
 use Rattle.wal_stream.specs.declared.fault.SendErr.TheVariants.{Read, Sink}
 use Rattle.wal_stream.specs.Fetched.{first_pieces, frames_in}
-use Rattle.reopened_log.specs.WasLeft.{WasLeft}
-use Rattle.reopened_log.proofs.FirstEntries.{left_logs_are_read}
-use Rattle.reopened_log.proofs.SuitedDisks.{same_count}
+use Rattle.reopened_log_laws.specs.WasLeft.{WasLeft}
+use Rattle.reopened_log_laws.proofs.FirstEntries.{left_logs_are_read}
+use Rattle.reopened_log_laws.proofs.SuitedDisks.{same_count}
 use Rattle.standby_laws.specs.Later.{IsHardenedUpto}
 use Rattle.standby_laws.specs.Sent.{SendsLog, SentFramesAreOfLog, SentFramesComeOfLog}
 

@@ -20,10 +20,10 @@ use Rattle.found_log.specs.declared.finding.FoundLog.{FoundLog}
 use Rattle.wal_page.specs.Order.{Entry}
 use Rattle.wal_page.specs.LogPlace.{LogPlace}
 use Rattle.wal_reader.specs.Pages.{pages_in}
-use Rattle.written_log.specs.Torn.{NoTornPass}
-use Rattle.written_log.proofs.FoundImages.{end_of_front}
-use Rattle.written_log.proofs.LawfulLaws.{lawful_images_decode_to_fronts}
-use Rattle.reopened_log.proofs.SettlingCalls.{Settles, all_settle, made_settle}
+use Rattle.written_log_laws.specs.Torn.{NoTornPass}
+use Rattle.written_log_laws.proofs.FoundImages.{end_of_front}
+use Rattle.written_log_laws.proofs.LawfulLaws.{lawful_images_decode_to_fronts}
+use Rattle.reopened_log_laws.proofs.SettlingCalls.{Settles, all_settle, made_settle}
 use Rattle.standby_laws.specs.History.{ReachesEntries}
 use Rattle.standby_laws.proofs.Holding.{HoldsOrder, IsHeld, IsLogBelow, KeepsUpto, image_held, keeps_less, lawful_now, pages_now, read_is_left, segments_now, words_now}
 use Rattle.standby_laws.proofs.LeftLogs.{ReadsOrder, count_is, end_whole, finish_within}

@@ -14,7 +14,7 @@ use Rattle.flush_core.specs.Writer.{FailsNow, TellsFault, calls_to_harden, calls
 use Rattle.flush_core.specs.declared.writer.Writer.{Writer}
 use Rattle.flush_core.proofs.GrowingTapes.{with_calls-none, with_calls-some}
 use Rattle.flush_core.proofs.SettledPages.{after_calls-append}
-use Rattle.wal_core.specs.Made.{MakeInTurn}
+use Rattle.machine_state.specs.Made.{MakeInTurn}
 use Rattle.wal_page.specs.Order.{Entry}
 use Rattle.wal_stream.specs.Following.{AreSentSteps, FollowsLog, Harden, IsSentStep, NotHardened, Offer, SentStep, standby_behind}
 use Rattle.wal_stream.specs.Standby.{AnswersFrame, AnswersTaken, Extends, FailsToHarden, FailsToTake, HasHardenedLog, standby_disk, standby_fault}

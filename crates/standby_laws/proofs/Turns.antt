@@ -23,11 +23,11 @@ use Rattle.flush_core.proofs.GrowingTapes.{with_calls-append, with_calls-none, w
 use Rattle.flush_core.proofs.SettledPages.{after_calls-append}
 use Rattle.flush_core.proofs.StateLaws.{after_each}
 use Rattle.flush_core.specs.Writer.{last_made}
-use Rattle.wal_core.specs.Made.{MakeInTurn, MakesNext, last_behind}
+use Rattle.machine_state.specs.Made.{MakeInTurn, MakesNext, last_behind}
 use Rattle.wal_stream.specs.Standby.{standby_disk, standby_fault}
 use Rattle.wal_stream.specs.declared.standby.Standby.{Standby}
-use Rattle.reopened_log.specs.StopsAt.{StopsAt, tape_until, write_to}
-use Rattle.reopened_log.proofs.MadeSegments.{AreFirst}
+use Rattle.reopened_log_laws.specs.StopsAt.{StopsAt, tape_until, write_to}
+use Rattle.reopened_log_laws.proofs.MadeSegments.{AreFirst}
 use Rattle.standby_laws.proofs.Moments.{drop_taken}
 
 -- ---- what holds of a standby's segments

@@ -19,7 +19,7 @@ use Rattle.wal_stream.specs.declared.answers.StandbyErr.{StandbyErr}
 use Rattle.wal_stream.specs.declared.answers.StandbyErr.TheVariants.{Bad, Gap, Diverged, Disk}
 use Rattle.wal_stream.specs.declared.standby.Standby.{Standby}
 use Rattle.wal_page.specs.Order.{Entry}
-use Rattle.reopened_log.proofs.SettlingCalls.{each_both}
+use Rattle.reopened_log_laws.proofs.SettlingCalls.{each_both}
 use Rattle.standby_laws.proofs.Moments.{IsWhole}
 
 abbrev AreWhole : ℕ → List Call → Type 0

@@ -13,9 +13,9 @@ use Rattle.wal_reader.specs.declared.found.Answer.{Answer}
 use Rattle.wal_reader.specs.declared.found.FoundRecord.{FoundRecord}
 use Rattle.wal_reader.specs.Decodes.{Decodes}
 use Rattle.wal_reader.specs.Pages.{pages_in}
-use Rattle.written_log.specs.LawfulLog.{IsFrontUpto}
-use Rattle.written_log.specs.SettledFound.{NothingWaits}
-use Rattle.written_log.specs.Torn.{NoTornPass}
+use Rattle.written_log_laws.specs.LawfulLog.{IsFrontUpto}
+use Rattle.written_log_laws.specs.SettledFound.{NothingWaits}
+use Rattle.written_log_laws.specs.Torn.{NoTornPass}
 use Rattle.wal_stream.specs.FollowedLog.{IsLogOrder}
 use Rattle.wal_stream.specs.Following.{ComesOfLog}
 use Rattle.wal_stream.specs.Opened.{StandsAtFound}
@@ -23,8 +23,8 @@ use Rattle.wal_stream.specs.Standby.{AnswersDiverged, AnswersFrame, FailsToHarde
 use Rattle.wal_stream.specs.declared.answers.Accepted.{Accepted}
 use Rattle.wal_stream.specs.declared.answers.StandbyErr.{StandbyErr}
 use Rattle.wal_stream.specs.declared.standby.Standby.{Standby}
-use Rattle.reopened_log.specs.Again.{IsLeftByCrash}
-use Rattle.reopened_log.specs.StopsAt.{StopsAt}
+use Rattle.reopened_log_laws.specs.Again.{IsLeftByCrash}
+use Rattle.reopened_log_laws.specs.StopsAt.{StopsAt}
 
 -- ---- where it stands
 

@@ -7,16 +7,16 @@ use Rattle.flush_core.specs.Lawful.{IsLawful}
 use Rattle.wal_page.specs.Order.{Entry, IsChained, end_position, finish_of}
 use Rattle.wal_reader.specs.declared.found.FoundRecord.{FoundRecord}
 use Rattle.wal_reader.specs.Pages.{pages_in}
-use Rattle.written_log.specs.Torn.{NoTornPass}
-use Rattle.wal_core.specs.Words.{Opening}
-use Rattle.wal_script.specs.Asked.{AskedLine}
-use Rattle.told_lines.specs.declared.told.Told.{Told}
+use Rattle.written_log_laws.specs.Torn.{NoTornPass}
+use Rattle.machine_state.specs.Words.{Opening}
+use Rattle.run_script.specs.Asked.{AskedLine}
+use Rattle.run_laws.specs.declared.told.Told.{Told}
 use Rattle.run_laws.specs.Assured.{order_told}
 use Rattle.wal_stream.specs.FollowedLog.{IsLogOrder}
 use Rattle.wal_stream.specs.Frame.{IsFrameOfLog}
-use Rattle.reopened_log.specs.Again.{IsLeftByCrash}
-use Rattle.reopened_log.specs.FoundFirst.{as_found}
-use Rattle.reopened_log.specs.Reopened.{IsReopenedOn}
+use Rattle.reopened_log_laws.specs.Again.{IsLeftByCrash}
+use Rattle.reopened_log_laws.specs.FoundFirst.{as_found}
+use Rattle.reopened_log_laws.specs.Reopened.{IsReopenedOn}
 
 -- each crash from a moment on leaves all of an order's log below an address
 abbrev pub IsHardenedUpto : ℕ → ℕ → List Entry → ℕ → ℕ → Tape → Type 0
@@ -38,14 +38,14 @@ abbrev pub LaterOrdersBegin : Type 0
 LaterOrdersBegin =
     (opening : Opening) (front order : List Entry) (since at upto handed : ℕ) (t left began : Tape)
     (found : List FoundRecord) (script : List (List AskedLine)) (lists : List (List Told))
-    → IsLogOrder (opening.setup).segment_size (opening.setup).sysid order
-    → IsHardenedUpto (opening.setup).segment_size (opening.setup).sysid order since upto t
+    → IsLogOrder (opening.setup).seg_size (opening.setup).sysid order
+    → IsHardenedUpto (opening.setup).seg_size (opening.setup).sysid order since upto t
     → since ≤ at → IsLeftByCrash t at left
-    → NoTornPass (opening.setup).segment_size
-    (pages_in (opening.setup).segment_size (image_as_read (state_now left))) order
+    → NoTornPass (opening.setup).seg_size
+    (pages_in (opening.setup).seg_size (image_as_read (state_now left))) order
     → IsReopenedOn opening front handed left began found
-    → BeginsUpto (opening.setup).segment_size order
-    (order_told front (opening.setup).segment_size script lists) upto
+    → BeginsUpto (opening.setup).seg_size order
+    (order_told front (opening.setup).seg_size script lists) upto
 
 -- so frames that were sent up to an entry's end are frames of the later order too
 abbrev pub FramesStayOfLog : Type 0

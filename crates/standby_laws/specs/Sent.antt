@@ -14,7 +14,7 @@ use Rattle.byte_position.specs.Position.{end_address_of}
 use Rattle.segment_disk.specs.Tape.{Tape}
 use Rattle.wal_page.specs.Order.{Entry, end_position}
 use Rattle.wal_reader.specs.declared.found.FoundRecord.{FoundRecord}
-use Rattle.written_log.specs.FoundLog.{end_behind}
+use Rattle.written_log_laws.specs.FoundLog.{end_behind}
 use Rattle.wal_stream.specs.FollowedLog.{IsLogOrder}
 use Rattle.wal_stream.specs.Frame.{IsFrameOfLog}
 use Rattle.wal_stream.specs.Sending.{IsSending}
@@ -22,7 +22,7 @@ use Rattle.wal_stream.specs.declared.fault.SendErr.{SendErr}
 use Rattle.wal_stream.specs.declared.fault.SendErr.TheVariants.{Read, Sink}
 use Rattle.wal_stream.specs.Fetched.{SourceState, frames_in}
 use Rattle.wal_stream.specs.Sent.{HandsOutLog}
-use Rattle.reopened_log.specs.WasLeft.{WasLeft}
+use Rattle.reopened_log_laws.specs.WasLeft.{WasLeft}
 use Rattle.standby_laws.specs.Later.{IsHardenedUpto}
 
 -- each whole piece of what a sink took, where it tells that, is a frame of an order's log up to an

@@ -11,7 +11,7 @@ ghost use Rattle.wal_stream.specs.Fetched.{SourceState};
 ghost use Rattle.wal_stream.specs.Receiving.{Receives};
 ghost use Rattle.wal_stream.specs.Sent.{HandsOutLog, promised_at};
 ghost use Rattle.wal_stream.specs.declared.outcome.Received.{Received};
-ghost use Rattle.reopened_log.specs.WasLeft.{WasLeft};
+ghost use Rattle.reopened_log_laws.specs.WasLeft.{WasLeft};
 ghost use Rattle.standby_laws.specs.History.{Closed, IsFoundSince, KeepsStandbyPromises, Lived, MayFollow, NoneTornRead, StandbyState};
 ghost use Rattle.standby_laws.specs.Later.{FramesStayOfLog, LaterOrdersBegin};
 ghost use Rattle.standby_laws.specs.Sent.{SentFramesAreOfLog, SentFramesComeOfLog};

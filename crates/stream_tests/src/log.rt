@@ -3,12 +3,12 @@
 ghost use Rattle.std.specs.Prelude.{◌≡◌};
 
 use bumpalo::Bump;
-use byte_position::Geometry;
-use record_spelling::Body;
+use byte_position::{Geometry, Page};
+use run_script::{Action, Line, generate, parse_run};
 use std::alloc::Global;
 use std::test::Fail;
 use wal_page::Placed;
-use wal_script::{Action, Line, generate, parse_run};
+use wal_spelling::Body;
 use wal_stream::{FRAME_SIZE, frame};
 use wal_types::Lsn;
 
@@ -124,7 +124,7 @@ impl Log {
     }
 
     /// A page of it, counted from its first one on.
-    pub(crate) fn page(&self, number: u16) -> [u8; 8192] {
+    pub(crate) fn page(&self, number: u16) -> Page {
         let mut bytes = [0; 8192];
         for n in 0..1024 {
             let word = self.words.get(1024 * usize::from(number) + n);
@@ -146,7 +146,7 @@ impl Log {
     }
 }
 
-fn put_word(bytes: &mut [u8; 8192], n: usize, word: u64) {
+fn put_word(bytes: &mut Page, n: usize, word: u64) {
     if n < 1024 {
         bytes[8 * n..8 * n + 8].copy_from_slice(&word.to_le_bytes());
     }

@@ -2,7 +2,7 @@
 
 ghost use Rattle.std.specs.Prelude.{◌≡◌, IfOk};
 ghost use Rattle.wal_rule.specs.Passes.{view_of_pass};
-ghost use Rattle.wal_core.specs.Opened.{first_view};
+ghost use Rattle.machine_state.specs.Opened.{first_view};
 ghost use Rattle.wal_log.specs.Logs.{IsPassOfLog, opening_of_log};
 
 use crate::log::SYSTEM_ID;
@@ -16,7 +16,7 @@ use wal_log::{Pass, Setup, Wal};
 
 // Segments of 1 MiB, of which the log may fill three, and a ring of four pages.
 const SETUP: Setup = Setup {
-    segment_size: 1_048_576,
+    seg_size: 1_048_576,
     ring_pages: 4,
     cap_segments: 3,
     sysid: SYSTEM_ID,

@@ -28,7 +28,7 @@ fn opened_upto(alloc: Global, disk: MemDisk, last: u32) -> Result<Standby<MemDis
     }
 }
 
-/// The same on a disk that does not fail.
+/// A standby of segment 1 alone, on a disk that does not fail.
 pub(crate) fn open(alloc: Global, disk: MemDisk) -> Result<Standby<MemDisk>, Fail> {
     standby_of(opened(alloc, disk))
 }

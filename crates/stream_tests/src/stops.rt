@@ -105,7 +105,7 @@ fn fails(rt: &impl Abort, alloc: Global, frames: &TwoFrames, failing: u64) -> Re
     let mut standby = open(alloc, disk_of(alloc, &[failing])?)?;
     assert_eq!(rt; frames.offer(&mut standby), Err(fault));
     let upto = standby.upto();
-    // The same is answered from then on, also to what is no frame.
+    // The fault is answered from then on, also to what is no frame.
     for count in [0, 8224] {
         assert_eq!(rt; standby.accept(&frames.first[..count]), Err(fault));
         assert_eq!(rt; standby.harden(), Err(fault));

@@ -1,94 +1,68 @@
--- What holds of each view holds after one is replaced or added, where it holds of the new one and
--- still holds of the others; and what a step does to one part of all views.
-use Rattle.std.proofs.Common.{◌≡◌, ◌≢◌, ◌⊎◌, ◌<◌, arith, inl, inr, ℕ, zero, suc, List, [], ◌∷◌, ◌++◌, length, map, set, sym, refl, ap, ◌∙◌, subst, ⊎_elim}
-use mathlib.Core.Option.{some-injective, some-ne-none}
-use mathlib.Core.List.{map-append}
-use lib.Seq.{map-set}
-use Rattle.atomic_table.proofs.Lists.{at_set, at_map, set_again}
-use Rattle.wal_core.specs.Views.{HasAt}
+-- Lists by index, and lines with what they ask for.
+use Rattle.std.proofs.Common.{◌≡◌, ◌≢◌, ◌⊎◌, inl, inr, ⊎_elim, ℕ, zero, suc, ◌<◌, List, [], ◌∷◌, length, set, slice_get, Some, None, refl, sym, ap, arith}
+use Rattle.machine_turns.specs.Doing.{Ask}
+use Rattle.machine_turns.specs.declared.script.PlainLine.{PlainLine}
+use Rattle.wal_core.specs.Lines.{AreLinesFor, IsLineFor}
 
-module _ {V : Type 0} where
-  pub one_set : (P : ℕ → V → Type 0) (views : List V) (id : ℕ) (w : V)
-      → ((j : ℕ) (u : V) → j ≢ id → HasAt views j u → P j u) → P id w
-      → (j : ℕ) (u : V) → HasAt (set views id w) j u → P j u
-  one_set P views id w others mine j u e = ⊎_elim
-      (λ (x : (j ≡ id) × (w ≡ u)). subst (λ (y : ℕ × V). P y.0 y.1) (λ i. (sym x.0 i, x.1 i)) mine)
-      (λ (x : (j ≢ id) × HasAt views j u). others j u x.0 x.1)
-      (at_set views id j w u e)
+module _ {A : Type 0} where
+  pub set_cases : (xs : List A) (i j : ℕ) (x y : A) → slice_get (set xs i x) j ≡ Some y
+      → ((j ≡ i) × (x ≡ y)) ⊎ ((j ≢ i) × (slice_get xs j ≡ Some y))
+  set_cases [] i j x y e = absurd (cc)
+  set_cases (z ∷ zs) zero zero x y e = inl (refl, cc)
+  set_cases (z ∷ zs) zero (suc j) x y e = inr (λ is. omega (arith, is), e)
+  set_cases (z ∷ zs) (suc i) zero x y e = inr (λ is. omega (arith, is), e)
+  set_cases (z ∷ zs) (suc i) (suc j) x y e = ⊎_elim
+      (λ (h : (j ≡ i) × (x ≡ y)). inl (ap suc h.0, h.1))
+      (λ (h : (j ≢ i) × (slice_get zs j ≡ Some y)). inr (λ is. h.0 (omega (arith, is)), h.1))
+      (set_cases zs i j x y e)
 
-  -- what is found in a longer list was there, or is new
-  pub at_new : (l : List V) (a b : V) (j : ℕ) → HasAt (l ++ a ∷ []) j b
-      → HasAt l j b ⊎ ((j ≡ length l) × (a ≡ b))
-  at_new [] a b zero e = inr (refl, some-injective a b e)
-  at_new [] a b (suc j) e = absurd (some-ne-none b (sym e))
-  at_new (x ∷ xs) a b zero e = inl e
-  at_new (x ∷ xs) a b (suc j) e =
-      ⊎_elim (λ t. inl t) (λ t. inr (ap suc t.0, t.1)) (at_new xs a b j e)
+  pub set_here : (xs : List A) (i : ℕ) (x y : A) → slice_get xs i ≡ Some x
+      → slice_get (set xs i y) i ≡ Some y
+  set_here [] i x y e = absurd (cc)
+  set_here (z ∷ zs) zero x y e = refl
+  set_here (z ∷ zs) (suc i) x y e = set_here zs i x y e
 
-  pub one_added : (P : ℕ → V → Type 0) (views : List V) (w : V)
-      → ((j : ℕ) (u : V) → HasAt views j u → P j u) → P (length views) w
-      → (j : ℕ) (u : V) → HasAt (views ++ w ∷ []) j u → P j u
-  one_added P views w others mine j u e = ⊎_elim
-      (λ (x : HasAt views j u). others j u x)
-      (λ (x : (j ≡ length views) × (w ≡ u)).
-      subst (λ (y : ℕ × V). P y.0 y.1) (λ i. (sym x.0 i, x.1 i)) mine)
-      (at_new views w u j e)
+  pub set_there : (xs : List A) (i j : ℕ) (x y : A) → j ≢ i → slice_get xs j ≡ Some x
+      → slice_get (set xs i y) j ≡ Some x
+  set_there [] i j x y apart e = absurd (cc)
+  set_there (z ∷ zs) zero zero x y apart e = absurd (apart refl)
+  set_there (z ∷ zs) zero (suc j) x y apart e = e
+  set_there (z ∷ zs) (suc i) zero x y apart e = e
+  set_there (z ∷ zs) (suc i) (suc j) x y apart e =
+      set_there zs i j x y (λ is. apart (ap suc is)) e
 
-  pub at_below : (l : List V) (a : V) (j : ℕ) → HasAt l j a → j < length l
-  at_below [] a j e = absurd (some-ne-none a (sym e))
-  at_below (x ∷ xs) a zero e = omega arith
-  at_below (x ∷ xs) a (suc j) e = let h = at_below xs a j e in omega arith
+  pub set_same : (xs : List A) (i : ℕ) (x : A) → slice_get xs i ≡ Some x → set xs i x ≡ xs
+  set_same [] i x e = refl
+  set_same (z ∷ zs) zero x e = let is : z ≡ x = cc in ap (λ (y : A). y ∷ zs) (sym is)
+  set_same (z ∷ zs) (suc i) x e = ap (λ (ys : List A). z ∷ ys) (set_same zs i x e)
 
-  pub at_same : (l : List V) (a b : V) (j : ℕ) → HasAt l j a → HasAt l j b → a ≡ b
-  at_same l a b j e f = some-injective a b (sym e ∙ f)
+  pub length_set : (xs : List A) (i : ℕ) (x : A) → length (set xs i x) ≡ length xs
+  length_set [] i x = refl
+  length_set (z ∷ zs) zero x = refl
+  length_set (z ∷ zs) (suc i) x = ap suc (length_set zs i x)
 
-  pub at_place : (views : List V) (id : ℕ) (v w : V) → HasAt views id v
-      → HasAt (set views id w) id w
-  at_place [] id v w e = absurd (some-ne-none v (sym e))
-  at_place (x ∷ xs) zero v w e = refl
-  at_place (x ∷ xs) (suc id) v w e = at_place xs id v w e
+  pub got_below : (xs : List A) (i : ℕ) (x : A) → slice_get xs i ≡ Some x → i < length xs
+  got_below [] i x e = absurd (cc)
+  got_below (z ∷ zs) zero x e = omega arith
+  got_below (z ∷ zs) (suc i) x e = let low = got_below zs i x e in omega arith
 
-  pub at_else : (views : List V) (id j : ℕ) (w u : V) → j ≢ id → HasAt views j u
-      → HasAt (set views id w) j u
-  at_else [] id j w u apart e = absurd (some-ne-none u (sym e))
-  at_else (x ∷ xs) zero zero w u apart e = absurd (apart refl)
-  at_else (x ∷ xs) zero (suc j) w u apart e = e
-  at_else (x ∷ xs) (suc id) zero w u apart e = e
-  at_else (x ∷ xs) (suc id) (suc j) w u apart e =
-      at_else xs id j w u (λ is. apart (ap suc is)) e
+  pub below_got : (xs : List A) (i : ℕ) → i < length xs → (x : A) × (slice_get xs i ≡ Some x)
+  below_got [] i low = absurd (omega arith)
+  below_got (z ∷ zs) zero low = (z, refl)
+  below_got (z ∷ zs) (suc i) low = below_got zs i (omega arith)
 
-  pub at_front : (views : List V) (j : ℕ) (w u : V) → HasAt views j u
-      → HasAt (views ++ w ∷ []) j u
-  at_front [] j w u e = absurd (some-ne-none u (sym e))
-  at_front (x ∷ xs) zero w u e = e
-  at_front (x ∷ xs) (suc j) w u e = at_front xs j w u e
+  pub none_above : (xs : List A) (i : ℕ) → slice_get xs i ≡ None → i < length xs → ⊥
+  none_above [] i e low = absurd (omega arith)
+  none_above (z ∷ zs) zero e low = absurd (cc)
+  none_above (z ∷ zs) (suc i) e low = none_above zs i e (omega arith)
 
-  pub at_end : (views : List V) (w : V) → HasAt (views ++ w ∷ []) (length views) w
-  at_end [] w = refl
-  at_end (x ∷ xs) w = at_end xs w
-
--- A part f of each view: a step that leaves the part of its view leaves the list of parts, and one
--- that changes it changes that place alone
-module _ {V W : Type 0} (f : V → W) where
-  pub part_same : (views : List V) (id : ℕ) (v w : V) → HasAt views id v → f w ≡ f v
-      → map f (set views id w) ≡ map f views
-  part_same views id v w here is = map-set f views id w
-      ∙ ap (λ (x : W). set (map f views) id x) is
-      ∙ set_again (map f views) id (f v) (at_map f views id v here)
-
-  pub part_set : (views : List V) (id : ℕ) (w : V)
-      → map f (set views id w) ≡ set (map f views) id (f w)
-  part_set views id w = map-set f views id w
-
-  pub part_at : (views : List V) (id : ℕ) (v : V) → HasAt views id v → HasAt (map f views) id (f v)
-  part_at views id v here = at_map f views id v here
-
-  pub part_added : (views : List V) (w : V) → map f (views ++ w ∷ []) ≡ map f views ++ f w ∷ []
-  part_added views w = map-append f views (w ∷ [])
-
-  -- a part, found, is that of some view
-  pub view_from : (views : List V) (id : ℕ) (x : W) → HasAt (map f views) id x
-      → (v : V) × HasAt views id v × (f v ≡ x)
-  view_from [] id x e = absurd (some-ne-none x (sym e))
-  view_from (v ∷ vs) zero x e = (v, refl, some-injective (f v) x e)
-  view_from (v ∷ vs) (suc id) x e = view_from vs id x e
+-- a line and what it asks for stand at the same number, or neither does
+pub lines_agree : (asks : List Ask) (lines : List PlainLine) → AreLinesFor asks lines → (i : ℕ)
+    → ((slice_get asks i ≡ None) × (slice_get lines i ≡ None))
+    ⊎ ((ask : Ask) × (line : PlainLine) × (slice_get asks i ≡ Some ask)
+    × (slice_get lines i ≡ Some line) × IsLineFor ask line)
+lines_agree [] [] are i = inl (refl, refl)
+lines_agree [] (line ∷ lines) are i = absurd are
+lines_agree (ask ∷ asks) [] are i = absurd are
+lines_agree (ask ∷ asks) (line ∷ lines) are zero = inr (ask, line, refl, refl, are.0)
+lines_agree (ask ∷ asks) (line ∷ lines) are (suc i) = lines_agree asks lines are.1 i

@@ -1,50 +1,32 @@
-//! Laws of the views of all passes and of the words, each proved by a function that does nothing. A
-//! step changes one word and one view: these say that all else is as before, which is what each
-//! part of the invariant needs that reads other words or another part of the view.
+//! Laws of plain data, each proved by a function that does nothing: by them what is proved of the
+//! machine's turns is proved of a core's.
 
-ghost use Rattle.std.specs.Prelude.{◌≡◌, ◌≢◌, ◌⊎◌, ℕ, ◌+◌, ◌*◌, ◌<◌, ◌≤◌, List, [], ◌∷◌, ◌++◌, length, map, set, slice_index};
-ghost use Rattle.wal_core.specs.declared.setup.Setup.{Setup};
-ghost use Rattle.wal_core.specs.Words.{end_word, ends_number, lock_number, lock_word, mapping_turn_number, word_count, word_of_ring};
-ghost use Rattle.wal_core.specs.Views.{Flight, HasAt, View, reserving_of};
-ghost use Rattle.wal_core.specs.Moves.{with_working};
+ghost use Rattle.std.specs.Prelude.{◌≡◌, ℕ, false, All, List, Option};
+ghost use Rattle.wal_types.specs.declared.record.Record.{Record};
+ghost use Rattle.wal_spelling.specs.Spelling.{Assembled, is_assembled_switch};
+ghost use Rattle.machine_state.specs.Views.{View};
+ghost use Rattle.machine_turns.specs.Doing.{Ask, Machine};
+ghost use Rattle.machine_turns.specs.declared.doing.PlainDoing.{PlainDoing};
+ghost use Rattle.machine_turns.specs.declared.script.PlainLine.{PlainLine};
+ghost use Rattle.machine_turns.specs.Writer.{WriterState};
+ghost use Rattle.wal_core.specs.Following.{Follows, StandsPlain, plain_step};
+ghost use Rattle.wal_core.specs.Lines.{AreScriptsFor, InsertsNoSwitch, IsBody};
 
-/// A step of one pass changes its own view alone, and of that the part alone that it is about: what
-/// all passes have of the reserved order stays, where it is another part that changes.
-pub fn parts_change_with_their_view()
-    ensures stays { (views : List View) (id : ℕ) (v : View) (locks : List ℕ) (flight : Flight)
-        → HasAt views id v
-        → map reserving_of (set views id (with_working locks flight v)) ≡ map reserving_of views }
-    ensures changes { (views : List View) (id : ℕ) (w : View)
-        → map reserving_of (set views id w) ≡ set (map reserving_of views) id w.reserving }
-    ensures grows { (views : List View) (w : View)
-        → map reserving_of (views ++ w ∷ []) ≡ map reserving_of views ++ w.reserving ∷ [] }
+/// A turn on plain data follows the machine's at every place of the order of steps: it tells the
+/// step that the order names and what comes behind it, and leaves the words and the view that the
+/// machine leaves.
+pub fn plain_turns_follow()
+    ensures { (m : Machine) (number : ℕ) (v : View) (ask : Ask) (line : PlainLine)
+        (copied : Option PlainLine) (w : WriterState) (d : PlainDoing)
+        → StandsPlain m number v ask line copied w d
+        → Follows m v ask d (plain_step m v line copied w d).left }
 {}
 
-/// Each word has its own number: a step that stores into one leaves all others, and one that stores
-/// the number that it meets, as a load, leaves all words.
-pub fn words_are_set_one_at_a_time()
-    ensures again { (words : List ℕ) (i : ℕ) → set words i (slice_index words i) ≡ words }
-    ensures single { (setup : Setup) (words : List ℕ) (i n : ℕ) → length words ≡ word_count setup
-        → i < ends_number → slice_index (set words i n) i ≡ n }
-    ensures other { (words : List ℕ) (i n j : ℕ) → j ≢ i
-        → slice_index (set words i n) j ≡ slice_index words j }
-    ensures lock { (setup : Setup) (words : List ℕ) (lock n : ℕ)
-        → length words ≡ word_count setup → lock < 8
-        → lock_word (set words (lock_number lock) n) lock ≡ n }
-    ensures other_locks { (words : List ℕ) (i n lock : ℕ)
-        → (i < 2) ⊎ (mapping_turn_number ≤ i) → lock < 8
-        → lock_word (set words i n) lock ≡ lock_word words lock }
-    ensures end { (setup : Setup) (words : List ℕ) (buffer n : ℕ)
-        → length words ≡ word_count setup → buffer < setup.ring_pages
-        → end_word (set words (ends_number + buffer) n) buffer ≡ n }
-    ensures ends_behind { (setup : Setup) (words : List ℕ) (place n b : ℕ) → b < setup.ring_pages
-        → end_word (set words (ends_number + setup.ring_pages + place) n) b ≡ end_word words b }
-    ensures ring { (setup : Setup) (words : List ℕ) (place n : ℕ)
-        → length words ≡ word_count setup → place < setup.ring_pages * 1024
-        → word_of_ring setup (set words (ends_number + setup.ring_pages + place) n) place ≡ n }
-    ensures ring_before { (setup : Setup) (words : List ℕ) (i n : ℕ)
-        → i < ends_number + setup.ring_pages
-        → word_of_ring setup (set words i n) ≡ word_of_ring setup words }
-    ensures wide { (setup : Setup) (words : List ℕ) (i n : ℕ) → length words ≡ word_count setup
-        → length (set words i n) ≡ word_count setup }
+/// Records that can be inserted end no segment. So bodies that `Body::assemble` made, and lines
+/// that do what backends of the machine are asked for, are what `Core::new` asks for.
+pub fn inserted_records_end_no_segment()
+    ensures body { (value : Record) (body : Assembled) → IsBody value body
+        → is_assembled_switch body ≡ false }
+    ensures scripts { (asks : List (List Ask)) (scripts : List (List PlainLine))
+        → AreScriptsFor asks scripts → All (All InsertsNoSwitch) scripts }
 {}

@@ -1,9 +1,15 @@
-//! The machine of a log that many backends fill side by side: its state, each step of it, and the
-//! invariant that every step keeps (PostgreSQL's xlog.c, XLogInsertRecord, WALInsertLockAcquire,
-//! GetXLogBuffer, AdvanceXLInsertBuffer, XLogWrite, as plain data).
+//! The machine of many backends, played turn by turn over plain data (the replay of a schedule). A
+//! caller makes a `Core` and gives turns to backends in any order; it takes no memory then. Nothing
+//! runs beside it: the schedule alone says how the backends' steps interleave.
 #![tactic(auto)]
 
+mod beginning;
 pub mod laws;
-pub mod setup;
+mod machine;
 
-pub use setup::Setup;
+pub use machine::{Core, CoreErr};
+pub use machine_turns::{
+    Event, PlainDoing, PlainFlight, PlainHold, PlainLine as Line, PlainPlace, PlainPurpose,
+    PlainStage, PlainView, PlainWatching, Script, Turn,
+};
+pub use machine_words::Word;

@@ -1,10 +1,10 @@
 -- Steps with the turn to write, which keep a pass's work and add nothing to its log.
 use Rattle.std.proofs.Common.{◌≡◌, ℕ, sym, ap, ◌∙◌, subst}
-use Rattle.wal_core.specs.Moves.{after_slot_out, with_hold}
-use Rattle.wal_core.specs.Views.{Hold, Plain, View}
+use Rattle.machine_state.specs.Moves.{after_slot_out, with_hold}
+use Rattle.machine_state.specs.Views.{Hold, Plain, View}
 use Rattle.wal_rule.specs.declared.seated.SeatedPass.{SeatedPass}
 use Rattle.wal_rule.specs.SeatedPasses.{view_of}
-use Rattle.page_writing.specs.InHand.{ChangesHand}
+use Rattle.word_ring.specs.InHand.{ChangesHand}
 use Rattle.wal_log.specs.Downs.{KnowsNoFault}
 use Rattle.wal_log.specs.Hands.{SetsDownAndRests}
 use Rattle.wal_log.specs.PassLogs.{log_of_pass}

@@ -6,15 +6,15 @@ use Rattle.std.specs.Prelude.{if◌then◌else◌, ◌==◌, Result, Err}
 use Rattle.byte_position.specs.Geometry.{IsSegmentSize}
 use Rattle.byte_position.proofs.EndAddresses.{end_address_of-mono}
 use Rattle.byte_position.proofs.Words.{end_address_of-mod_word}
-use Rattle.record_spelling.specs.Spelling.{Assembled}
+use Rattle.wal_spelling.specs.Spelling.{Assembled}
 use Rattle.wal_types.specs.declared.answers.Receipt.{Receipt}
 use Rattle.wal_page.specs.Order.{Entry, FollowsFrom, finish_of, position_behind}
 use Rattle.wal_page.proofs.PaddingLaws.{room_at-whole}
-use Rattle.wal_core.specs.declared.setup.Setup.{Setup}
-use Rattle.wal_core.specs.Moves.{with_async}
-use Rattle.wal_core.specs.Steps.{IsResting, load_async, raise_async, MayStep}
-use Rattle.wal_core.specs.Views.{View}
-use Rattle.wal_core.specs.Words.{Opening, end_form}
+use Rattle.machine_state.specs.declared.setup.Setup.{Setup}
+use Rattle.machine_state.specs.Moves.{with_async}
+use Rattle.machine_state.specs.Steps.{IsResting, load_async, raise_async, MayStep}
+use Rattle.machine_state.specs.Views.{View}
+use Rattle.machine_state.specs.Words.{Opening, end_form}
 use Rattle.wal_rule.specs.declared.seated.SeatedPass.{SeatedPass}
 use Rattle.wal_rule.specs.SeatedPasses.{HasView, StandsAtRest, Steps, hand_of, setup_of, view_of}
 use Rattle.wal_log.specs.Behind.{RaisesAsync}
@@ -164,10 +164,10 @@ starts_whole size position (x ∷ xs) valid whole follows e (suc k, low, is) =
     (k, omega (arith, low), is)
 
 finish_is_whole : (v : View) (e : Entry) → StandsWhole v e
-    → finish_of ((v.opening).setup).segment_size e % 8 ≡ 0
+    → finish_of ((v.opening).setup).seg_size e % 8 ≡ 0
 finish_is_whole v e stands =
     let sound = (stands.stands).sound in
-    let size : ℕ = ((v.opening).setup).segment_size in
+    let size : ℕ = ((v.opening).setup).seg_size in
     let valid = (sound.setup_is).size in
     let start = starts_whole size ((v.opening).place).position sound.order valid
     ((sound.reserved).placed).whole (sound.reserved).chained e stands.in_order in
@@ -195,12 +195,12 @@ module _ (setup : Setup) (body : Assembled) (old v : View) (receipt : Receipt)
       })
 
   -- its end is seen reserved
-  pub end_reserved : IsSegmentSize setup.segment_size
+  pub end_reserved : IsSegmentSize setup.seg_size
       → receipt.end.0 ≤ end_form setup (v.reserving).seen
   end_reserved size =
       let seen = (told.reserved).seen in
-      let low = end_address_of-mono setup.segment_size size
-      (position_behind setup.segment_size told.entry) (v.reserving).seen seen in
+      let low = end_address_of-mono setup.seg_size size
+      (position_behind setup.seg_size told.entry) (v.reserving).seen seen in
       omega (arith, told.end_is, low)
 
   -- and ends at a word, as each entry of an order
@@ -209,8 +209,8 @@ module _ (setup : Setup) (body : Assembled) (old v : View) (receipt : Receipt)
       let copied = told.copied in
       let same : ((copied.view).opening).setup ≡ setup =
       ap (λ (o : Opening). o.setup) (sym (copied.until).opening) ∙ own in
-      let whole : finish_of setup.segment_size told.entry % 8 ≡ 0 =
-      subst (λ (s : Setup). finish_of s.segment_size told.entry % 8 ≡ 0) same
+      let whole : finish_of setup.seg_size told.entry % 8 ≡ 0 =
+      subst (λ (s : Setup). finish_of s.seg_size told.entry % 8 ≡ 0) same
       (∥∥₁_elim copied.whole (Coded-set coded_ℕ _ _)
       (finish_is_whole copied.view told.entry)) in
       omega (arith, told.end_is, whole)

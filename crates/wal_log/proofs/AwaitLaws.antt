@@ -4,9 +4,9 @@ use Rattle.std.specs.Prelude.{Result, Ok, Err}
 use Rattle.std.proofs.Common.{◌≡◌, ℕ, ◌≤◌, MatchResult, max, List, refl, sym, ap, ◌∙◌, subst, arith}
 use Rattle.std.proofs.Math.Nat.{le-max_left}
 use mathlib.Core.Option.{none}
-use Rattle.wal_core.specs.Moves.{ready, unlocked, with_seen}
-use Rattle.wal_core.specs.Steps.{IsResting, load_flushed, load_position, load_written, view_behind}
-use Rattle.wal_core.specs.Views.{Away, Stage, View}
+use Rattle.machine_state.specs.Moves.{ready, unlocked, with_seen}
+use Rattle.machine_state.specs.Steps.{IsResting, load_flushed, load_position, load_written, view_behind}
+use Rattle.machine_state.specs.Views.{Away, Stage, View}
 use Rattle.wal_rule.specs.declared.seated.SeatedPass.{SeatedPass}
 use Rattle.wal_rule.specs.declared.writer.LogWriter.{LogWriter}
 use Rattle.wal_rule.specs.SeatedPasses.{HasView, StandsAtRest, Steps, view_of}

@@ -3,15 +3,15 @@ use Rattle.std.specs.Prelude.{Result, Ok, Err}
 use Rattle.std.proofs.Common.{◌≡◌, ℕ, ◌<◌, ◌≤◌, List, [], ◌∷◌, ◌++◌, refl, sym, ap, ◌∙◌, subst, arith}
 use Rattle.std.proofs.Math.Nat.{le-max_left, le-max_right}
 use mathlib.Core.Option.{none}
-use Rattle.record_spelling.specs.Spelling.{Assembled, assembled}
+use Rattle.wal_spelling.specs.Spelling.{Assembled, assembled}
 use Rattle.wal_page.specs.Order.{Entry, position_behind}
 use Rattle.wal_types.specs.declared.lsn.Lsn.{Lsn}
 use Rattle.wal_page.specs.Placed.{PlacedState, placed_end}
-use Rattle.wal_core.specs.declared.setup.Setup.{Setup}
-use Rattle.wal_core.specs.Moves.{entry_reserved, unlocked}
-use Rattle.wal_core.specs.Steps.{load_down, IsResting, view_behind}
+use Rattle.machine_state.specs.declared.setup.Setup.{Setup}
+use Rattle.machine_state.specs.Moves.{entry_reserved, unlocked}
+use Rattle.machine_state.specs.Steps.{load_down, IsResting, view_behind}
 use Rattle.wal_rule.specs.Downs.{KnowsDown}
-use Rattle.wal_core.specs.Views.{Copy, Copying, Flight, LogFull, StopCause, View, Working}
+use Rattle.machine_state.specs.Views.{Copy, Copying, Flight, LogFull, StopCause, View, Working}
 use Rattle.wal_rule.specs.declared.seated.SeatedPass.{SeatedPass}
 use Rattle.wal_rule.specs.SeatedPasses.{HasView, StandsAtRest, Steps, view_of}
 use Rattle.insert_locks.proofs.Runs.{one_lock}
@@ -41,10 +41,10 @@ module _ (setup : Setup) (body : Assembled) (old new : View) (locks : List ℕ) 
   abbrev entry : Entry
   entry = entry_reserved (old.reserving).number r.at (r.reserved).value
 
-  new_is : new ≡ reserved_view setup.segment_size entry r.prev locks old
+  new_is : new ≡ reserved_view setup.seg_size entry r.prev locks old
   new_is = (r.reserved).new_is
 
-  seen_is : (new.reserving).seen ≡ position_behind setup.segment_size entry
+  seen_is : (new.reserving).seen ≡ position_behind setup.seg_size entry
   seen_is = ap (λ (v : View). (v.reserving).seen) new_is
 
   pub place_keeps : KeepsPass old new
@@ -108,7 +108,7 @@ begun_under setup body locks old new start end placed r end_is holds up = (
     c : Copy
     c = record { entry = e; prev = r.prev; locks = locks; copied = 0 }
 
-    is : new ≡ reserved_view setup.segment_size e r.prev locks old
+    is : new ≡ reserved_view setup.seg_size e r.prev locks old
     is = (r.reserved).new_is
 
     own : PlacedState

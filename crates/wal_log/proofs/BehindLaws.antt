@@ -7,10 +7,10 @@ use Rattle.byte_position.specs.Position.{position_of}
 use Rattle.byte_position.proofs.EndAddresses.{end_address_of-mono}
 use Rattle.wal_types.specs.declared.answers.Hard.{Hard}
 use Rattle.machine_laws.proofs.OrderSteps.{unlocked-is}
-use Rattle.wal_core.specs.Moves.{unlocked, with_async}
-use Rattle.wal_core.specs.Steps.{IsResting, load_async, load_down, load_flushed, view_behind}
-use Rattle.wal_core.specs.Views.{FlushPromise, View, async_met_of, reserving_of, writing_of}
-use Rattle.wal_core.specs.Words.{Opening, end_form, position_word, prev_word, order_end}
+use Rattle.machine_state.specs.Moves.{unlocked, with_async}
+use Rattle.machine_state.specs.Steps.{IsResting, load_async, load_down, load_flushed, view_behind}
+use Rattle.machine_state.specs.Views.{FlushPromise, View, async_met_of, reserving_of, writing_of}
+use Rattle.machine_state.specs.Words.{Opening, end_form, position_word, prev_word, order_end}
 use Rattle.wal_rule.specs.declared.seated.SeatedPass.{SeatedPass}
 use Rattle.wal_rule.specs.Downs.{KnowsDown}
 use Rattle.wal_rule.specs.SeatedPasses.{StandsAtRest, StaysSeated, Steps, view_of}
@@ -37,7 +37,7 @@ pub async_is_reserved : (v : View) (seen : ℕ) → SeesPosition v seen
 async_is_reserved v seen sees =
     let s : Stands v = (sees.met).before in
     let sound = s.sound in
-    let size : ℕ = ((v.opening).setup).segment_size in
+    let size : ℕ = ((v.opening).setup).seg_size in
     let is : seen ≡ order_end v.opening sound.order =
     sees.seen_is ∙ ap unlocked (sees.met).met_is
     ∙ unlocked-is v.opening sound.order (position_word s.words)
@@ -54,7 +54,7 @@ pub flushed_is_reserved : (v : View) (seen : ℕ) → SeesPosition v seen
 flushed_is_reserved v seen sees =
     let s : Stands v = (sees.met).before in
     let sound = s.sound in
-    let size : ℕ = ((v.opening).setup).segment_size in
+    let size : ℕ = ((v.opening).setup).seg_size in
     let is : seen ≡ order_end v.opening sound.order =
     sees.seen_is ∙ ap unlocked (sees.met).met_is
     ∙ unlocked-is v.opening sound.order (position_word s.words)
@@ -88,10 +88,10 @@ module _ (flushed async seen : ℕ) (old first next new : View)
     (higher : first.async_met ≤ async)
     (furthest : All (λ (p : FlushPromise). p.upto ≤ flushed) old.writing.promises)
     (rises : (next.reserving).seen ≤ seen) (sees : SeesPosition next seen)
-    (begun : ((old.opening).setup).segment_size ≤ end_form (old.opening).setup seen) where
+    (begun : ((old.opening).setup).seg_size ≤ end_form (old.opening).setup seen) where
   first_is : first ≡ record old {
     reserving = record old.reserving {
-      seen = max (old.reserving).seen (position_of ((old.opening).setup).segment_size flushed);
+      seen = max (old.reserving).seen (position_of ((old.opening).setup).seg_size flushed);
     };
     writing = record old.writing { flushed = flushed };
   }
@@ -273,19 +273,19 @@ module _ (old down sight : View) (faults flushed target : ℕ)
   }
 
   -- a flush of it is not told that it is not reserved
-  is_reserved : (end : ℕ) (new : View) → IsSegmentSize ((old.opening).setup).segment_size
+  is_reserved : (end : ℕ) (new : View) → IsSegmentSize ((old.opening).setup).seg_size
       → KeepsPass old sight → IsUnreserved target end sight new → ⊥
   is_reserved end new size keeps un =
       let reserved = subst (λ (o : Opening). target ≤ end_form o.setup (sight.reserving).seen)
       same_opening sees.reserved in
       let end_is : end ≡ end_form (old.opening).setup (new.reserving).seen =
       un.end_is ∙ ap (λ (o : Opening). end_form o.setup (new.reserving).seen) keeps.opening in
-      let higher = end_address_of-mono ((old.opening).setup).segment_size size
+      let higher = end_address_of-mono ((old.opening).setup).seg_size size
       (sight.reserving).seen (new.reserving).seen un.rises in
       let above = un.above in
       omega (arith, reserved, end_is, higher, above)
 
-  pub refuses_behind : (new : View) → IsSegmentSize ((old.opening).setup).segment_size
+  pub refuses_behind : (new : View) → IsSegmentSize ((old.opening).setup).seg_size
       → KeepsPass old sight → flushed < target → (e : FlushErr)
       → TellsFlushErr target sight new e → RefusesBehind old new e
   refuses_behind new size keeps high (Disk n) told = (

@@ -2,10 +2,10 @@
 use Rattle.std.proofs.Common.{ℕ, ◌<◌, ◌^◌, Option, arith}
 use Rattle.segment_disk.specs.Tape.{Tape}
 use Rattle.machine_words.proofs.Bounds.{limit_low}
-use Rattle.wal_core.specs.Words.{Opening}
+use Rattle.machine_state.specs.Words.{Opening}
 use Rattle.wal_rule.specs.declared.writer.LogWriter.{LogWriter}
 use Rattle.wal_rule.specs.Closing.{ClosesWith}
-use Rattle.wal_core.specs.Views.{View}
+use Rattle.machine_state.specs.Views.{View}
 
 module _ {D : Type 0} (tape : D → Option Tape) (moment faults : D → ℕ) (began : Option Tape)
     (opening : Opening) where

@@ -7,12 +7,12 @@ use Rattle.byte_position.proofs.EndAddresses.{end_address_of-mono}
 use Rattle.wal_types.specs.declared.answers.Receipt.{Receipt}
 use Rattle.wal_types.specs.declared.answers.Refused.{Refused}
 use Rattle.wal_types.specs.declared.answers.Sealed.{Sealed}
-use Rattle.record_spelling.specs.Spelling.{Assembled}
+use Rattle.wal_spelling.specs.Spelling.{Assembled}
 use Rattle.wal_types.specs.declared.lsn.Lsn.{Lsn}
 use Rattle.wal_page.specs.Order.{Entry, position_behind}
-use Rattle.wal_core.specs.declared.setup.Setup.{Setup}
-use Rattle.wal_core.specs.Views.{FlushPromise, View}
-use Rattle.wal_core.specs.Words.{Opening, end_form}
+use Rattle.machine_state.specs.declared.setup.Setup.{Setup}
+use Rattle.machine_state.specs.Views.{FlushPromise, View}
+use Rattle.machine_state.specs.Words.{Opening, end_form}
 use Rattle.wal_log.specs.declared.inserting.InsertErr.{InsertErr}
 use Rattle.wal_log.specs.declared.inserting.InsertErr.TheVariants.{Down}
 use Rattle.wal_log.specs.Committing.{IsSealed, commit_known_down, refused_of_insert}
@@ -77,7 +77,7 @@ module _ (setup : Setup) (body : Assembled) (old mid new : View) (receipt : Rece
       addresses = subst (λ (ps : List FlushPromise).
           All (λ (p : FlushPromise). p.upto ≤ upto) ps) same_promises (hard.latest).addresses;
     };
-    seen = subst (λ (s : Setup). position_of s.segment_size upto ≤ (new.reserving).seen) own
+    seen = subst (λ (s : Setup). position_of s.seg_size upto ≤ (new.reserving).seen) own
         hard.seen;
     start_is = ap (λ (l : Lsn). l.0) start ∙ told.start_is;
     end_is = ap (λ (l : Lsn). l.0) end ∙ told.end_is;
@@ -92,7 +92,7 @@ module _ (setup : Setup) (body : Assembled) (old mid new : View) (receipt : Rece
   set_none keeps = both_up old mid (up_before old mid keeps told.up) told.up
 
   -- the pass has seen its own record reserved, up to its end
-  pub end_is_reserved : (end : ℕ) → IsSegmentSize setup.segment_size → (mid.opening).setup ≡ setup
+  pub end_is_reserved : (end : ℕ) → IsSegmentSize setup.seg_size → (mid.opening).setup ≡ setup
       → IsUnreserved receipt.end.0 end mid new → ⊥
   end_is_reserved end size own unreserved =
       let e : Entry = told.entry in
@@ -102,6 +102,6 @@ module _ (setup : Setup) (body : Assembled) (old mid new : View) (receipt : Rece
       let above = unreserved.above in
       let is : end ≡ end_form setup (new.reserving).seen =
       unreserved.end_is ∙ ap (λ (s : Setup). end_form s (new.reserving).seen) own in
-      let low = end_address_of-mono setup.segment_size size
-      (position_behind setup.segment_size e) (new.reserving).seen (omega (arith, seen, rises)) in
+      let low = end_address_of-mono setup.seg_size size
+      (position_behind setup.seg_size e) (new.reserving).seen (omega (arith, seen, rises)) in
       omega (arith, finish, above, is, low)

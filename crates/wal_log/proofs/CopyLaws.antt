@@ -13,10 +13,10 @@ use Rattle.wal_page.specs.Order.{Entry, finish_of, position_behind, rooms_of}
 use Rattle.wal_page.specs.EntryWords.{address_of_word, words_owned}
 use Rattle.wal_page.specs.Placed.{PlacedState, placed_end}
 use Rattle.wal_page.proofs.OrderLaws.{FollowsFrom-parts, rooms_of-append, rooms_of_cons}
-use Rattle.wal_core.specs.declared.setup.Setup.{Setup}
-use Rattle.wal_core.specs.Ringed.{IsOfOrder}
-use Rattle.wal_core.specs.Sound.{IsSound}
-use Rattle.wal_core.specs.Views.{Copy, Copying, Flight, HasAt, Landed, Working, flight_of, View}
+use Rattle.machine_state.specs.declared.setup.Setup.{Setup}
+use Rattle.machine_state.specs.Ringed.{IsOfOrder}
+use Rattle.machine_state.specs.Sound.{IsSound}
+use Rattle.machine_state.specs.Views.{Copy, Copying, Flight, HasAt, Landed, Working, flight_of, View}
 use Rattle.machine_laws.proofs.HeldLaws.{copying_same}
 use Rattle.machine_laws.proofs.RingLaws.{copy-whole, last_word-ends}
 use Rattle.wal_rule.specs.Stepping.{Stands}
@@ -32,14 +32,14 @@ use Rattle.wal_log.specs.PassLogs.{log_of_pass}
 use Rattle.wal_log.specs.Standing.{CopiesAlone, CopiesUnder, GoesOnSeated, HasNoTurn, KeepsPass, KeepsWork, entry_in_flight, entry_of_flight}
 use Rattle.wal_log.proofs.Keeping.{copies_stay, further_pass, same_pass, told_pass}
 use Rattle.wal_log.proofs.Seated.{further_seated, own_setup, same_setup, seat_stays, view_is}
-use Rattle.wal_core.specs.Words.{Opening, order_end, GoesOnAtPlace}
+use Rattle.machine_state.specs.Words.{Opening, order_end, GoesOnAtPlace}
 
 -- an entry in flight ends at the order's end or before
 entry-within : (opening : Opening) (order : List Entry) → GoesOnAtPlace opening order → (c : Copy)
     → IsOfOrder opening order c
-    → position_behind (opening.setup).segment_size c.entry ≤ order_end opening order
+    → position_behind (opening.setup).seg_size c.entry ≤ order_end opening order
 entry-within opening order chain c s =
-    let size : ℕ = (opening.setup).segment_size in
+    let size : ℕ = (opening.setup).seg_size in
     let from : ℕ = (opening.place).position in
     let parts = FollowsFrom-parts size from s.front (c.entry ∷ s.back)
     (subst (GoesOnAtPlace opening) s.are chain) in
@@ -51,7 +51,7 @@ entry-within opening order chain c s =
 
 module _ (v : View) (stands : Stands v) (c : Copy) (is : (v.working).flight ≡ Copying c) where
   abbrev size : ℕ
-  size = ((v.opening).setup).segment_size
+  size = ((v.opening).setup).seg_size
 
   abbrev sound : IsSound stands.first v.opening stands.words stands.home stands.views
   sound = stands.sound
@@ -118,7 +118,7 @@ module _ (setup : Setup) (locks : List ℕ) (placed : PlacedState) (v : View)
 
     pub all_copied : (before : PlacedState) → IsSamePlace before placed
         → placed.next ≡ placed_end before
-        → (c.copy).copied ≡ words_owned ((v.opening).setup).segment_size (c.copy).entry
+        → (c.copy).copied ≡ words_owned ((v.opening).setup).seg_size (c.copy).entry
     all_copied before same ended =
         let here : placed.next ≡ placed_end placed = ended ∙ sym (ap placed_end same) in
         ∥∥₁_elim stood (Coded-set coded_ℕ _ _) (λ (stands : Stands v).
@@ -188,9 +188,9 @@ module _ (setup : Setup) (p : PlacedState) (v : View) where
       → StaysCopying setup p (record p { next = p.next + 8 * count }) v (copied_view count v)
   copied_stays count = record {
     copies = λ locks c.
-        let further_on : address_of_word setup.segment_size (c.copy).entry (c.copy).copied
+        let further_on : address_of_word setup.seg_size (c.copy).entry (c.copy).copied
         + 8 * count
-        ≡ address_of_word setup.segment_size (c.copy).entry ((c.copy).copied + count) =
+        ≡ address_of_word setup.seg_size (c.copy).entry ((c.copy).copied + count) =
         omega arith in
         record {
           copy = record c.copy { copied = (c.copy).copied + count };
@@ -286,7 +286,7 @@ pub alone_whole : {D : Type 0} → (v : SeatedPass D) (locks : List ℕ) (p : Pl
     → (c : CopiesAlone locks p v) → (before : PlacedState) → IsSamePlace before p
     → p.next ≡ placed_end before
     → ((c.under).copy).copied
-    ≡ words_owned (((view_of v).opening).setup).segment_size ((c.under).copy).entry
+    ≡ words_owned (((view_of v).opening).setup).seg_size ((c.under).copy).entry
 alone_whole v locks p c = all_copied (setup_of v) locks p (view_of v) c.under (v.seated).stands
     (sym (own_setup v))
 

@@ -1,15 +1,15 @@
 -- A record in flight, with its pass seated at the log's table and put back from there.
 use Rattle.std.proofs.Common.{◌≡◌, ◌≢◌, ◌≤◌, inl, ℕ, List, [], ◌∷◌, refl, sym, ap, ◌∙◌, subst, arith}
 use Rattle.byte_position.specs.Position.{address_of}
-use Rattle.record_spelling.specs.Spelling.{Assembled}
+use Rattle.wal_spelling.specs.Spelling.{Assembled}
 use Rattle.wal_types.specs.declared.answers.Receipt.{Receipt}
 use mathlib.Core.Option.{some}
 use Rattle.wal_page.specs.EntryWords.{words_owned}
 use Rattle.wal_page.specs.Order.{Entry}
 use Rattle.wal_page.specs.Placed.{PlacedState, placed_end}
-use Rattle.wal_core.specs.Steps.{load_down, IsResting, IsStranded}
-use Rattle.wal_core.specs.Views.{Copy, View, Working}
-use Rattle.wal_core.specs.declared.setup.Setup.{Setup}
+use Rattle.machine_state.specs.Steps.{load_down, IsResting, IsStranded}
+use Rattle.machine_state.specs.Views.{Copy, View, Working}
+use Rattle.machine_state.specs.declared.setup.Setup.{Setup}
 use Rattle.wal_rule.specs.declared.pass.Pass.{Pass}
 use Rattle.wal_rule.specs.declared.seated.SeatedPass.{SeatedPass}
 use Rattle.wal_rule.specs.declared.table.LogTable.{LogTable}
@@ -42,10 +42,10 @@ use Rattle.wal_log.proofs.Unlocking.{landed_rests, locks_under, none_left, reste
 
 -- with the same start, another entry starts at the same address
 same_start : (setup : Setup) (c : Copy) (placed : PlacedState) (start at : ℕ)
-    → start ≡ address_of setup.segment_size at → placed.start ≡ at
-    → (c.entry).start ≡ placed.start → start ≡ address_of setup.segment_size (c.entry).start
+    → start ≡ address_of setup.seg_size at → placed.start ≡ at
+    → (c.entry).start ≡ placed.start → start ≡ address_of setup.seg_size (c.entry).start
 same_start setup c placed start at is there same =
-    is ∙ ap (address_of setup.segment_size) (sym (same ∙ there))
+    is ∙ ap (address_of setup.seg_size) (sym (same ∙ there))
 
 module _ {D : Type 0} (wal : Wal D) (pass : Pass) (seated : SeatedPass D)
     (view : (seated.seat).me ≡ (view_of_pass pass, [])) (table : (seated.table).now ≡ table_of wal)
@@ -160,7 +160,7 @@ module _ {D : Type 0} (wal : Wal D) (flight : Inflight) (is : IsInFlightOf wal f
 
   module _ (ended : placed.next ≡ placed_end placed) where
     all_copied : (((flight_copies.under).copy).copied)
-        ≡ words_owned (((view_of seated).opening).setup).segment_size
+        ≡ words_owned (((view_of seated).opening).setup).seg_size
         ((flight_copies.under).copy).entry
     all_copied = alone_whole seated locks placed flight_copies placed refl ended
 

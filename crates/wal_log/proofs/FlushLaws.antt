@@ -12,15 +12,15 @@ use Rattle.byte_position.specs.Position.{position_of}
 use Rattle.byte_position.specs.Geometry.{IsSegmentSize}
 use Rattle.byte_position.proofs.EndAddresses.{end_address_of-mono}
 use Rattle.wal_types.specs.declared.answers.Hard.{Hard}
-use Rattle.wal_core.specs.Durable.{IsPromised, IsToldRightly}
-use Rattle.wal_core.specs.Moves.{with_hold}
-use Rattle.wal_core.specs.Steps.{load_flushed, load_moment, store_flushed, store_moment, value_behind, view_behind, MayStep}
-use Rattle.wal_core.specs.Views.{FlushPromise, Plain, receipts_of, Out, Hold, Lent, View}
-use Rattle.wal_core.specs.Words.{Opening, down_word, end_form, flushed_word, moment_word}
+use Rattle.machine_state.specs.Durable.{IsPromised, IsToldRightly}
+use Rattle.machine_state.specs.Moves.{with_hold}
+use Rattle.machine_state.specs.Steps.{load_flushed, load_moment, store_flushed, store_moment, value_behind, view_behind, MayStep}
+use Rattle.machine_state.specs.Views.{FlushPromise, Plain, receipts_of, Out, Hold, Lent, View}
+use Rattle.machine_state.specs.Words.{Opening, down_word, end_form, flushed_word, moment_word}
 use Rattle.wal_rule.specs.Stepping.{Meets, Stands}
-use Rattle.page_writing.specs.InHand.{lent_in, writer_in}
-use Rattle.page_writing.proofs.Bounds.{own_writer}
-use Rattle.page_writing.proofs.HandLaws.{HasLent, hold_is}
+use Rattle.word_ring.specs.InHand.{lent_in, writer_in}
+use Rattle.word_ring.proofs.CountBounds.{own_writer}
+use Rattle.word_ring.proofs.HandLaws.{HasLent, hold_is}
 use Rattle.wal_log.specs.declared.flushing.FlushErr.{FlushErr}
 use Rattle.wal_log.specs.declared.flushing.FlushErr.TheVariants as flushes
 use Rattle.wal_log.specs.declared.flushing.TryFlushErr.{TryFlushErr}
@@ -152,7 +152,7 @@ has_reached v upto moment l is stands =
 abbrev pub told_view : (upto moment flushed : ℕ) → Hold → View → View
 told_view upto moment flushed hold v = record v {
   reserving = record v.reserving {
-    seen = max (v.reserving).seen (position_of ((v.opening).setup).segment_size upto);
+    seen = max (v.reserving).seen (position_of ((v.opening).setup).seg_size upto);
   };
   writing = record v.writing {
     flushed = flushed;
@@ -214,7 +214,7 @@ module _ (flushed moment : ℕ) (old mid new : View)
       ∙ moment_loaded moment (record old {
         reserving = record old.reserving {
           seen = max (old.reserving).seen
-              (position_of ((old.opening).setup).segment_size flushed);
+              (position_of ((old.opening).setup).seg_size flushed);
         };
         writing = record old.writing { flushed = flushed };
       })
@@ -363,7 +363,7 @@ module _ (asked upto moment : ℕ) (old mid new : View) (same : log_of_pass mid 
           All (λ (p : FlushPromise). p.upto ≤ upto) ps) same_promises (told.latest).addresses;
     };
     up = told.up;
-    seen = subst (λ (o : Opening). position_of (o.setup).segment_size upto
+    seen = subst (λ (o : Opening). position_of (o.setup).seg_size upto
         ≤ (new.reserving).seen) keeps.opening told.seen;
   }
 
@@ -387,26 +387,26 @@ told_still asked upto moment old new newer same keeps up told = record {
 
 -- a failed call of the device, of a pass that has seen so far reserved
 pub fails_flush : (asked faults : ℕ) (old new : View)
-    → IsSegmentSize ((old.opening).setup).segment_size
+    → IsSegmentSize ((old.opening).setup).seg_size
     → asked ≤ end_form (old.opening).setup (old.reserving).seen
     → (old.reserving).seen ≤ (new.reserving).seen → new.writing.flushed < asked
     → SetsDownItself faults new → FailsItsFlush asked faults old new
 fails_flush asked faults old new size reserved rises above down = record {
   down = down;
   above = above;
-  reserved = (let higher = end_address_of-mono ((old.opening).setup).segment_size size
+  reserved = (let higher = end_address_of-mono ((old.opening).setup).seg_size size
       (old.reserving).seen (new.reserving).seen rises in omega (arith, reserved, higher));
 }
 
 -- an address that was reserved is so still
 pub is_to_be_flushed : (asked : ℕ) (old new : View)
-    → IsSegmentSize ((old.opening).setup).segment_size
+    → IsSegmentSize ((old.opening).setup).seg_size
     → asked ≤ end_form (old.opening).setup (old.reserving).seen → KeepsPass old new
     → new.writing.flushed < asked → KnowsNoFault new → IsToBeFlushed asked new
 is_to_be_flushed asked old new size reserved keeps above up = record {
   reserved = subst (λ (o : Opening). asked ≤ end_form o.setup (new.reserving).seen)
       (sym keeps.opening)
-      (let higher = end_address_of-mono ((old.opening).setup).segment_size size
+      (let higher = end_address_of-mono ((old.opening).setup).seg_size size
       (old.reserving).seen (new.reserving).seen keeps.rises in omega (arith, reserved, higher));
   above = above;
   up = up;
@@ -414,7 +414,7 @@ is_to_be_flushed asked old new size reserved keeps above up = record {
 
 -- the turn to write was not had, and steps before it set no down value
 pub tells_turn : (asked : ℕ) (old mid new : View)
-    → IsSegmentSize ((old.opening).setup).segment_size
+    → IsSegmentSize ((old.opening).setup).seg_size
     → asked ≤ end_form (old.opening).setup (old.reserving).seen
     → KeepsPass old new → mid.writing.down_set ≡ old.writing.down_set
     → HasPassedLocks asked mid → new.writing.flushed < asked → (e : TurnErr)
@@ -434,7 +434,7 @@ module _ (asked : ℕ) (old mid new : View) (keeps : KeepsPass old mid) where
     end_is = is.end_is
         ∙ ap (λ (o : Opening). end_form o.setup (new.reserving).seen) keeps.opening;
     rises = (let r = is.rises in let before = keeps.rises in omega (arith, r, before));
-    begun = subst (λ (o : Opening). (o.setup).segment_size ≤ end) keeps.opening is.begun;
+    begun = subst (λ (o : Opening). (o.setup).seg_size ≤ end) keeps.opening is.begun;
     above = is.above;
     sight = is.sight;
     since = (let s = is.since in let before = keeps.rises in omega (arith, s, before));

@@ -3,7 +3,7 @@
 use Rattle.std.proofs.Common.{◌≡◌, ◌⊎◌, ℕ, ◌<◌, ◌∷◌, ◌++◌, [], List, inl, inr, suc, zero, arith, sym, ◌∙◌, subst, length, slice_index_or}
 use Rattle.std.proofs.lemmas.List.{get_or_append_left, get_or_default, length-append}
 use Rattle.machine_laws.specs.SharedOrders.{HasNumber}
-use Rattle.wal_core.specs.Views.{View}
+use Rattle.machine_state.specs.Views.{View}
 use Rattle.wal_log.specs.Sharing.{KeepEach, SomeHas}
 
 module _ (number : ℕ) where

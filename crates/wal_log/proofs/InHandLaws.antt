@@ -5,18 +5,18 @@ use Rattle.std.proofs.Math.Logic.{∥∥₁_elim}
 use mathlib.Core.Option.{none, some}
 use Rattle.segment_disk.specs.Cause.{Rose}
 use Rattle.segment_disk.specs.Tape.{Tape}
-use Rattle.wal_core.specs.Steps.{set_down, slot_in, store_written, MayStep}
-use Rattle.wal_core.specs.Views.{Plain, Out, Hold, Lent, View}
+use Rattle.machine_state.specs.Steps.{set_down, slot_in, store_written, MayStep}
+use Rattle.machine_state.specs.Views.{Plain, Out, Hold, Lent, View}
 use Rattle.wal_rule.specs.declared.seated.SeatedPass.{SeatedPass}
 use Rattle.wal_rule.specs.declared.writer.LogWriter.{LogWriter}
 use Rattle.wal_rule.specs.Ruled.{IsOutOf}
-use Rattle.wal_core.specs.Moves.{after_slot_out, lent}
+use Rattle.machine_state.specs.Moves.{after_slot_out, lent}
 use Rattle.wal_rule.specs.Slotted.{slot_plain}
 use Rattle.wal_rule.specs.Stepping.{Stands}
 use Rattle.wal_rule.specs.SeatedPasses.{StaysSeated, began_of, hand_of, opening_of, view_of}
-use Rattle.page_writing.specs.InHand.{HasHand, lent_in, writer_in}
-use Rattle.page_writing.proofs.Bounds.{own_writer}
-use Rattle.page_writing.proofs.HandLaws.{HasLent, hand_there, hold_is}
+use Rattle.word_ring.specs.InHand.{HasHand, lent_in, writer_in}
+use Rattle.word_ring.proofs.CountBounds.{own_writer}
+use Rattle.word_ring.proofs.HandLaws.{HasLent, hand_there, hold_is}
 use Rattle.wal_log.specs.Downs.{KnowsNoFault}
 
 -- ---- in the view

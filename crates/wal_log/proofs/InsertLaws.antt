@@ -2,12 +2,12 @@
 use Rattle.std.proofs.Common.{◌≡◌, ℕ, ◌+◌, List, [], ◌∷◌, sym, ap, ◌∙◌, arith}
 use Rattle.byte_position.specs.Position.{end_address_of}
 use Rattle.wal_types.specs.declared.lsn.Lsn.{Lsn}
-use Rattle.record_spelling.specs.Spelling.{Assembled, assembled}
+use Rattle.wal_spelling.specs.Spelling.{Assembled, assembled}
 use Rattle.wal_page.specs.Order.{Entry, assembled_room_at, finish_of}
 use Rattle.wal_page.specs.Placed.{PlacedState, placed_end}
 use Rattle.wal_types.specs.declared.answers.Receipt.{Receipt}
-use Rattle.wal_core.specs.declared.setup.Setup.{Setup}
-use Rattle.wal_core.specs.Views.{View}
+use Rattle.machine_state.specs.declared.setup.Setup.{Setup}
+use Rattle.machine_state.specs.Views.{View}
 use Rattle.wal_log.specs.declared.beginning.Begun.{Begun}
 use Rattle.wal_log.specs.declared.fault.Fault.{Fault}
 use Rattle.wal_log.specs.declared.fault.Fault.TheVariants.{Disk, Down}
@@ -34,12 +34,12 @@ module _ (setup : Setup) (body : Assembled) (locks : List ℕ) (old mid new : Vi
   }
 
   -- and ends where its record does at its place
-  pub ends_there : end ≡ finish_of setup.segment_size begun.entry
+  pub ends_there : end ≡ finish_of setup.seg_size begun.entry
   ends_there =
       let own = (begun.reserved).own in
       begun.end_is ∙ ap placed_end begun.placed_is
-      ∙ ap (λ (a : Assembled). end_address_of setup.segment_size ((begun.entry).start
-      + assembled_room_at setup.segment_size (begun.entry).start a))
+      ∙ ap (λ (a : Assembled). end_address_of setup.seg_size ((begun.entry).start
+      + assembled_room_at setup.seg_size (begun.entry).start a))
       (sym (ap (λ (e : Entry). assembled e.value) own.entry_is ∙ own.of_body))
 
   -- the pass was up where the record began, and so it was before

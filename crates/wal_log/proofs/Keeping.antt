@@ -3,15 +3,15 @@ use Rattle.std.proofs.Common.{◌≡◌, ◌⊎◌, inl, inr, max, ℕ, List, re
 use mathlib.Core.Logic.{dite}
 use mathlib.Core.Option.{none}
 use native.Mathlib.Decide.{ℕ_discrete}
-use Rattle.wal_core.specs.Moves.{after_slot_out, fault_number, lent, with_hold, with_told}
-use Rattle.wal_core.specs.Steps.{IsResting, load_down, view_behind}
-use Rattle.wal_core.specs.declared.setup.Setup.{Setup}
-use Rattle.wal_core.specs.Views.{Idle, Hold, Out, Plain, View, Working}
+use Rattle.machine_state.specs.Moves.{after_slot_out, fault_number, lent, with_hold, with_told}
+use Rattle.machine_state.specs.Steps.{IsResting, load_down, view_behind}
+use Rattle.machine_state.specs.declared.setup.Setup.{Setup}
+use Rattle.machine_state.specs.Views.{Idle, Hold, Out, Plain, View, Working}
 use Rattle.wal_page.specs.Placed.{PlacedState}
 use Rattle.wal_rule.specs.declared.seated.SeatedPass.{SeatedPass}
 use Rattle.wal_rule.specs.Downs.{KnowsDown}
 use Rattle.wal_rule.specs.SeatedPasses.{view_of}
-use Rattle.page_writing.specs.InHand.{ChangesHand}
+use Rattle.word_ring.specs.InHand.{ChangesHand}
 use Rattle.wal_log.specs.Downs.{KnowsNoFault, MeetsDown, SetsDownItself}
 use Rattle.wal_log.specs.Hands.{SetsDownAndRests}
 use Rattle.wal_log.specs.Standing.{CopiesUnder, KeepsPass, KeepsWork}

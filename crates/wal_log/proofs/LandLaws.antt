@@ -1,9 +1,9 @@
 -- What a copy leaves that was given up, or whose locks were given back.
 use Rattle.std.proofs.Common.{◌≡◌, ◌≢◌, ◌⊎◌, ℕ, List, inl, inr, sym, ap, ◌∙◌, subst}
 use Rattle.wal_page.specs.Placed.{PlacedState}
-use Rattle.wal_core.specs.declared.setup.Setup.{Setup}
-use Rattle.wal_core.specs.Steps.{IsResting}
-use Rattle.wal_core.specs.Views.{View}
+use Rattle.machine_state.specs.declared.setup.Setup.{Setup}
+use Rattle.machine_state.specs.Steps.{IsResting}
+use Rattle.machine_state.specs.Views.{View}
 use Rattle.wal_log.specs.declared.fault.Fault.{Fault}
 use Rattle.wal_log.specs.declared.fault.Fault.TheVariants.{Disk, Down}
 use Rattle.wal_log.specs.Downs.{KnowsNoFault, MeetsFault}

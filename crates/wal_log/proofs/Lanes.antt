@@ -2,7 +2,7 @@
 use Rattle.std.proofs.Common.{◌≡◌, ℕ, ◌<◌, ◌∷◌, ◌++◌, [], List, suc, zero, ap, arith, ◌∙◌, length, map, slice_index_or}
 use Rattle.std.proofs.lemmas.List.{map_push}
 use Rattle.wal_rule.specs.Closing.{KeepsNumbers}
-use Rattle.wal_core.specs.Views.{View}
+use Rattle.machine_state.specs.Views.{View}
 use Rattle.wal_log.specs.Sharing.{KeepEach}
 
 module _ {Lane : Type 0} (view : Lane → View) where

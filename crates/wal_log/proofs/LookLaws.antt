@@ -4,8 +4,8 @@ use Rattle.std.specs.Prelude.{Result, Ok, Err}
 use Rattle.std.proofs.Common.{◌≡◌, ◌⊎◌, ℕ, inl, inr, sym, ap, subst, ◌∙◌}
 use mathlib.Core.Option.{none}
 use Rattle.wal_types.specs.declared.answers.Hard.{Hard}
-use Rattle.wal_core.specs.Steps.{load_down, view_behind}
-use Rattle.wal_core.specs.Views.{View}
+use Rattle.machine_state.specs.Steps.{load_down, view_behind}
+use Rattle.machine_state.specs.Views.{View}
 use Rattle.insert_locks.specs.Watching.{with_sight}
 use Rattle.wal_rule.specs.declared.seated.SeatedPass.{SeatedPass}
 use Rattle.wal_rule.specs.SeatedPasses.{view_of}

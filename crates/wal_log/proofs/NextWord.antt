@@ -3,10 +3,10 @@
 use Rattle.std.proofs.Common.{◌≡◌, ℕ, ◌^◌, ◌<◌, List, Contains, sym, ap, ◌∙◌, subst, arith}
 use Rattle.wal_page.specs.EntryWords.{address_of_word}
 use Rattle.wal_page.specs.Placed.{PlacedState}
-use Rattle.wal_core.specs.declared.setup.Setup.{Setup}
-use Rattle.wal_core.specs.Locked.{most_told}
-use Rattle.wal_core.specs.Words.{end_form}
-use Rattle.wal_core.specs.Views.{Copy, Copying, Flight, Working, View}
+use Rattle.machine_state.specs.declared.setup.Setup.{Setup}
+use Rattle.machine_state.specs.Locked.{most_told}
+use Rattle.machine_state.specs.Words.{end_form}
+use Rattle.machine_state.specs.Views.{Copy, Copying, Flight, Working, View}
 use Rattle.insert_locks.specs.Holding.{MayTell}
 use Rattle.machine_laws.proofs.ToldLaws.{told_of_copy}
 use Rattle.wal_rule.specs.declared.seated.SeatedPass.{SeatedPass}
@@ -27,9 +27,9 @@ module _ {D : Type 0} (p : SeatedPass D) (locks : List ℕ) (placed : PlacedStat
   flight : (v.working).flight ≡ Copying copy
   flight = ap (λ (w : Working). w.flight) (copies.under).working
 
-  next_is : placed.next ≡ address_of_word ((v.opening).setup).segment_size copy.entry copy.copied
+  next_is : placed.next ≡ address_of_word ((v.opening).setup).seg_size copy.entry copy.copied
   next_is = ap (λ (q : PlacedState). q.next) (copies.under).rest
-      ∙ ap (λ (s : Setup). address_of_word s.segment_size copy.entry copy.copied)
+      ∙ ap (λ (s : Setup). address_of_word s.seg_size copy.entry copy.copied)
       (sym (own_setup p))
 
   pub told_low : placed.next < 2 ^ 60
@@ -41,12 +41,12 @@ module _ {D : Type 0} (p : SeatedPass D) (locks : List ℕ) (placed : PlacedStat
   pub may_tell : MayTell locks placed.next v
   may_tell lock among = (
     has (v.working).locks (ap (λ (w : Working). w.locks) (copies.under).working) lock among,
-    subst (λ (f : Flight). placed.next < most_told ((v.opening).setup).segment_size
+    subst (λ (f : Flight). placed.next < most_told ((v.opening).setup).seg_size
         (end_form (v.opening).setup (v.reserving).seen) lock f) (sym flight)
         (omega (
           arith,
           next_is,
-          told_of_copy ((v.opening).setup).segment_size
+          told_of_copy ((v.opening).setup).seg_size
               (end_form (v.opening).setup (v.reserving).seen) copy lock
               (has copy.locks (copies.under).under lock among),
         )),

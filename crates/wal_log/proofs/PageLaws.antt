@@ -3,13 +3,13 @@ use Rattle.std.proofs.Common.{◌≡◌, ◌≢◌, ℕ, ◌+◌, ◌*◌, ◌/�
 use Rattle.std.proofs.Math.Nat.{le-max_left}
 use mathlib.Core.Option.{none}
 use Rattle.atomic_table.proofs.Lists.{at_map}
-use Rattle.wal_core.specs.declared.setup.Setup.{Setup}
-use Rattle.wal_core.specs.Locked.{HasTurn}
-use Rattle.wal_core.specs.Paged.{AtStage}
-use Rattle.wal_core.specs.Sound.{IsSound}
-use Rattle.wal_core.specs.Steps.{load_buffer_end, load_initialised_end, view_behind}
-use Rattle.wal_core.specs.Views.{Looked, Stage, Taken, View, mapper_of}
-use Rattle.wal_core.specs.Words.{initialised_word, word_of_ring, written_word}
+use Rattle.machine_state.specs.declared.setup.Setup.{Setup}
+use Rattle.machine_state.specs.Locked.{HasTurn}
+use Rattle.machine_state.specs.Paged.{AtStage}
+use Rattle.machine_state.specs.Sound.{IsSound}
+use Rattle.machine_state.specs.Steps.{load_buffer_end, load_initialised_end, view_behind}
+use Rattle.machine_state.specs.Views.{Looked, Stage, Taken, View, mapper_of}
+use Rattle.machine_state.specs.Words.{initialised_word, word_of_ring, written_word}
 use Rattle.wal_rule.specs.declared.seated.SeatedPass.{SeatedPass}
 use Rattle.wal_rule.specs.SeatedPasses.{HasView, StaysSeated, view_of}
 use Rattle.wal_rule.specs.Stepping.{Meets, Stands}

@@ -1,9 +1,9 @@
 -- A call seats a pass, comes to rest with it, and puts it back: what it answers of the seated pass
 -- it answers of the pass.
 use Rattle.std.proofs.Common.{◌≡◌, List, [], ℕ, sym, ap, ◌∙◌, subst}
-use Rattle.wal_core.specs.Steps.{IsResting}
-use Rattle.wal_core.specs.Views.{View}
-use Rattle.wal_core.specs.declared.setup.Setup.{Setup}
+use Rattle.machine_state.specs.Steps.{IsResting}
+use Rattle.machine_state.specs.Views.{View}
+use Rattle.machine_state.specs.declared.setup.Setup.{Setup}
 use Rattle.wal_rule.specs.declared.pass.Pass.{Pass}
 use Rattle.wal_rule.specs.declared.seated.SeatedPass.{SeatedPass}
 use Rattle.wal_rule.specs.declared.table.LogTable.{LogTable}

@@ -3,11 +3,11 @@ use Rattle.std.specs.Prelude.{if◌then◌else◌, ◌==◌}
 use Rattle.std.proofs.Common.{◌≡◌, ◌≢◌, ℕ, Bool, [], ◌∷◌, ◌++◌, length, max, refl, sym, ap, ◌∙◌, ne_eqb}
 use mathlib.Core.Option.{Option, none, some}
 use Rattle.byte_position.specs.Position.{position_of}
-use Rattle.wal_core.specs.Moves.{after_advance, fault_number, with_hold}
-use Rattle.wal_core.specs.Steps.{advance, load_down, load_flushed, load_moment, set_down, store_written, take_write_turn, view_behind}
-use Rattle.wal_core.specs.Views.{Turned, Out, Hold, View}
-use Rattle.page_writing.specs.InHand.{lent_in, writer_in}
-use Rattle.page_writing.proofs.HandLaws.{HasLent, hold_is}
+use Rattle.machine_state.specs.Moves.{after_advance, fault_number, with_hold}
+use Rattle.machine_state.specs.Steps.{advance, load_down, load_flushed, load_moment, set_down, store_written, take_write_turn, view_behind}
+use Rattle.machine_state.specs.Views.{Turned, Out, Hold, View}
+use Rattle.word_ring.specs.InHand.{lent_in, writer_in}
+use Rattle.word_ring.proofs.HandLaws.{HasLent, hold_is}
 use Rattle.wal_log.specs.Writing.{stored_view}
 
 module _ (met : ℕ) (v : View) where
@@ -17,7 +17,7 @@ module _ (met : ℕ) (v : View) where
 
   pub flushed_loaded : view_behind v load_flushed met none ≡ record v {
     reserving = record v.reserving {
-      seen = max (v.reserving).seen (position_of ((v.opening).setup).segment_size met);
+      seen = max (v.reserving).seen (position_of ((v.opening).setup).seg_size met);
     };
     writing = record v.writing { flushed = met };
   }

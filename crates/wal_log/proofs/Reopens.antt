@@ -7,21 +7,21 @@ use Rattle.byte_position.specs.Position.{usable_bytes_in_segment}
 use Rattle.byte_position.proofs.EndAddresses.{le-position_of}
 use Rattle.byte_position.proofs.SegmentSizes.{segment_size_in_pages}
 use Rattle.byte_position.proofs.Segments.{first_position-usable, position_of-segment}
-use Rattle.record_spelling.specs.Spelling.{word_at}
+use Rattle.wal_spelling.specs.Spelling.{word_at}
 use Rattle.segment_disk.specs.Tape.{Tape}
 use Rattle.wal_page.specs.LogPlace.{IsPlace}
 use Rattle.wal_page.proofs.PlaceLaws.{word_from-below}
-use Rattle.wal_core.specs.Ringed.{log_word_of}
+use Rattle.machine_state.specs.Ringed.{log_word_of}
 use Rattle.flush_core.specs.Planned.{IsPlanOf}
 use Rattle.flush_core.specs.Settled.{HasSettled}
 use Rattle.flush_core.specs.declared.planning.SettlePlan.{SettlePlan}
 use Rattle.found_log.specs.Found.{place_of_log}
 use Rattle.found_log.specs.declared.finding.FoundLog.{FoundLog}
-use Rattle.wal_core.specs.declared.setup.Setup.{Setup}
-use Rattle.wal_core.specs.Opened.{AreFirstWords, IsOpenable}
-use Rattle.wal_core.specs.Paged.{HoldsPage}
-use Rattle.wal_core.specs.Sound.{IsSetup}
-use Rattle.wal_core.specs.Words.{Opening, found_end, log_limit, initialised_number, written_number, flushed_number, moment_number, down_number, ends_number}
+use Rattle.machine_state.specs.declared.setup.Setup.{Setup}
+use Rattle.machine_state.specs.Opened.{AreFirstWords, IsOpenable}
+use Rattle.machine_state.specs.Paged.{HoldsPage}
+use Rattle.machine_state.specs.Sound.{IsSetup}
+use Rattle.machine_state.specs.Words.{Opening, found_end, log_limit, initialised_number, written_number, flushed_number, moment_number, down_number, ends_number}
 use Rattle.machine_words.specs.declared.first.LogEnd.{LogEnd}
 use Rattle.machine_words.specs.FirstWords.{IsEndOf, IsLastPage}
 use Rattle.wal_rule.specs.Founded.{found_log_opening}
@@ -29,7 +29,7 @@ use Rattle.wal_log.specs.Reopening.{IsFoundWithin, IsOpenedBehind}
 
 module _ (setup : Setup) (valid : IsSetup setup) (log : FoundLog) (is : IsFoundWithin setup log) where
   abbrev size : ℕ
-  size = setup.segment_size
+  size = setup.seg_size
 
   -- the segments that are there are no more than the log may have
   end_low : log.end.0 ≤ size * (setup.cap_segments + 1)
@@ -123,8 +123,8 @@ module _ (setup : Setup) (valid : IsSetup setup) (log : FoundLog) (is : IsFoundW
     last_start_is = refl;
   })
 
-  pub placed_there : IsPlace setup.segment_size opening.place
-  placed_there = subst (IsPlace setup.segment_size) (sym behind.place_is) is.placed
+  pub placed_there : IsPlace setup.seg_size opening.place
+  placed_there = subst (IsPlace setup.seg_size) (sym behind.place_is) is.placed
 
   -- the page of its end has the words below the place
   abbrev HasPageOf : ℕ → Type 0
@@ -133,7 +133,7 @@ module _ (setup : Setup) (valid : IsSetup setup) (log : FoundLog) (is : IsFoundW
 
   page_of_end : HasPageOf log.end.0
   page_of_end j low = is.page_is j low
-      ∙ sym (word_from-below setup.segment_size setup.sysid valid.size (place_of_log log) [] (log.end.0 / 8192 * 8192 + 8 * j) (omega (arith, low, is.position_is)))
+      ∙ sym (word_from-below setup.seg_size setup.sysid valid.size (place_of_log log) [] (log.end.0 / 8192 * 8192 + 8 * j) (omega (arith, low, is.position_is)))
 
   pub last_page_there : IsLastPage opening log.page.value
   last_page_there = subst (λ (o : Opening). IsLastPage o log.page.value) opening_is (subst HasPageOf (sym is.position_is) page_of_end)
@@ -151,8 +151,8 @@ module _ (setup : Setup) (valid : IsSetup setup) (log : FoundLog) (is : IsFoundW
   pub fixed_made : log.made ≡ opening.made
   fixed_made = sym (ap (λ (o : Opening). o.made) opening_is)
 
-  pub fixed_size : setup.segment_size ≡ (opening.setup).segment_size
-  fixed_size = sym (ap (λ (o : Opening). (o.setup).segment_size) opening_is)
+  pub fixed_size : setup.seg_size ≡ (opening.setup).seg_size
+  fixed_size = sym (ap (λ (o : Opening). (o.setup).seg_size) opening_is)
 
   -- the words are those of its moment
   pub fixed_words : (words : List ℕ) → ((o : Opening) → IsOpenedBehind setup log 0 o → AreFirstWords o words) → AreFirstWords opening (set words moment_number opening.moment)
@@ -163,15 +163,15 @@ module _ (setup : Setup) (valid : IsSetup setup) (log : FoundLog) (is : IsFoundW
   }))
 
   -- what is planned is said of it as of the log that was found
-  pub fixed_plan : (tape : Option Tape) (plan : SettlePlan) → IsPlanOf setup.segment_size log.end.0 log.made tape plan → IsPlanOf (opening.setup).segment_size (found_end opening) opening.made tape plan
+  pub fixed_plan : (tape : Option Tape) (plan : SettlePlan) → IsPlanOf setup.seg_size log.end.0 log.made tape plan → IsPlanOf (opening.setup).seg_size (found_end opening) opening.made tape plan
   fixed_plan tape plan planned =
       subst (λ (size : ℕ). IsPlanOf size (found_end opening) opening.made tape plan) fixed_size
-      (subst (λ (end : ℕ). IsPlanOf setup.segment_size end opening.made tape plan) fixed_end
-      (subst (λ (made : ℕ). IsPlanOf setup.segment_size log.end.0 made tape plan) fixed_made planned))
+      (subst (λ (end : ℕ). IsPlanOf setup.seg_size end opening.made tape plan) fixed_end
+      (subst (λ (made : ℕ). IsPlanOf setup.seg_size log.end.0 made tape plan) fixed_made planned))
 
   -- .. and so is what was settled
-  pub fixed_settled : (old new : Option Tape) (m0 m1 : ℕ) → HasSettled (opening.setup).segment_size (found_end opening) opening.made old new m0 m1 → HasSettled setup.segment_size log.end.0 log.made old new m0 m1
+  pub fixed_settled : (old new : Option Tape) (m0 m1 : ℕ) → HasSettled (opening.setup).seg_size (found_end opening) opening.made old new m0 m1 → HasSettled setup.seg_size log.end.0 log.made old new m0 m1
   fixed_settled old new m0 m1 settled =
       subst (λ (size : ℕ). HasSettled size log.end.0 log.made old new m0 m1) (sym fixed_size)
-      (subst (λ (end : ℕ). HasSettled (opening.setup).segment_size end log.made old new m0 m1) (sym fixed_end)
-      (subst (λ (made : ℕ). HasSettled (opening.setup).segment_size (found_end opening) made old new m0 m1) (sym fixed_made) settled))
+      (subst (λ (end : ℕ). HasSettled (opening.setup).seg_size end log.made old new m0 m1) (sym fixed_end)
+      (subst (λ (made : ℕ). HasSettled (opening.setup).seg_size (found_end opening) made old new m0 m1) (sym fixed_made) settled))

@@ -5,9 +5,9 @@ use Rattle.std.proofs.Common.{◌≡◌, ◌⊎◌, ℕ, ◌≤◌, inl, inr, su
 use Rattle.byte_position.specs.Geometry.{IsSegmentSize}
 use Rattle.byte_position.proofs.EndAddresses.{end_address_of-mono}
 use Rattle.wal_types.specs.declared.answers.Hard.{Hard}
-use Rattle.wal_core.specs.Steps.{load_down}
-use Rattle.wal_core.specs.Views.{View}
-use Rattle.wal_core.specs.Words.{Opening, end_form}
+use Rattle.machine_state.specs.Steps.{load_down}
+use Rattle.machine_state.specs.Views.{View}
+use Rattle.machine_state.specs.Words.{Opening, end_form}
 use Rattle.wal_rule.specs.declared.seated.SeatedPass.{SeatedPass}
 use Rattle.wal_rule.specs.SeatedPasses.{view_of}
 use Rattle.wal_rule.specs.Stepping.{Meets}
@@ -21,11 +21,11 @@ use Rattle.wal_log.proofs.FlushLaws.{answer_of}
 -- ---- in a try
 
 -- what a pass saw reserved no later position tells as unreserved
-module _ (asked : ℕ) (mid new : View) (size : IsSegmentSize ((mid.opening).setup).segment_size)
+module _ (asked : ℕ) (mid new : View) (size : IsSegmentSize ((mid.opening).setup).seg_size)
     (low : asked ≤ end_form (mid.opening).setup (mid.reserving).seen) where
   never_unreserved : (end : ℕ) → IsUnreserved asked end mid new → ⊥
   never_unreserved end un =
-      let higher = end_address_of-mono ((mid.opening).setup).segment_size size
+      let higher = end_address_of-mono ((mid.opening).setup).seg_size size
       (mid.reserving).seen (new.reserving).seen un.rises in
       let above = un.above in
       let is = un.end_is in
@@ -72,7 +72,7 @@ judged_last asked v (Err (tries.Behind lock word)) judged = judged
 judged_last asked v (Err (tries.Turn word)) judged = judged
 
 judged_later : (asked : ℕ) (v mid new : View)
-    → IsSegmentSize ((mid.opening).setup).segment_size → MeetsReserved asked v
+    → IsSegmentSize ((mid.opening).setup).seg_size → MeetsReserved asked v
     → asked ≤ end_form (mid.opening).setup (mid.reserving).seen → (r : Result Hard TryFlushErr)
     → AnswersFlushTry asked mid r new → JudgesFlush asked v (answer_of r)
 judged_later asked v mid new size meets low (Ok hard) told = meets
@@ -85,7 +85,7 @@ judged_later asked v mid new size meets low (Err (tries.Turn word)) told = meets
 
 module _ {D : Type 0} (asked : ℕ) (a b : SeatedPass D) where
   -- of the last try
-  pub last_judged : (new : View) → IsSegmentSize (((view_of b).opening).setup).segment_size
+  pub last_judged : (new : View) → IsSegmentSize (((view_of b).opening).setup).seg_size
       → HasJudged asked a b → (r : Result Hard TryFlushErr) → JudgesFlushTry asked (view_of b) r
       → AnswersFlushTry asked (view_of b) r new → JudgesFlush asked (view_of a) (answer_of r)
   last_judged new size (inl same) r judged told = judged_last asked (view_of a) r
@@ -102,13 +102,13 @@ module _ {D : Type 0} (asked : ℕ) (a b : SeatedPass D) where
   -- one more told nothing, since a lock or the turn was in its way, and other steps came behind it
   pub judged_again : (new : View) (c : SeatedPass D) → HasJudged asked a b
       → MeetsReserved asked (view_of b) → IsToBeFlushed asked new
-      → IsSegmentSize ((new.opening).setup).segment_size → KeepsPass new (view_of c)
+      → IsSegmentSize ((new.opening).setup).seg_size → KeepsPass new (view_of c)
       → HasJudged asked a c
   judged_again new c judged meets to_be size keeps = inr (
     first_meets judged meets,
     subst (λ (o : Opening). asked ≤ end_form o.setup ((view_of c).reserving).seen)
         (sym keeps.opening)
-        (let higher = end_address_of-mono ((new.opening).setup).segment_size size
+        (let higher = end_address_of-mono ((new.opening).setup).seg_size size
         (new.reserving).seen ((view_of c).reserving).seen keeps.rises in
         let reserved = to_be.reserved in
         omega (arith, reserved, higher)),

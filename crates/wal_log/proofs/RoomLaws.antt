@@ -2,12 +2,12 @@
 use mathlib.Core.Option.{some}
 use Rattle.segment_disk.specs.Tape.{Tape}
 use Rattle.wal_page.specs.Placed.{PlacedState}
-use Rattle.wal_core.specs.declared.setup.Setup.{Setup}
+use Rattle.machine_state.specs.declared.setup.Setup.{Setup}
 use Rattle.std.specs.Prelude.{MatchBool, Option, nat_lt}
 use Rattle.std.proofs.Common.{◌≡◌, ℕ, ◌*◌, ◌%◌, ◌≤◌, Bool, true, false, List, inl, inr, refl, sym, ap, ◌∙◌, subst, arith}
 use Rattle.std.proofs.lemmas.Bool.{ltb-false, ltb-true}
-use Rattle.wal_core.specs.Steps.{load_buffer_end}
-use Rattle.wal_core.specs.Views.{View, Working}
+use Rattle.machine_state.specs.Steps.{load_buffer_end}
+use Rattle.machine_state.specs.Views.{View, Working}
 use Rattle.wal_rule.specs.declared.seated.SeatedPass.{SeatedPass}
 use Rattle.wal_rule.specs.SeatedPasses.{StandsAtRest, setup_of, view_of}
 use Rattle.wal_rule.specs.Stepping.{Meets}

@@ -4,16 +4,16 @@ use Rattle.std.proofs.Common.{◌≡◌, ℕ, List, ap, ◌∙◌, subst}
 use Rattle.std.proofs.Math.Logic.{∥∥₁_elim}
 use Rattle.std.specs.Coded.{Coded-set, coded_bool}
 use Rattle.byte_position.specs.Geometry.{IsSegmentSize}
-use Rattle.wal_core.specs.Views.{View}
-use Rattle.wal_core.specs.Words.{Opening}
-use Rattle.wal_core.specs.declared.setup.Setup.{Setup}
+use Rattle.machine_state.specs.Views.{View}
+use Rattle.machine_state.specs.Words.{Opening}
+use Rattle.machine_state.specs.declared.setup.Setup.{Setup}
 use Rattle.wal_rule.specs.declared.seated.SeatedPass.{SeatedPass}
 use Rattle.wal_rule.specs.declared.writer.LogWriter.{LogWriter}
 use Rattle.wal_rule.specs.SeatedPasses.{HasView, StaysSeated, hand_of, setup_of, view_of}
 use Rattle.wal_rule.specs.Stepping.{Stands}
 use Rattle.wal_rule.specs.Tables.{opening_of_table}
-use Rattle.page_writing.specs.InHand.{IsSame}
-use Rattle.page_writing.proofs.HandLaws.{me_same}
+use Rattle.word_ring.specs.InHand.{IsSame}
+use Rattle.word_ring.proofs.HandLaws.{me_same}
 
 module _ {D : Type 0} where
   module _ {v : View} {old new : SeatedPass D} where
@@ -46,8 +46,8 @@ module _ {D : Type 0} where
   pub own_setup : (p : SeatedPass D) → ((view_of p).opening).setup ≡ setup_of p
   own_setup p = ap (λ (o : Opening). o.setup) (p.seated).own
 
-  pub valid_size : (p : SeatedPass D) → IsSegmentSize (setup_of p).segment_size
-  valid_size p = subst (λ (s : Setup). IsSegmentSize s.segment_size) (own_setup p)
+  pub valid_size : (p : SeatedPass D) → IsSegmentSize (setup_of p).seg_size
+  valid_size p = subst (λ (s : Setup). IsSegmentSize s.seg_size) (own_setup p)
       (∥∥₁_elim (p.seated).stands (Coded-set coded_bool _ _)
       (λ (s : Stands (view_of p)). ((s.sound).setup_is).size))
 

@@ -2,14 +2,14 @@
 -- once it is copied.
 use Rattle.std.specs.Prelude.{Result, Ok, Err, None, Some}
 use Rattle.std.proofs.Common.{◌≡◌, ℕ, ◌+◌, ◌%◌, ◌<◌, ◌≤◌, Contains, List, [], ◌∷◌, ◌++◌, refl, sym, ap, ◌∙◌, subst, arith}
-use Rattle.record_spelling.specs.Spelling.{Assembled}
+use Rattle.wal_spelling.specs.Spelling.{Assembled}
 use Rattle.wal_page.specs.Order.{Entry}
 use Rattle.wal_page.specs.Placed.{placed_end}
-use Rattle.wal_core.specs.declared.setup.Setup.{Setup}
-use Rattle.wal_core.specs.Locked.{most_told}
-use Rattle.wal_core.specs.Steps.{load_down, IsResting}
-use Rattle.wal_core.specs.Views.{AtSegmentStart, Flight, Landed, View, Working}
-use Rattle.wal_core.specs.Words.{end_form}
+use Rattle.machine_state.specs.declared.setup.Setup.{Setup}
+use Rattle.machine_state.specs.Locked.{most_told}
+use Rattle.machine_state.specs.Steps.{load_down, IsResting}
+use Rattle.machine_state.specs.Views.{AtSegmentStart, Flight, Landed, View, Working}
+use Rattle.machine_state.specs.Words.{end_form}
 use Rattle.wal_rule.specs.declared.seated.SeatedPass.{SeatedPass}
 use Rattle.wal_rule.specs.Downs.{KnowsDown}
 use Rattle.wal_rule.specs.SeatedPasses.{HasView, StandsAtRest, StaysSeated, Steps, setup_of, view_of}
@@ -32,7 +32,7 @@ use Rattle.wal_log.specs.declared.switching.SwitchErr.TheVariants.{Full, Disk, D
 use Rattle.wal_log.specs.Beginning.{IsBegunUnder}
 use Rattle.wal_log.specs.Downs.{KnowsNoFault, MeetsDown, MeetsFault}
 use Rattle.wal_log.specs.PassLogs.{PassLog, log_of_pass}
-use Rattle.wal_core.specs.PassLogs.{log_with_stay}
+use Rattle.machine_state.specs.PassLogs.{log_with_stay}
 use Rattle.wal_log.specs.Standing.{ComesToRest, HasLocks, HoldsLocks, KeepsPass}
 use Rattle.wal_log.specs.Switching.{AnswersPlace, AnswersSwitch, FindsNoRoom, FindsSegmentStart, HasSwitched, HoldsOn, IsSwitchBegun, IsSwitchDone, IsSwitchEntry, IsSwitchStarted, RefusesSwitch, TellsDown, TellsNoPlace, switch_err_of_fault}
 use Rattle.wal_log.specs.Waiting.{IsSeenTold}
@@ -214,7 +214,7 @@ module _ {D : Type 0} where
       ap (λ (w : View). w.working) (view_is sees) ∙ has.working in (
         subst (λ (locks : List ℕ). Contains locks lock)
             (sym (ap (λ (w : Working). w.locks) holds)) among,
-        subst (λ (f : Flight). upto < most_told ((v.opening).setup).segment_size end lock f)
+        subst (λ (f : Flight). upto < most_told ((v.opening).setup).seg_size end lock f)
             (sym (ap (λ (w : Working). w.flight) holds)) (omega (arith, own)),
         whole,
       )

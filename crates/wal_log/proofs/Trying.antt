@@ -1,6 +1,6 @@
 -- A call makes try after try: what stays of its pass while they tell nothing.
 use Rattle.std.proofs.Common.{◌≡◌, refl, ◌∙◌}
-use Rattle.wal_core.specs.Steps.{IsResting}
+use Rattle.machine_state.specs.Steps.{IsResting}
 use Rattle.wal_rule.specs.declared.seated.SeatedPass.{SeatedPass}
 use Rattle.wal_rule.specs.SeatedPasses.{StandsAtRest, view_of}
 use Rattle.wal_log.specs.Downs.{KnowsNoFault}

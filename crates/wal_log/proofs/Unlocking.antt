@@ -2,10 +2,10 @@
 use Rattle.std.proofs.Common.{◌≡◌, ◌≢◌, ◌⊎◌, ◌≤◌, ℕ, List, [], length, refl, sym, ap, ◌∙◌, subst}
 use Rattle.wal_page.specs.EntryWords.{words_owned}
 use Rattle.wal_page.specs.Placed.{PlacedState}
-use Rattle.wal_core.specs.declared.setup.Setup.{Setup}
-use Rattle.wal_core.specs.Views.{Copying, Landed, Working, View}
-use Rattle.wal_core.specs.Steps.{IsResting, IsStranded}
-use Rattle.wal_core.proofs.Landing.{none_lands}
+use Rattle.machine_state.specs.declared.setup.Setup.{Setup}
+use Rattle.machine_state.specs.Views.{Copying, Landed, Working, View}
+use Rattle.machine_state.specs.Steps.{IsResting, IsStranded}
+use Rattle.machine_state.proofs.Landing.{none_lands}
 use Rattle.insert_locks.specs.Holding.{NothingLeft}
 use Rattle.wal_log.specs.Standing.{CopiesUnder, HasLocks, KeepsPass}
 
@@ -57,7 +57,7 @@ module _ (setup : Setup) (locks : List ℕ) (placed : PlacedState) (v : View)
 
   -- all its words are copied
   pub none_left : 1 ≤ length locks
-      → (c.copy).copied ≡ words_owned ((v.opening).setup).segment_size (c.copy).entry
+      → (c.copy).copied ≡ words_owned ((v.opening).setup).seg_size (c.copy).entry
       → NothingLeft (v.opening).setup locks (v.working).flight
   none_left some whole = subst (NothingLeft (v.opening).setup locks) (sym flight_is)
       (c.under, some, whole)

@@ -5,9 +5,9 @@ use Rattle.std.proofs.Math.Logic.{∥∥₁_elim}
 use Rattle.std.specs.Coded.{le_prop}
 use mathlib.Core.Option.{none}
 use Rattle.wal_page.specs.Placed.{PlacedState}
-use Rattle.wal_core.specs.declared.setup.Setup.{Setup}
-use Rattle.wal_core.specs.Steps.{load_down, view_behind}
-use Rattle.wal_core.specs.Views.{View}
+use Rattle.machine_state.specs.declared.setup.Setup.{Setup}
+use Rattle.machine_state.specs.Steps.{load_down, view_behind}
+use Rattle.machine_state.specs.Views.{View}
 use Rattle.wal_rule.specs.declared.seated.SeatedPass.{SeatedPass}
 use Rattle.wal_rule.specs.Downs.{KnowsDown}
 use Rattle.wal_rule.specs.SeatedPasses.{setup_of, view_of}

@@ -2,10 +2,10 @@
 use Rattle.std.proofs.Common.{◌≡◌, ◌⊎◌, inl, inr, ℕ, ◌-◌, ◌<◌, ◌≤◌, min, refl, sym, ap, subst, ◌∙◌, arith}
 use Rattle.byte_position.specs.Geometry.{IsSegmentSize}
 use Rattle.byte_position.proofs.EndAddresses.{end_address_of-mono}
-use Rattle.wal_core.specs.Moves.{copied_below, is_own, visited_on}
-use Rattle.wal_core.specs.Steps.{load_lock}
-use Rattle.wal_core.specs.Views.{View, Watching}
-use Rattle.wal_core.specs.Words.{end_form}
+use Rattle.machine_state.specs.Moves.{copied_below, is_own, visited_on}
+use Rattle.machine_state.specs.Steps.{load_lock}
+use Rattle.machine_state.specs.Views.{View, Watching}
+use Rattle.machine_state.specs.Words.{end_form}
 use Rattle.wal_rule.specs.declared.seated.SeatedPass.{SeatedPass}
 use Rattle.wal_rule.specs.SeatedPasses.{StaysSeated, view_of}
 use Rattle.wal_rule.specs.Stepping.{Meets}
@@ -99,12 +99,12 @@ module _ (upto : ℕ) (old new : View) where
         }
 
     -- the watch tells the address asked for, or more, where all below that was seen reserved
-    pub reached : IsSegmentSize ((old.opening).setup).segment_size
+    pub reached : IsSegmentSize ((old.opening).setup).seg_size
         → upto ≤ end_form (old.opening).setup (old.reserving).seen → upto ≤ bound
     reached size seen =
         let is = done.end_is in
         let least = done.reaches in
-        let higher = end_address_of-mono ((old.opening).setup).segment_size size
+        let higher = end_address_of-mono ((old.opening).setup).seg_size size
         (old.reserving).seen (new.reserving).seen done.rises in
         omega (arith, is, least, seen, higher)
 

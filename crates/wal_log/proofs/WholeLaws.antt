@@ -5,9 +5,9 @@ use mathlib.Core.Option.{Option, none, some}
 use Rattle.wal_page.specs.EntryWords.{words_owned}
 use Rattle.wal_page.specs.Order.{Entry}
 use Rattle.wal_page.specs.Placed.{PlacedState}
-use Rattle.wal_core.specs.declared.setup.Setup.{Setup}
-use Rattle.wal_core.specs.Moves.{without_work}
-use Rattle.wal_core.specs.Views.{Copy, Copying, View, Working}
+use Rattle.machine_state.specs.declared.setup.Setup.{Setup}
+use Rattle.machine_state.specs.Moves.{without_work}
+use Rattle.machine_state.specs.Views.{Copy, Copying, View, Working}
 use Rattle.machine_laws.proofs.EntryLaws.{entries_are_whole_or_in_flight}
 use Rattle.machine_laws.proofs.ShownLaws.{entries_are_copied}
 use Rattle.wal_rule.specs.Stepping.{Stands}
@@ -17,7 +17,7 @@ use Rattle.wal_log.proofs.Keeping.{further_pass}
 
 -- in the state in which all words of its entry are copied, each is the log's
 stands_whole : (v : View) → ∥ Stands v ∥₁ → (c : Copy) → (v.working).flight ≡ Copying c
-    → c.copied ≡ words_owned ((v.opening).setup).segment_size c.entry
+    → c.copied ≡ words_owned ((v.opening).setup).seg_size c.entry
     → ∥ StandsWhole v c.entry ∥₁
 stands_whole v stood c is all = ∥∥₁_map stood (λ (s : Stands v). record {
   stands = s;
@@ -35,7 +35,7 @@ entry_or e (some other) = other
 -- what a copy leaves that has ended
 module _ (setup : Setup) (locks : List ℕ) (placed : PlacedState) (old v new : View)
     (c : CopiesUnder setup locks placed v) (stood : ∥ Stands v ∥₁)
-    (all : (c.copy).copied ≡ words_owned ((v.opening).setup).segment_size (c.copy).entry) where
+    (all : (c.copy).copied ≡ words_owned ((v.opening).setup).seg_size (c.copy).entry) where
   flies : (v.working).flight ≡ Copying c.copy
   flies = ap (λ (w : Working). w.flight) c.working
 
@@ -50,7 +50,7 @@ module _ (setup : Setup) (locks : List ℕ) (placed : PlacedState) (old v new : 
         copy = c.copy;
         in_flight = flies;
         entry_is = same;
-        none_left = all ∙ ap (words_owned ((v.opening).setup).segment_size) same;
+        none_left = all ∙ ap (words_owned ((v.opening).setup).seg_size) same;
         whole = subst (λ (x : Entry). ∥ StandsWhole v x ∥₁) same
             (stands_whole v stood c.copy flies all);
       }

@@ -4,13 +4,13 @@ use Rattle.std.specs.Prelude.{Option}
 use Rattle.segment_disk.specs.Tape.{Tape}
 use Rattle.byte_position.specs.Geometry.{pages_of}
 use Rattle.flush_core.specs.Calls.{page_upto, waiting_behind}
-use Rattle.wal_core.specs.Views.{Plain, View}
+use Rattle.machine_state.specs.Views.{Plain, View}
 use Rattle.wal_rule.specs.declared.seated.SeatedPass.{SeatedPass}
 use Rattle.wal_rule.specs.SeatedPasses.{HasView, setup_of, view_of}
-use Rattle.page_writing.specs.InHand.{ChangesHand, IsReady, known_copied, lent_in, writer_in}
-use Rattle.page_writing.specs.MadeCalls.{HasCalled, calls_to_put_page}
-use Rattle.page_writing.specs.Written.{IsPageWritten}
-use Rattle.page_writing.proofs.HandLaws.{known_kept}
+use Rattle.word_ring.specs.InHand.{ChangesHand, IsReady, known_copied, lent_in, writer_in}
+use Rattle.word_ring.specs.MadeCalls.{HasCalled, calls_to_put_page}
+use Rattle.word_ring.specs.Written.{IsPageWritten}
+use Rattle.word_ring.proofs.HandLaws.{known_kept}
 use Rattle.wal_log.specs.Downs.{KnowsNoFault}
 use Rattle.wal_log.specs.Hands.{HasAllStored}
 use Rattle.wal_log.specs.Standing.{AddsNothing, KeepsPass}
@@ -31,10 +31,10 @@ pub record HasWrittenTo {D : Type 0} (tape : D → Option Tape) (moment faults :
   pub full : known ≤ page * 8192 → known ≤ (writer_in (view_of now)).written
   pub behind : page * 8192 < known + 8192
   pub left : (writer_in (view_of old)).written < known
-  pub put : HasPutPages (setup_of old).segment_size known ((writer_in (view_of old)).written / 8192)
+  pub put : HasPutPages (setup_of old).seg_size known ((writer_in (view_of old)).written / 8192)
       page (writer_in (view_of old)) (writer_in (view_of now))
   pub waits : known ≤ page * 8192
-      → (writer_in (view_of now)).waiting ≡ waiting_behind (setup_of old).segment_size known
+      → (writer_in (view_of now)).waiting ≡ waiting_behind (setup_of old).seg_size known
 
 module _ {D : Type 0} (tape : D → Option Tape) (moment faults : D → ℕ) where
   -- behind a store
@@ -66,14 +66,14 @@ module _ {D : Type 0} (tape : D → Option Tape) (moment faults : D → ℕ) whe
   first_put : (known page : ℕ) (old new : SeatedPass D)
       → page ≡ (writer_in (view_of old)).written / 8192
       → writer_in (view_of new) ≡ writer_in (view_of old)
-      → HasPutPages (setup_of old).segment_size known ((writer_in (view_of old)).written / 8192)
+      → HasPutPages (setup_of old).seg_size known ((writer_in (view_of old)).written / 8192)
       page (writer_in (view_of old)) (writer_in (view_of new))
   first_put known page old new is same =
       let w = writer_in (view_of old) in
-      subst (λ (x : Plain). HasPutPages (setup_of old).segment_size known (w.written / 8192) page w
+      subst (λ (x : Plain). HasPutPages (setup_of old).seg_size known (w.written / 8192) page w
       x) (sym same)
-      (subst (λ (p : ℕ). HasPutPages (setup_of old).segment_size known (w.written / 8192) p w w)
-      (sym is) (none_put (setup_of old).segment_size known (w.written / 8192) w))
+      (subst (λ (p : ℕ). HasPutPages (setup_of old).seg_size known (w.written / 8192) p w w)
+      (sym is) (none_put (setup_of old).seg_size known (w.written / 8192) w))
 
   -- before the first page
   pub written_first : (known page : ℕ) (old new : SeatedPass D) → IsReady tape moment faults new
@@ -98,7 +98,7 @@ module _ {D : Type 0} (tape : D → Option Tape) (moment faults : D → ℕ) whe
   -- one page more
   pub written_next : (size known page : ℕ) (bytes : List ℕ) (old now put new : SeatedPass D)
       → HasWrittenTo tape moment faults known page old now → page * 8192 < known
-      → ChangesHand now put → size ≡ (setup_of old).segment_size
+      → ChangesHand now put → size ≡ (setup_of old).seg_size
       → HasCalled (calls_to_put_page size known page bytes (writer_in (view_of now)))
       (writer_in (view_of now)) (writer_in (view_of put))
       → IsPageWritten size known (writer_in (view_of now)) (writer_in (view_of put))
@@ -123,9 +123,9 @@ module _ {D : Type 0} (tape : D → Option Tape) (moment faults : D → ℕ) whe
         full = λ over. omega (arith, same, here, written, over, some);
         behind = omega (arith, some);
         left = before.left;
-        put = subst (λ (x : Plain). HasPutPages (setup_of old).segment_size known
+        put = subst (λ (x : Plain). HasPutPages (setup_of old).seg_size known
             (first.written / 8192) (page + 1) first x) (sym (store_same put new ready view))
-            (one_put (setup_of old).segment_size known (first.written / 8192) page bytes first w
+            (one_put (setup_of old).seg_size known (first.written / 8192) page bytes first w
             (writer_in (view_of put)) before.put
             (subst (λ (n : ℕ). HasCalled (calls_to_put_page n known page bytes w) w
             (writer_in (view_of put))) own called)

@@ -5,10 +5,10 @@ use Rattle.std.proofs.lemmas.Bool.{eq-eqb, le-ltb, lt-ltb, ne_eqb}
 use Rattle.byte_position.specs.Geometry.{pages_of}
 use Rattle.segment_disk.specs.declared.disk.Call.{Call}
 use Rattle.flush_core.specs.Calls.{calls_of_pages, page_upto, pages_between, waiting_calls, waiting_behind}
-use Rattle.wal_core.specs.Views.{Plain}
-use Rattle.page_writing.specs.MadeCalls.{HasBrokenOff, HasCalled, calls_to_flush, calls_to_put_page, calls_to_write}
+use Rattle.machine_state.specs.Views.{Plain}
+use Rattle.word_ring.specs.MadeCalls.{HasBrokenOff, HasCalled, calls_to_flush, calls_to_put_page, calls_to_write}
 use Rattle.wal_log.specs.Writing.{BreaksWriting, WritesAll}
-use Rattle.page_writing.proofs.CallLists.{called_none, called_on, broken_on, broken_before}
+use Rattle.word_ring.proofs.CallLists.{called_none, called_on, broken_on, broken_before}
 
 -- so many pages from the first on were put, with these bytes, each once: what is called for any
 -- more of them comes behind

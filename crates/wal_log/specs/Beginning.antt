@@ -1,12 +1,12 @@
 -- What one try to reserve a record's place answers, and what it leaves of its pass.
 use Rattle.std.specs.Prelude.{◌≡◌, ℕ, ◌<◌, Result, Ok, Err, List, [], ◌∷◌}
 use mathlib.Core.Option.{some}
-use Rattle.record_spelling.specs.Spelling.{Assembled}
+use Rattle.wal_spelling.specs.Spelling.{Assembled}
 use Rattle.wal_page.specs.Order.{Entry, start_of}
 use Rattle.wal_page.specs.Placed.{PlacedState, placed_end}
-use Rattle.wal_core.specs.declared.setup.Setup.{Setup}
-use Rattle.wal_core.specs.Steps.{IsResting}
-use Rattle.wal_core.specs.Views.{View}
+use Rattle.machine_state.specs.declared.setup.Setup.{Setup}
+use Rattle.machine_state.specs.Steps.{IsResting}
+use Rattle.machine_state.specs.Views.{View}
 use Rattle.reserve_lock.specs.declared.reserving.ReserveErr.{ReserveErr}
 use Rattle.reserve_lock.specs.declared.reserving.ReserveErr.TheVariants as reserving
 use Rattle.insert_locks.specs.Taking.{AreHeldWords, with_lock}
@@ -31,7 +31,7 @@ pub record IsBegunUnder (setup : Setup) (body : Assembled) (locks : List ℕ) (o
   pub in_flight : entry_in_flight new ≡ some entry
   pub prev : ℕ
   pub placed_is : placed ≡ placed_first setup body entry.start prev
-  pub start_is : start ≡ start_of setup.segment_size entry
+  pub start_is : start ≡ start_of setup.seg_size entry
   pub end_is : end ≡ placed_end placed
 
 -- so it was under one lock

@@ -3,12 +3,12 @@ use Rattle.std.specs.Prelude.{◌≡◌, ◌⊎◌, ℕ, ◌*◌, ◌/◌, ◌<�
 use mathlib.Core.Option.{none}
 use Rattle.wal_types.specs.declared.answers.Hard.{Hard}
 use Rattle.wal_types.specs.declared.answers.Receipt.{Receipt}
-use Rattle.record_spelling.specs.Spelling.{Assembled}
-use Rattle.wal_core.specs.declared.setup.Setup.{Setup}
-use Rattle.wal_core.specs.Moves.{with_async}
-use Rattle.wal_core.specs.Steps.{load_async, load_down, load_flushed, view_behind}
-use Rattle.wal_core.specs.Words.{end_form}
-use Rattle.wal_core.specs.Views.{FlushPromise, View}
+use Rattle.wal_spelling.specs.Spelling.{Assembled}
+use Rattle.machine_state.specs.declared.setup.Setup.{Setup}
+use Rattle.machine_state.specs.Moves.{with_async}
+use Rattle.machine_state.specs.Steps.{load_async, load_down, load_flushed, view_behind}
+use Rattle.machine_state.specs.Words.{end_form}
+use Rattle.machine_state.specs.Views.{FlushPromise, View}
 use Rattle.wal_rule.specs.declared.seated.SeatedPass.{SeatedPass}
 use Rattle.wal_rule.specs.SeatedPasses.{HasView, view_of}
 use Rattle.wal_rule.specs.Stepping.{Meets}
@@ -59,7 +59,7 @@ pub record SeesTarget (flushed target : ℕ) (old new : View) : Type 0 where
   pub rises : (old.reserving).seen ≤ (new.reserving).seen
   pub furthest : All (λ (p : FlushPromise). p.upto ≤ flushed) old.writing.promises
   pub flushed_low : flushed ≤ end_form (old.opening).setup (new.reserving).seen
-  pub begun : ((old.opening).setup).segment_size
+  pub begun : ((old.opening).setup).seg_size
       ≤ end_form (old.opening).setup (new.reserving).seen
   pub new_is : new ≡ with_async new.async_met (record old {
     reserving = record old.reserving { seen = (new.reserving).seen };

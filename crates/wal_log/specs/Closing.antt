@@ -1,7 +1,7 @@
 -- What a log leaves that is closed.
 use Rattle.std.specs.Prelude.{◌≡◌, ℕ, Option}
 use Rattle.segment_disk.specs.Tape.{Tape}
-use Rattle.wal_core.specs.Words.{end_form}
+use Rattle.machine_state.specs.Words.{end_form}
 use Rattle.wal_rule.specs.declared.pass.Pass.{Pass}
 use Rattle.wal_rule.specs.declared.writer.LogWriter.{LogWriter}
 use Rattle.wal_rule.specs.Closing.{ClosesWith}

@@ -1,14 +1,14 @@
 -- What a commit answers and leaves of its pass: an insert, then a flush to its record's end.
 use Rattle.std.specs.Prelude.{◌≡◌, ℕ, ◌≤◌, Result, Ok, Err, Option, Some, None}
 use Rattle.wal_types.specs.declared.lsn.Lsn.{Lsn}
-use Rattle.record_spelling.specs.Spelling.{Assembled}
+use Rattle.wal_spelling.specs.Spelling.{Assembled}
 use Rattle.wal_page.specs.Order.{Entry, finish_of, start_of}
 use Rattle.wal_types.specs.declared.answers.Cause.{Cause}
 use Rattle.wal_types.specs.declared.answers.Cause.TheVariants as causes
 use Rattle.wal_types.specs.declared.answers.Refused.{Refused}
 use Rattle.wal_types.specs.declared.answers.Sealed.{Sealed}
-use Rattle.wal_core.specs.declared.setup.Setup.{Setup}
-use Rattle.wal_core.specs.Views.{View}
+use Rattle.machine_state.specs.declared.setup.Setup.{Setup}
+use Rattle.machine_state.specs.Views.{View}
 use Rattle.wal_log.specs.declared.inserting.InsertErr.{InsertErr}
 use Rattle.wal_log.specs.declared.inserting.InsertErr.TheVariants.{Full, Disk, Down}
 use Rattle.byte_position.specs.Position.{position_of}
@@ -31,14 +31,14 @@ pub record IsSealed (setup : Setup) (body : Assembled) (old new : View) (sealed 
   pub copied : CopiesWhole old new entry
   pub log_is : log_of_pass new
       ≡ log_with_promise upto sealed.moment (log_with_entry entry (log_of_pass old))
-  pub reached : finish_of setup.segment_size entry ≤ upto
+  pub reached : finish_of setup.seg_size entry ≤ upto
   pub since : (old.opening).moment ≤ sealed.moment
   pub of_word : HasMoment old new sealed.moment
   pub held : HaveReached upto sealed.moment new
   pub latest : IsLatestPromise upto sealed.moment old
-  pub seen : position_of setup.segment_size upto ≤ (new.reserving).seen
-  pub start_is : sealed.start.0 ≡ start_of setup.segment_size entry
-  pub end_is : sealed.end.0 ≡ finish_of setup.segment_size entry
+  pub seen : position_of setup.seg_size upto ≤ (new.reserving).seen
+  pub start_is : sealed.start.0 ≡ start_of setup.seg_size entry
+  pub end_is : sealed.end.0 ≡ finish_of setup.seg_size entry
   pub up : KnowsNoFault new
 
 -- the record was inserted, copying it was the last that the pass did before it flushed, and what it

@@ -4,10 +4,10 @@ use Rattle.wal_page.specs.Placed.{PlacedState, placed_end}
 use Rattle.wal_rule.specs.declared.seated.SeatedPass.{SeatedPass}
 use Rattle.wal_rule.specs.SeatedPasses.{StaysSeated, view_of}
 use Rattle.wal_rule.specs.Stepping.{Meets}
-use Rattle.wal_core.specs.declared.setup.Setup.{Setup}
-use Rattle.wal_core.specs.Steps.{load_buffer_end, take_mapping_turn}
-use Rattle.wal_core.specs.Moves.{with_told}
-use Rattle.wal_core.specs.Views.{Copy, Copying, Taken, View}
+use Rattle.machine_state.specs.declared.setup.Setup.{Setup}
+use Rattle.machine_state.specs.Steps.{load_buffer_end, take_mapping_turn}
+use Rattle.machine_state.specs.Moves.{with_told}
+use Rattle.machine_state.specs.Views.{Copy, Copying, Taken, View}
 use Rattle.word_ring.specs.Mapped.{IsOldPageUnwritten, LooksAt, staged_view}
 use Rattle.word_ring.specs.Ring.{end_of_page}
 use Rattle.wal_log.specs.declared.copying.Absent.{Absent}

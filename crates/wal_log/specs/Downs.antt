@@ -1,6 +1,6 @@
 -- What a pass knows of the disk in a call: that it has not failed, or that it failed in this call.
 use Rattle.std.specs.Prelude.{◌≡◌, ◌≢◌, ℕ}
-use Rattle.wal_core.specs.Views.{View}
+use Rattle.machine_state.specs.Views.{View}
 use Rattle.wal_log.specs.declared.fault.Fault.{Fault}
 use Rattle.wal_log.specs.declared.fault.Fault.TheVariants.{Disk, Down}
 

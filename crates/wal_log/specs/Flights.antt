@@ -1,12 +1,12 @@
 -- A record in flight, which its caller copies: what it is, and what each call leaves of it.
 use Rattle.std.specs.Prelude.{◌≡◌, ℕ, ◌<◌, Result, Ok, Err, [], ◌∷◌}
 use mathlib.Core.Option.{some}
-use Rattle.record_spelling.specs.Spelling.{Assembled}
+use Rattle.wal_spelling.specs.Spelling.{Assembled}
 use Rattle.wal_types.specs.declared.answers.Receipt.{Receipt}
 use Rattle.wal_page.specs.Order.{Entry, start_of}
 use Rattle.wal_page.specs.Placed.{placed_end}
-use Rattle.wal_core.specs.Steps.{load_down}
-use Rattle.wal_core.specs.Views.{View}
+use Rattle.machine_state.specs.Steps.{load_down}
+use Rattle.machine_state.specs.Views.{View}
 use Rattle.wal_rule.specs.declared.pass.Pass.{Pass}
 use Rattle.wal_rule.specs.Passes.{view_of_pass}
 use Rattle.wal_rule.specs.Stepping.{Meets}
@@ -33,7 +33,7 @@ pub record IsInFlightOf {D : Type 0} (wal : Wal D) (flight : Inflight) : Type 0 
   pub copies : CopiesUnder (setup_of_log wal) ((flight.begun).lock ∷ []) (flight.begun).placed
       (view_of_flight flight)
   pub start_is : (flight.begun).start.0
-      ≡ start_of (setup_of_log wal).segment_size (copies.copy).entry
+      ≡ start_of (setup_of_log wal).seg_size (copies.copy).entry
   pub end_is : (flight.begun).end.0 ≡ placed_end (flight.begun).placed
 
 -- a call leaves a pass its number and what it had seen, and its log

@@ -3,11 +3,11 @@ use Rattle.std.specs.Prelude.{◌≡◌, ◌⊎◌, ℕ, ◌<◌, ◌≤◌, Res
 use mathlib.Core.Option.{none}
 use Rattle.byte_position.specs.Position.{position_of}
 use Rattle.wal_types.specs.declared.answers.Hard.{Hard}
-use Rattle.wal_core.specs.Steps.{load_down, load_flushed, load_lock, load_moment, view_behind}
-use Rattle.wal_core.specs.Words.{end_form}
+use Rattle.machine_state.specs.Steps.{load_down, load_flushed, load_lock, load_moment, view_behind}
+use Rattle.machine_state.specs.Words.{end_form}
 use Rattle.wal_rule.specs.Stepping.{Meets}
 use Rattle.insert_locks.specs.Watching.{HoldsBack, SeesPosition, with_sight, with_watching}
-use Rattle.wal_core.specs.Views.{View, Watching}
+use Rattle.machine_state.specs.Views.{View, Watching}
 use Rattle.wal_log.specs.declared.fault.Fault.{Fault}
 use Rattle.wal_log.specs.declared.fault.Fault.TheVariants as faults
 use Rattle.wal_log.specs.declared.turns.TurnErr.{TurnErr}
@@ -32,7 +32,7 @@ pub record IsToldHard (asked upto moment : ℕ) (old new : View) : Type 0 where
   pub held : HaveReached upto moment new
   pub latest : IsLatestPromise upto moment old
   pub up : KnowsNoFault new
-  pub seen : position_of ((old.opening).setup).segment_size upto ≤ (new.reserving).seen
+  pub seen : position_of ((old.opening).setup).seg_size upto ≤ (new.reserving).seen
 
 -- what was met as flushed, and the moment that was met behind it, are told; nothing that was told
 -- before names more or a later moment
@@ -43,7 +43,7 @@ pub record TellsHard (upto moment : ℕ) (old new : View) : Type 0 where
   pub since : (old.opening).moment ≤ moment
   pub held : HaveReached upto moment new
   pub latest : IsLatestPromise upto moment old
-  pub seen : position_of ((old.opening).setup).segment_size upto ≤ (new.reserving).seen
+  pub seen : position_of ((old.opening).setup).seg_size upto ≤ (new.reserving).seen
 
 -- the address asked for is above the end of what was reserved, as a load of the position met it,
 -- which is no less than the log's start, and than what the pass had seen before. The view that met
@@ -51,7 +51,7 @@ pub record TellsHard (upto moment : ℕ) (old new : View) : Type 0 where
 pub record IsUnreserved (asked end : ℕ) (old new : View) : Type 0 where
   pub end_is : end ≡ end_form (old.opening).setup (new.reserving).seen
   pub rises : (old.reserving).seen ≤ (new.reserving).seen
-  pub begun : ((old.opening).setup).segment_size ≤ end
+  pub begun : ((old.opening).setup).seg_size ≤ end
   pub above : end < asked
   pub sight : ℕ
   pub since : (old.reserving).seen ≤ sight

@@ -2,12 +2,12 @@
 use Rattle.std.specs.Prelude.{◌≡◌, ◌≢◌, ℕ, ◌≤◌, All, Option}
 use mathlib.Core.Option.{some}
 use Rattle.segment_disk.specs.Tape.{Tape}
-use Rattle.wal_core.specs.Steps.{take_write_turn}
-use Rattle.wal_core.specs.Views.{FlushPromise, Idle, View}
+use Rattle.machine_state.specs.Steps.{take_write_turn}
+use Rattle.machine_state.specs.Views.{FlushPromise, Idle, View}
 use Rattle.wal_rule.specs.declared.seated.SeatedPass.{SeatedPass}
 use Rattle.wal_rule.specs.SeatedPasses.{view_of}
 use Rattle.wal_rule.specs.Stepping.{Meets}
-use Rattle.page_writing.specs.InHand.{HasHand, IsReady, lent_in, writer_in}
+use Rattle.word_ring.specs.InHand.{HasHand, IsReady, lent_in, writer_in}
 use Rattle.wal_log.specs.declared.turns.TurnErr.{TurnErr}
 use Rattle.wal_log.specs.declared.turns.TurnErr.TheVariants.{Down, Taken}
 use Rattle.wal_log.specs.Downs.{KnowsNoFault, MeetsDown}

@@ -1,14 +1,14 @@
 -- What an insert answers, and what it leaves of its pass.
 use Rattle.std.specs.Prelude.{◌≡◌, ℕ, ◌+◌, ◌-◌, ◌<◌, ◌≤◌, Result, Ok, Err, Some, None}
 use Rattle.wal_types.specs.declared.record.Record.{Record}
-use Rattle.record_spelling.specs.Spelling.{Assembled, IsLogRecord, assembled}
+use Rattle.wal_spelling.specs.Spelling.{Assembled, IsLogRecord, assembled}
 use Rattle.wal_page.specs.Order.{Entry, assembled_room_at, finish_of, position_behind, start_of}
 use Rattle.wal_types.specs.declared.lsn.Lsn.{Lsn}
 use Rattle.wal_types.specs.declared.answers.Receipt.{Receipt}
-use Rattle.wal_core.specs.declared.setup.Setup.{Setup}
-use Rattle.wal_core.specs.Moves.{entry_reserved}
-use Rattle.wal_core.specs.Words.{log_limit}
-use Rattle.wal_core.specs.Views.{View}
+use Rattle.machine_state.specs.declared.setup.Setup.{Setup}
+use Rattle.machine_state.specs.Moves.{entry_reserved}
+use Rattle.machine_state.specs.Words.{log_limit}
+use Rattle.machine_state.specs.Views.{View}
 use Rattle.wal_rule.specs.declared.company.Company.{Company}
 use Rattle.wal_rule.specs.Company.{HasNoted}
 use Rattle.wal_log.specs.declared.fault.Fault.{Fault}
@@ -28,14 +28,14 @@ pub record IsOwnEntry (setup : Setup) (body : Assembled) (old : View) (e : Entry
   pub at : ℕ
   pub entry_is : e ≡ entry_reserved (old.reserving).number at value
   pub behind_seen : (old.reserving).seen ≤ at
-  pub within : at + assembled_room_at setup.segment_size at body ≤ log_limit setup
+  pub within : at + assembled_room_at setup.seg_size at body ≤ log_limit setup
 
 -- this entry was reserved: the pass's log has it last, and the pass has seen all before its end
 pub record HasReserved (setup : Setup) (body : Assembled) (old new : View) (e : Entry) : Type 0
   where
     pub own : IsOwnEntry setup body old e
     pub log_is : log_of_pass new ≡ log_with_entry e (log_of_pass old)
-    pub seen : position_behind setup.segment_size e ≤ (new.reserving).seen
+    pub seen : position_behind setup.seg_size e ≤ (new.reserving).seen
 
 -- fewer bytes were left behind a position than the record takes up; the pass had seen nothing
 -- behind it
@@ -45,7 +45,7 @@ pub record FindsLogFull (setup : Setup) (body : Assembled) (free : ℕ) (old new
     pub behind_seen : (old.reserving).seen ≤ at
     pub within : at ≤ log_limit setup
     pub free_is : free ≡ log_limit setup - at
-    pub short : free < assembled_room_at setup.segment_size at body
+    pub short : free < assembled_room_at setup.seg_size at body
     pub seen : at ≤ (new.reserving).seen
     pub log_is : log_of_pass new ≡ log_with_full at (log_of_pass old)
 
@@ -56,8 +56,8 @@ pub record IsReceipt (setup : Setup) (body : Assembled) (old new : View) (receip
   pub entry : Entry
   pub reserved : HasReserved setup body old new entry
   pub copied : CopiesWhole old new entry
-  pub start_is : receipt.start.0 ≡ start_of setup.segment_size entry
-  pub end_is : receipt.end.0 ≡ finish_of setup.segment_size entry
+  pub start_is : receipt.start.0 ≡ start_of setup.seg_size entry
+  pub end_is : receipt.end.0 ≡ finish_of setup.seg_size entry
   pub up : KnowsNoFault new
 
 -- and copying it was the last that the pass did in the call, but for giving its lock back
@@ -71,7 +71,7 @@ pub record IsStarted (setup : Setup) (body : Assembled) (old new : View) (start 
   where
     pub entry : Entry
     pub reserved : HasReserved setup body old new entry
-    pub start_is : start ≡ start_of setup.segment_size entry
+    pub start_is : start ≡ start_of setup.seg_size entry
 
 -- why an insert is refused, and whether its record was reserved all the same
 abbrev pub RefusesInsert : Setup → Assembled → View → View → InsertErr → Type 0

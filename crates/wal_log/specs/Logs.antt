@@ -1,10 +1,10 @@
 -- A log that passes share, and its passes between two calls.
-use Rattle.wal_core.specs.Words.{Opening}
-use Rattle.wal_core.specs.declared.setup.Setup.{Setup}
+use Rattle.machine_state.specs.Words.{Opening}
+use Rattle.machine_state.specs.declared.setup.Setup.{Setup}
 use Rattle.wal_rule.specs.declared.pass.Pass.{Pass}
 use Rattle.wal_rule.specs.declared.table.LogTable.{LogTable}
 use Rattle.wal_rule.specs.Passes.{view_of_pass}
-use Rattle.wal_core.specs.Steps.{IsResting}
+use Rattle.machine_state.specs.Steps.{IsResting}
 use Rattle.wal_rule.specs.Tables.{IsPassOn, opening_of_table}
 use Rattle.wal_log.specs.declared.wal.Wal.{Wal}
 

@@ -1,8 +1,8 @@
 -- A moment that a call tells is the moment word's.
 use Rattle.std.specs.Prelude.{◌≡◌, ◌⊎◌, ℕ, ◌≤◌}
-use Rattle.wal_core.specs.Steps.{StepKind, load_moment, store_moment, value_behind, MayStep}
-use Rattle.wal_core.specs.Views.{View}
-use Rattle.wal_core.specs.Words.{flushed_word, moment_word}
+use Rattle.machine_state.specs.Steps.{StepKind, load_moment, store_moment, value_behind, MayStep}
+use Rattle.machine_state.specs.Views.{View}
+use Rattle.machine_state.specs.Words.{flushed_word, moment_word}
 use Rattle.wal_rule.specs.Stepping.{Meets, Stands}
 use Rattle.wal_log.specs.Standing.{KeepsPass}
 

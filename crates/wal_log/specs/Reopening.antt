@@ -1,22 +1,22 @@
 -- What a reopening answers: a log that was found, settled, and is gone on with.
 use Rattle.std.specs.Prelude.{◌≡◌, ℕ, ◌+◌, ◌*◌, ◌<◌, ◌≤◌, ◌⊎◌, List, length, Option, IfSome}
 use Rattle.byte_position.specs.Position.{end_address_of}
-use Rattle.record_spelling.specs.Spelling.{word_at}
+use Rattle.wal_spelling.specs.Spelling.{word_at}
 use Rattle.segment_disk.specs.Cause.{Rose}
 use Rattle.segment_disk.specs.Tape.{IsUncalled, Tape}
 use Rattle.flush_core.specs.Settled.{HasNotSettled, HasSettled}
 use Rattle.wal_page.specs.LogPlace.{IsPlace, LogPlace, word_below}
 use Rattle.wal_reader.specs.declared.found.FoundRecord.{FoundRecord}
-use Rattle.written_log.specs.FoundLog.{end_behind, last_start_behind}
+use Rattle.written_log_laws.specs.FoundLog.{end_behind, last_start_behind}
 use Rattle.found_log.specs.Found.{HasBegunToSettle, IsDiskLog, RefusesLog, place_of_log}
 use Rattle.found_log.specs.Words.{start_of_page}
 use Rattle.found_log.specs.declared.fault.FindFault.{FindFault}
 use Rattle.found_log.specs.declared.fault.FindFault.TheVariants as finding
 use Rattle.found_log.specs.declared.finding.FoundLog.{FoundLog}
-use Rattle.wal_core.specs.declared.setup.Setup.{Setup}
-use Rattle.wal_core.specs.Opened.{IsOpenable, first_view}
-use Rattle.wal_core.specs.Sound.{IsSetup}
-use Rattle.wal_core.specs.Words.{Opening}
+use Rattle.machine_state.specs.declared.setup.Setup.{Setup}
+use Rattle.machine_state.specs.Opened.{IsOpenable, first_view}
+use Rattle.machine_state.specs.Sound.{IsSetup}
+use Rattle.machine_state.specs.Words.{Opening}
 use Rattle.wal_rule.specs.declared.pass.Pass.{Pass}
 use Rattle.wal_rule.specs.Founded.{found_log_opening}
 use Rattle.wal_rule.specs.Passes.{view_of_pass}
@@ -32,13 +32,13 @@ use Rattle.wal_log.specs.Logs.{IsPassOfLog, opening_of_log, table_of}
 
 -- it may be gone on with under this setup: at its place, of whose page it has the words below
 pub record IsFoundWithin (setup : Setup) (log : FoundLog) : Type 0 where
-  pub placed : IsPlace setup.segment_size (place_of_log log)
-  pub position_is : end_address_of setup.segment_size log.position ≡ log.end.0
+  pub placed : IsPlace setup.seg_size (place_of_log log)
+  pub position_is : end_address_of setup.seg_size log.position ≡ log.end.0
   pub within : log.made ≤ setup.cap_segments
-  pub reaches : log.end.0 ≤ log.made * setup.segment_size + setup.segment_size
+  pub reaches : log.end.0 ≤ log.made * setup.seg_size + setup.seg_size
   pub page_is : (j : ℕ) → start_of_page log.end.0 + 8 * j < log.end.0
       → word_at log.page.value j
-      ≡ word_below setup.segment_size (place_of_log log) (start_of_page log.end.0 + 8 * j)
+      ≡ word_below setup.seg_size (place_of_log log) (start_of_page log.end.0 + 8 * j)
 
 -- a log is opened behind it at a moment
 pub record IsOpenedBehind (setup : Setup) (log : FoundLog) (moment : ℕ) (opening : Opening)
@@ -68,14 +68,14 @@ module _ {D : Type 0} (tape : D → Option Tape) (moment faults : D → ℕ) whe
     pub opening : opening_of_log wal
         ≡ found_log_opening setup place made (opening_of_log wal).moment (faults disk)
     pub openable : IsOpenable (opening_of_log wal)
-    pub settled : HasSettled setup.segment_size found.end.0 made (tape disk)
+    pub settled : HasSettled setup.seg_size found.end.0 made (tape disk)
         (began_of_table tape (table_of wal)) (moment disk) (opening_of_log wal).moment
     pub count_is : found.count ≡ length records
-    pub end_is : found.end.0 ≡ end_behind setup.segment_size records
-    pub goes_on_at : end_address_of setup.segment_size place.position ≡ found.end.0
+    pub end_is : found.end.0 ≡ end_behind setup.seg_size records
+    pub goes_on_at : end_address_of setup.seg_size place.position ≡ found.end.0
     pub prev_is : place.prev ≡ last_start_behind 0 records
     pub read : IfSome (tape disk)
-        (IsDiskLog setup.segment_size setup.cap_segments records place made)
+        (IsDiskLog setup.seg_size setup.cap_segments records place made)
     pub pass_is : IsPassOfLog wal pass
     pub view : view_of_pass pass ≡ first_view (opening_of_log wal)
 
@@ -86,7 +86,7 @@ module _ {D : Type 0} (tape : D → Option Tape) (moment faults : D → ℕ) whe
         ≡ found_log_opening setup (place_of_log log) log.made (opening_of_log wal).moment
         (faults disk)
     pub openable : IsOpenable (opening_of_log wal)
-    pub settled : HasSettled setup.segment_size log.end.0 log.made (tape disk)
+    pub settled : HasSettled setup.seg_size log.end.0 log.made (tape disk)
         (began_of_table tape (table_of wal)) (moment disk) (opening_of_log wal).moment
     pub count_is : found.count ≡ log.count
     pub end_is : found.end ≡ log.end
@@ -98,7 +98,7 @@ module _ {D : Type 0} (tape : D → Option Tape) (moment faults : D → ℕ) whe
   abbrev pub LeavesUnopened : Setup → FoundLog → D → D → OpenFaultKind → Type 0
   LeavesUnopened setup log old new BadSetup = ⊥
   LeavesUnopened setup log old new Memory = new ≡ old
-  LeavesUnopened setup log old new (Disk told) = HasNotSettled setup.segment_size
+  LeavesUnopened setup log old new (Disk told) = HasNotSettled setup.seg_size
       log.end.0 (tape old) (tape new) (moment old) (moment new)
       × (told ≡ faults new) × Rose (faults old) (faults new)
   LeavesUnopened setup log old new NotEmpty = ⊥
@@ -114,16 +114,16 @@ module _ {D : Type 0} (tape : D → Option Tape) (moment faults : D → ℕ) whe
   TellsReopenFault setup old new (Disk told) = IsSetup setup × (told ≡ faults new)
       × Rose (faults old) (faults new)
       × (IsUncalled tape moment old new
-      ⊎ HasBegunToSettle setup.segment_size setup.cap_segments (tape old) (tape new)
+      ⊎ HasBegunToSettle setup.seg_size setup.cap_segments (tape old) (tape new)
       (moment old) (moment new))
   TellsReopenFault setup old new NotEmpty = ⊥
   TellsReopenFault setup old new (Beyond segment) = IsSetup setup × IsUncalled tape moment old new
       × (faults new ≡ faults old)
-      × IfSome (tape old) (RefusesLog setup.segment_size setup.cap_segments
+      × IfSome (tape old) (RefusesLog setup.seg_size setup.cap_segments
       (finding.Beyond segment))
   TellsReopenFault setup old new (Foreign stop) = IsSetup setup × IsUncalled tape moment old new
       × (faults new ≡ faults old)
-      × IfSome (tape old) (RefusesLog setup.segment_size setup.cap_segments
+      × IfSome (tape old) (RefusesLog setup.seg_size setup.cap_segments
       (finding.Foreign stop))
 
   abbrev pub RefusesReopening : Setup → D → OpenFault D → Type 0

@@ -2,7 +2,7 @@
 use Rattle.std.specs.Prelude.{◌⊎◌, ℕ, ◌<◌, Any, List, length, slice_index_or}
 use Rattle.machine_laws.specs.SharedOrders.{HasNumber}
 use Rattle.wal_rule.specs.Closing.{KeepsNumbers}
-use Rattle.wal_core.specs.Views.{View}
+use Rattle.machine_state.specs.Views.{View}
 
 -- one of these passes has a number
 abbrev pub SomeHas : ℕ → List View → Type 0

@@ -3,8 +3,8 @@ use Rattle.std.specs.Prelude.{◌≡◌, ℕ, ◌≤◌, List, [], length}
 use mathlib.Core.Option.{Option, none, some}
 use Rattle.wal_page.specs.Order.{Entry}
 use Rattle.wal_page.specs.Placed.{PlacedState}
-use Rattle.wal_core.specs.declared.setup.Setup.{Setup}
-use Rattle.wal_core.specs.Views.{Away, Copy, Copying, Flight, Free, Landed, Idle, View}
+use Rattle.machine_state.specs.declared.setup.Setup.{Setup}
+use Rattle.machine_state.specs.Views.{Away, Copy, Copying, Flight, Free, Landed, Idle, View}
 use Rattle.word_ring.specs.Copied.{rest_of}
 use Rattle.insert_locks.specs.Holding.{AreLocks}
 use Rattle.wal_rule.specs.declared.seated.SeatedPass.{SeatedPass}

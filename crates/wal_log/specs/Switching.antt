@@ -1,13 +1,13 @@
 -- What a segment switch answers, and what it leaves of its pass.
 use Rattle.std.specs.Prelude.{◌≡◌, ◌≢◌, ℕ, ◌%◌, ◌<◌, ◌≤◌, List, Result, Ok, Err, Some, None}
 use Rattle.wal_types.specs.declared.lsn.Lsn.{Lsn}
-use Rattle.record_spelling.specs.Record.{switch_record}
-use Rattle.record_spelling.specs.Spelling.{Assembled}
+use Rattle.wal_spelling.specs.Record.{switch_record}
+use Rattle.wal_spelling.specs.Spelling.{Assembled}
 use Rattle.wal_page.specs.Order.{Entry, finish_of, start_of}
-use Rattle.wal_core.specs.declared.setup.Setup.{Setup}
-use Rattle.wal_core.specs.PassLogs.{log_with_stay}
-use Rattle.wal_core.specs.Words.{end_form, log_limit}
-use Rattle.wal_core.specs.Views.{View}
+use Rattle.machine_state.specs.declared.setup.Setup.{Setup}
+use Rattle.machine_state.specs.PassLogs.{log_with_stay}
+use Rattle.machine_state.specs.Words.{end_form, log_limit}
+use Rattle.machine_state.specs.Views.{View}
 use Rattle.wal_rule.specs.declared.seated.SeatedPass.{SeatedPass}
 use Rattle.wal_rule.specs.SeatedPasses.{view_of}
 use Rattle.reserve_lock.specs.declared.reserving.Reserved.{Reserved}
@@ -30,7 +30,7 @@ use Rattle.wal_log.specs.Whole.{CopiesWhole}
 -- an entry is a segment switch's, and the log did not stand at a segment's start before it
 pub record IsSwitchEntry (setup : Setup) (e : Entry) : Type 0 where
   pub switches : e.value ≡ switch_record
-  pub inside : end_form setup e.start % setup.segment_size ≢ 0
+  pub inside : end_form setup e.start % setup.seg_size ≢ 0
 
 -- this entry was reserved, as an insert's is, and it is a switch's
 pub record HasSwitched (setup : Setup) (body : Assembled) (old new : View) (e : Entry) : Type 0
@@ -45,8 +45,8 @@ pub record IsSwitchDone (setup : Setup) (body : Assembled) (old new : View) (sta
   pub entry : Entry
   pub switched : HasSwitched setup body old new entry
   pub copied : CopiesWhole old new entry
-  pub start_is : start ≡ start_of setup.segment_size entry
-  pub end_is : end ≡ finish_of setup.segment_size entry
+  pub start_is : start ≡ start_of setup.seg_size entry
+  pub end_is : end ≡ finish_of setup.seg_size entry
   pub up : KnowsNoFault new
 
 -- nothing was reserved: the log ended at this address, a segment's start, which is the end form of
@@ -56,7 +56,7 @@ pub record FindsSegmentStart (setup : Setup) (end : ℕ) (old new : View) : Type
   pub behind_seen : (old.reserving).seen ≤ at
   pub within : at ≤ log_limit setup
   pub end_is : end ≡ end_form setup at
-  pub starts : end % setup.segment_size ≡ 0
+  pub starts : end % setup.seg_size ≡ 0
   pub seen : at ≤ (new.reserving).seen
   pub log_is : log_of_pass new ≡ log_with_stay at (log_of_pass old)
   pub up : KnowsNoFault new
@@ -75,7 +75,7 @@ pub record IsSwitchStarted (setup : Setup) (body : Assembled) (old new : View) (
     : Type 0 where
   pub entry : Entry
   pub switched : HasSwitched setup body old new entry
-  pub start_is : start ≡ start_of setup.segment_size entry
+  pub start_is : start ≡ start_of setup.seg_size entry
 
 -- why a switch is refused, and whether it was reserved all the same
 abbrev pub RefusesSwitch : Setup → Assembled → View → View → SwitchErr → Type 0

@@ -2,8 +2,8 @@
 use Rattle.std.specs.Prelude.{◌≡◌, Contains}
 use Rattle.wal_page.specs.EntryWords.{words_owned}
 use Rattle.wal_page.specs.Order.{Entry}
-use Rattle.wal_core.specs.Moves.{without_work}
-use Rattle.wal_core.specs.Views.{Copy, Copying, View}
+use Rattle.machine_state.specs.Moves.{without_work}
+use Rattle.machine_state.specs.Views.{Copy, Copying, View}
 use Rattle.machine_laws.specs.SoundLocks.{IsCopiedWhole}
 use Rattle.wal_rule.specs.Stepping.{Stands}
 use Rattle.wal_log.specs.Standing.{KeepsPass}
@@ -24,7 +24,7 @@ pub record CopiesWhole (old new : View) (e : Entry) : Type 0 where
   pub copy : Copy
   pub in_flight : (view.working).flight ≡ Copying copy
   pub entry_is : copy.entry ≡ e
-  pub none_left : copy.copied ≡ words_owned ((view.opening).setup).segment_size e
+  pub none_left : copy.copied ≡ words_owned ((view.opening).setup).seg_size e
   pub whole : ∥ StandsWhole view e ∥₁
 
 -- and that was the last of the call that the pass's view tells: the view with which each word was

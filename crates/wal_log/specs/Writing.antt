@@ -2,13 +2,13 @@
 use Rattle.std.specs.Prelude.{◌≡◌, ◌⊎◌, ℕ, ◌≤◌, List, Option, Result, nat_lt, if◌then◌else◌}
 use Rattle.segment_disk.specs.Tape.{Tape}
 use Rattle.flush_core.specs.Calls.{waiting_behind}
-use Rattle.wal_core.specs.Moves.{with_hold}
-use Rattle.wal_core.specs.Views.{Idle, Out, Plain, View}
+use Rattle.machine_state.specs.Moves.{with_hold}
+use Rattle.machine_state.specs.Views.{Idle, Out, Plain, View}
 use Rattle.wal_rule.specs.declared.seated.SeatedPass.{SeatedPass}
 use Rattle.wal_rule.specs.SeatedPasses.{view_of}
 use Rattle.insert_locks.specs.Watching.{HasFinished}
-use Rattle.page_writing.specs.InHand.{lent_in, writer_in}
-use Rattle.page_writing.specs.MadeCalls.{EndCalls, HasBrokenOff, HasCalled, calls_to_flush, calls_to_write}
+use Rattle.word_ring.specs.InHand.{lent_in, writer_in}
+use Rattle.word_ring.specs.MadeCalls.{EndCalls, HasBrokenOff, HasCalled, calls_to_flush, calls_to_write}
 use Rattle.wal_log.specs.declared.fault.Fault.TheVariants as faults
 use Rattle.wal_log.specs.declared.turns.TurnErr.{TurnErr}
 use Rattle.wal_log.specs.declared.turns.TurnErr.TheVariants as turns

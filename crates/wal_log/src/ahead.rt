@@ -5,8 +5,8 @@
 // others may raise it further in between: then nothing is stored. It makes no device call for it.
 // What is answered so may be lost in a crash, until a flush by anybody has passed its end.
 ghost use Rattle.std.specs.Prelude.{◌≡◌, ◌%◌, ◌≤◌, false, Err, IfOk, None};
-ghost use Rattle.record_spelling.specs.Spelling.{is_assembled_switch};
-ghost use Rattle.wal_core.specs.Words.{end_form};
+ghost use Rattle.wal_spelling.specs.Spelling.{is_assembled_switch};
+ghost use Rattle.machine_state.specs.Words.{end_form};
 ghost use Rattle.wal_rule.specs.Company.{IsAlone};
 ghost use Rattle.wal_rule.specs.Downs.{KnowsDown};
 ghost use Rattle.wal_rule.specs.Passes.{view_of_pass};
@@ -20,10 +20,10 @@ ghost use Rattle.wal_log.specs.declared.inserting.InsertErr.TheVariants.{Down};
 use crate::inserting::{InsertErr, insert_on, note_place};
 use crate::wal::Wal;
 use crossbeam_utils::Backoff;
-use record_spelling::Body;
 use segment_disk::Disk;
 use std::sync::Wait;
 use wal_rule::{Company, Pass, SeatedPass};
+use wal_spelling::Body;
 use wal_types::Receipt;
 
 impl<D: Disk> Wal<D> {

@@ -5,7 +5,7 @@
 // reserved finds it held until all is copied. It stays held with the record in flight under it. A
 // try that reserves nothing releases it: the caller waits with nothing held.
 ghost use Rattle.std.specs.Prelude.{◌≡◌, false, [], ◌∷◌, IsErrOf};
-ghost use Rattle.record_spelling.specs.Spelling.{is_assembled_switch};
+ghost use Rattle.wal_spelling.specs.Spelling.{is_assembled_switch};
 ghost use Rattle.wal_rule.specs.Downs.{KnowsDown};
 ghost use Rattle.wal_rule.specs.SeatedPasses.{StandsAtRest, setup_of, view_of};
 ghost use Rattle.wal_log.specs.Beginning.{AnswersBeginTry, try_err_known_down, try_err_of_reserve};
@@ -14,11 +14,11 @@ ghost use Rattle.wal_log.specs.Standing.{GoesOnSeated, HoldsLocks};
 ghost use Rattle.wal_log.specs.declared.beginning.TryErr.TheVariants.{AllHeld};
 
 use insert_locks::{AllHeld, Held, release, try_take};
-use record_spelling::Body;
 use reserve_lock::{ReserveErr, try_reserve};
 use segment_disk::Disk;
 use wal_page::Placed;
 use wal_rule::SeatedPass;
+use wal_spelling::Body;
 use wal_types::Lsn;
 
 /// A record whose place is reserved, under an insertion lock: where it starts and ends, and the

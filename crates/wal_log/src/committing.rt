@@ -3,7 +3,7 @@
 // may flush in between, and make this record durable too: then the flush tells what it finds as
 // flushed. If the flush is refused the record keeps its place, and nothing is promised of it.
 ghost use Rattle.std.specs.Prelude.{◌≡◌, false, IfOk};
-ghost use Rattle.record_spelling.specs.Spelling.{is_assembled_switch};
+ghost use Rattle.wal_spelling.specs.Spelling.{is_assembled_switch};
 ghost use Rattle.wal_rule.specs.Company.{HasNoted, IsAlone};
 ghost use Rattle.wal_rule.specs.Downs.{KnowsDown};
 ghost use Rattle.wal_rule.specs.Passes.{view_of_pass};
@@ -15,10 +15,10 @@ ghost use Rattle.wal_log.specs.Standing.{ComesToRest, KeepsPass};
 use crate::flushing::{FlushErr, flush_in_company};
 use crate::inserting::{InsertErr, insert_on};
 use crate::wal::Wal;
-use record_spelling::Body;
 use segment_disk::Disk;
 use std::sync::Wait;
 use wal_rule::{Company, Pass, SeatedPass};
+use wal_spelling::Body;
 use wal_types::{Cause, Receipt, Refused, Sealed};
 
 impl From<InsertErr> for Refused {

@@ -9,7 +9,7 @@
 // there: it loads down before it pauses.
 ghost use Rattle.std.specs.Prelude.{◌≡◌, ◌/◌, ◌<◌, ◌≤◌, ◌^◌, MatchBool, MatchResult};
 ghost use Rattle.insert_locks.specs.Holding.{locks_of};
-ghost use Rattle.wal_core.specs.Views.{Away, View};
+ghost use Rattle.machine_state.specs.Views.{Away, View};
 ghost use Rattle.wal_page.specs.Placed.{placed_end};
 ghost use Rattle.wal_rule.specs.SeatedPasses.{setup_of, view_of};
 ghost use Rattle.word_ring.specs.Ring.{end_of_page};
@@ -381,7 +381,7 @@ fn await_written<'p, D: Disk>(
     ensures ends { MatchResult result
         (λ _. KnowsNoFault (view_of seated.new) × FindsUp (view_of seated.old) (view_of seated.new))
         (λ e. FindsDown (view_of seated.old) (view_of seated.new) e) }
-    // As of `await_page`.
+    // Its locks and its copy the pass has as before, and its log is as it was.
     ensures stays { StaysAtWork seated.old seated.new }
     ensures log { log_of_pass (view_of seated.new) ≡ log_of_pass (view_of seated.old) }
 {

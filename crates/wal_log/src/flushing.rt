@@ -9,8 +9,8 @@
 // ends there, and the next one begins anew.
 ghost use Rattle.std.specs.Prelude.{◌≡◌, ◌<◌, ◌≤◌, MatchOption, MatchResult};
 ghost use mathlib.Core.Option.{none};
-ghost use Rattle.page_writing.specs.InHand.{IsReady, known_copied, writer_in};
-ghost use Rattle.wal_core.specs.Words.{end_form};
+ghost use Rattle.word_ring.specs.InHand.{IsReady, known_copied, writer_in};
+ghost use Rattle.machine_state.specs.Words.{end_form};
 ghost use Rattle.wal_rule.specs.Downs.{KnowsDown};
 ghost use Rattle.wal_rule.specs.Passes.{view_of_pass};
 ghost use Rattle.wal_rule.specs.SeatedPasses.{StandsAtRest, setup_of, view_of};
@@ -32,12 +32,12 @@ use crate::writing::{store_written, write_pages};
 use byte_position::PAGE_SIZE;
 use flush_core::DiskFault;
 use insert_locks::{Watched, see_end, see_reserved, watch};
-use page_writing::{sync_written, writer_now};
 use segment_disk::Disk;
 use std::sync::Wait;
 use std::thread;
 use wal_rule::{Pass, SeatedPass};
 use wal_types::{Hard, Lsn};
+use word_ring::{sync_written, writer_now};
 
 // How often the flushed address is looked at, at most, before the turn is tried again: an insert
 // that makes room may have it, and stores no flushed address.
@@ -440,7 +440,7 @@ fn flush_in_hand<'p, D: Disk>(seated: &mut SeatedPass<'p, D>, known: u64) -> Res
         × (log_of_pass (view_of seated.new) ≡ log_of_pass (view_of seated.old))) }
     // The device is called just as a flush of what is known takes it, or up to the call that
     // failed.
-    ensures calls { FlushesAll (setup_of seated.old).segment_size known result
+    ensures calls { FlushesAll (setup_of seated.old).seg_size known result
         (writer_in (view_of seated.old)) (writer_in (view_of seated.new)) }
     ensures flushed { (view_of seated.new).writing.flushed
         ≡ (view_of seated.old).writing.flushed }

@@ -6,7 +6,7 @@
 // that is not flushed yet ends at it, also one below the record; once it tells an address, flushes
 // pass up to there. Behind a failed disk the copy may be given up, as an insert does it.
 ghost use Rattle.std.specs.Prelude.{◌≡◌, false, IsErrAnd};
-ghost use Rattle.record_spelling.specs.Spelling.{is_assembled_switch};
+ghost use Rattle.wal_spelling.specs.Spelling.{is_assembled_switch};
 ghost use Rattle.wal_rule.specs.Downs.{KnowsDown};
 ghost use Rattle.wal_rule.specs.Passes.{view_of_pass};
 ghost use Rattle.wal_log.specs.Beginning.{try_err_known_down};
@@ -18,9 +18,9 @@ use crate::beginning::{Begun, TryErr, try_begin};
 use crate::copying::{Copied, copy_front};
 use crate::wal::Wal;
 use insert_locks::{Held, release};
-use record_spelling::Body;
 use segment_disk::Disk;
 use wal_rule::Pass;
+use wal_spelling::Body;
 use wal_types::Receipt;
 
 /// A record whose place is reserved, with the pass that copies it under an insertion lock. Who has

@@ -3,8 +3,8 @@
 // From the reservation on it has its place, whatever fails: the record behind it names its start.
 // Nothing is said here of what is durable.
 ghost use Rattle.std.specs.Prelude.{◌≡◌, false, Err, IfOk, IsErrOf, MatchResult, None};
-ghost use Rattle.record_spelling.specs.Spelling.{is_assembled_switch};
-ghost use Rattle.wal_core.specs.Steps.{IsResting};
+ghost use Rattle.wal_spelling.specs.Spelling.{is_assembled_switch};
+ghost use Rattle.machine_state.specs.Steps.{IsResting};
 ghost use Rattle.wal_rule.specs.Company.{IsAlone};
 ghost use Rattle.wal_rule.specs.Downs.{KnowsDown};
 ghost use Rattle.wal_rule.specs.Passes.{view_of_pass};
@@ -21,11 +21,11 @@ use crate::landing::land_and_make_room;
 use crate::wal::Wal;
 use crossbeam_utils::Backoff;
 use insert_locks::Held;
-use record_spelling::Body;
 use segment_disk::Disk;
 use std::hint::spin_loop;
 use std::sync::Wait;
 use wal_rule::{Company, Pass, SeatedPass};
+use wal_spelling::Body;
 use wal_types::{Lsn, Receipt};
 
 // How often a busy position is looked at before a pause.

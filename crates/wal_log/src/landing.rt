@@ -71,10 +71,11 @@ pub(crate) fn land<'p, 'a, D: Disk, R: Wait>(
     }
 }
 
-// The same of a record under its one lock. Behind it a pass that has met others makes room ahead,
-// if the record came to a further page, and at times lets others run. A fault that it meets there
-// it tells itself, though the record is whole: a fault is told by who made the device call, and to
-// all later calls as one that was met before.
+// Copies the words that are left of a record, and gives its one lock back; or gives the copy up.
+// Behind it a pass that has met others makes room ahead, if the record came to a further page, and
+// at times lets others run. A fault that it meets there it tells itself, though the record is
+// whole: a fault is told by who made the device call, and to all later calls as one that was met
+// before.
 #[inline(always)]
 pub(crate) fn land_and_make_room<'p, 'a, D: Disk, R: Wait>(
     rt: &R,

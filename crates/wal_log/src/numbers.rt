@@ -2,7 +2,7 @@
 //! these no other pass is left, and the log may be closed.
 
 ghost use Rattle.wal_rule.specs.Closing.{KeepsNumbers};
-ghost use Rattle.wal_core.specs.Views.{View};
+ghost use Rattle.machine_state.specs.Views.{View};
 ghost use Rattle.wal_log.specs.Standing.{KeepsPass};
 
 /// A call that leaves of a pass what `KeepsPass` says takes no number away.

@@ -4,18 +4,18 @@
 // and the first pass is handed out: from then on the words are shared, and change by the table's
 // steps alone. No counted call is made, so the log begins at the disk's own moment.
 ghost use Rattle.std.specs.Prelude.{◌≡◌, IfErr, IfOk};
-ghost use Rattle.wal_core.specs.Opened.{AreFirstWords};
-ghost use Rattle.wal_core.specs.Sound.{IsSetup};
-ghost use Rattle.wal_core.specs.declared.setup.Setup.{Setup};
+ghost use Rattle.machine_state.specs.Opened.{AreFirstWords};
+ghost use Rattle.machine_state.specs.Sound.{IsSetup};
+ghost use Rattle.machine_state.specs.declared.setup.Setup.{Setup};
 ghost use Rattle.wal_rule.specs.Founded.{empty_log_opening};
 ghost use Rattle.wal_rule.specs.Opening.{TellsOpenErr};
 ghost use Rattle.wal_log.specs.Opening.{IsOpened, RefusesOpening};
 
 use crate::wal::Wal;
+use machine_state::Setup;
 use machine_words::{LogShape, MachineWords};
 use segment_disk::Disk;
 use std::alloc::Global;
-use wal_core::Setup;
 use wal_reader::Stopped;
 use wal_rule::{Founding, LogTable, LogWriter, OpenErr, Pass};
 

@@ -4,14 +4,14 @@
 // table are made for that moment, and the table settles the disk when it has all its memory. No
 // counted call is made from then on.
 ghost use Rattle.std.specs.Prelude.{◌≡◌, ℕ, ◌<◌, IfErr, IfOk, OnOk, slice_index};
-ghost use Rattle.record_spelling.specs.Spelling.{word_at};
+ghost use Rattle.wal_spelling.specs.Spelling.{word_at};
 ghost use Rattle.segment_disk.specs.Tape.{IsUncalled};
 ghost use Rattle.flush_core.specs.Planned.{IsPlanOf};
 ghost use Rattle.found_log.specs.Found.{FindsLog, place_of_log};
-ghost use Rattle.wal_core.specs.Opened.{AreFirstWords};
-ghost use Rattle.wal_core.specs.Sound.{IsSetup};
-ghost use Rattle.wal_core.specs.Words.{Opening};
-ghost use Rattle.wal_core.specs.declared.setup.Setup.{Setup};
+ghost use Rattle.machine_state.specs.Opened.{AreFirstWords};
+ghost use Rattle.machine_state.specs.Sound.{IsSetup};
+ghost use Rattle.machine_state.specs.Words.{Opening};
+ghost use Rattle.machine_state.specs.declared.setup.Setup.{Setup};
 ghost use Rattle.found_log.specs.declared.finding.FoundLog.{FoundLog};
 ghost use Rattle.wal_rule.specs.Opening.{TellsResumeErr};
 ghost use Rattle.wal_log.specs.Reopening.{GoesOn, IsFoundWithin, IsOpenedBehind, IsReopened, LeavesUnopened, RefusesReopening, TellsReopenFault, unfound_kind};
@@ -21,11 +21,11 @@ use crate::wal::Wal;
 use byte_position::Geometry;
 use flush_core::{SettleFault, SettlePlan};
 use found_log::{FindFault, FoundLog, find};
+use machine_state::Setup;
 use machine_words::{LogEnd, LogShape, MachineWords, Word};
 use segment_disk::Disk;
 use std::alloc::{AllocError, Global};
 use std::marker::Brand;
-use wal_core::Setup;
 use wal_rule::{Founding, LogTable, LogWriter, OrderPlace, Pass, PicksPlace, ResumeErr};
 use wal_types::Lsn;
 
@@ -85,7 +85,7 @@ impl<D: Disk> Wal<D> {
         requires log { IsFoundWithin setup log.now }
         requires words { (opening : Opening) → IsOpenedBehind setup log.now 0 opening
             → AreFirstWords opening words.words }
-        requires plan { IsPlanOf setup.segment_size log.now.end.0 log.now.made
+        requires plan { IsPlanOf setup.seg_size log.now.end.0 log.now.made
             (D.tape disk) plan.now }
         ensures goes_on { IfOk result
             (λ r. GoesOn D.tape D.moment D.faults setup log.now disk r.0 r.1 r.2) }
@@ -110,7 +110,7 @@ impl<D: Disk> Wal<D> {
 // Why a log was not opened that was found.
 fn resume_fault<D: Disk>(error: ResumeErr<D>) -> OpenFault<D>
     ensures { (setup : Setup) (log : FoundLog) (old : D)
-        → TellsResumeErr D.tape D.moment D.faults setup.segment_size log.end.0 old error
+        → TellsResumeErr D.tape D.moment D.faults setup.seg_size log.end.0 old error
         → LeavesUnopened D.tape D.moment D.faults setup log old result.disk result.kind }
 {
     match error {
@@ -134,12 +134,12 @@ fn find_planned<D: Disk>(
     geometry: Geometry,
 ) -> Result<(FoundLog, MachineWords, SettlePlan), OpenFaultKind>
     requires setup { IsSetup setup }
-    requires size { setup.segment_size ≡ geometry }
-    ensures found { IfOk result (λ r. FindsLog setup.segment_size setup.cap_segments
+    requires size { setup.seg_size ≡ geometry }
+    ensures found { IfOk result (λ r. FindsLog setup.seg_size setup.cap_segments
         (D.tape disk.old) r.0) }
     ensures words { IfOk result (λ r. (opening : Opening) → IsOpenedBehind setup r.0 0 opening
         → AreFirstWords opening r.1.words) }
-    ensures planned { IfOk result (λ r. IsPlanOf setup.segment_size r.0.end.0 r.0.made
+    ensures planned { IfOk result (λ r. IsPlanOf setup.seg_size r.0.end.0 r.0.made
         (D.tape disk.old) r.2) }
     ensures uncalled { IsUncalled D.tape D.moment disk.old disk.new }
     ensures no_fault { OnOk result (D.faults disk.new ≡ D.faults disk.old) }

@@ -5,8 +5,8 @@
 
 ghost use Rattle.std.specs.Prelude.{◌≡◌, ℕ, ◌++◌, [], ◌∷◌, List, length};
 ghost use Rattle.machine_laws.specs.ClosedLogs.{HasAllNumbers};
-ghost use Rattle.wal_core.specs.Views.{View};
-ghost use Rattle.wal_core.specs.Moves.{after_join, after_split, split_off};
+ghost use Rattle.machine_state.specs.Views.{View};
+ghost use Rattle.machine_state.specs.Moves.{after_join, after_split, split_off};
 ghost use Rattle.wal_log.specs.Sharing.{KeepEach, ShareNumbers};
 
 use wal_rule::numbers::seats_keep_numbers;

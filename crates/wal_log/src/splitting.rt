@@ -5,7 +5,7 @@
 // taken in is not closed.
 ghost use Rattle.std.specs.Prelude.{◌≡◌, ◌<◌};
 ghost use Rattle.wal_rule.specs.Passes.{view_of_pass};
-ghost use Rattle.wal_core.specs.Moves.{after_join, after_split, split_off};
+ghost use Rattle.machine_state.specs.Moves.{after_join, after_split, split_off};
 ghost use Rattle.wal_log.specs.Logs.{IsPassOfLog};
 
 use crate::wal::Wal;

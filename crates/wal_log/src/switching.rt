@@ -6,8 +6,8 @@
 // switch for that insert's lock. With all eight held nobody else reserves. The words up to the
 // segment's end are copied as any record's (landing.rt).
 ghost use Rattle.std.specs.Prelude.{◌≡◌, ◌+◌, ◌<◌, [], Err, None, Ok, IsErrOf, MatchBool, MatchOption, MatchResult};
-ghost use Rattle.record_spelling.specs.Record.{switch_record};
-ghost use Rattle.record_spelling.specs.Spelling.{assembled};
+ghost use Rattle.wal_spelling.specs.Record.{switch_record};
+ghost use Rattle.wal_spelling.specs.Spelling.{assembled};
 ghost use Rattle.insert_locks.specs.Holding.{lock_run};
 ghost use Rattle.reserve_lock.specs.Reserved.{every_lock};
 ghost use Rattle.wal_rule.specs.Downs.{KnowsDown};
@@ -24,13 +24,13 @@ use crate::fault::Fault;
 use crate::landing::land;
 use crate::wal::Wal;
 use crossbeam_utils::Backoff;
-use insert_locks::{Held, release, see_reserved, tell, try_take_lock};
+use insert_locks::{Held, advance, release, see_reserved, try_take_lock};
 use machine_words::layout::LOCKS;
-use record_spelling::Body;
 use reserve_lock::{ReserveErr, Reserved, SwitchTry, try_reserve_switch};
 use segment_disk::Disk;
 use std::sync::Wait;
 use wal_rule::{Company, Pass, SeatedPass};
+use wal_spelling::Body;
 use wal_types::Lsn;
 
 /// What a segment switch comes to.
@@ -231,7 +231,7 @@ fn tell_seen<'p, D: Disk>(seated: &mut SeatedPass<'p, D>, count: u32)
 {
     if count > 0 {
         let end = see_reserved(seated);
-        tell(seated, Held::Below(count), end);
+        advance(seated, Held::Below(count), end);
     }
 }
 

@@ -7,19 +7,19 @@
 // takes the turn next finds no fault that was not told.
 ghost use Rattle.std.specs.Prelude.{◌≡◌, ℕ, [], MatchBool, MatchResult};
 ghost use mathlib.Core.Option.{some};
-ghost use Rattle.page_writing.specs.InHand.{HasHand, IsReady, known_copied, writer_in};
-ghost use Rattle.wal_core.specs.Moves.{copied_below, with_hold};
-ghost use Rattle.wal_core.specs.Steps.{slot_in, MayStep};
-ghost use Rattle.wal_core.specs.Views.{Idle};
+ghost use Rattle.word_ring.specs.InHand.{HasHand, IsReady, known_copied, writer_in};
+ghost use Rattle.machine_state.specs.Moves.{copied_below, with_hold};
+ghost use Rattle.machine_state.specs.Steps.{slot_in, MayStep};
+ghost use Rattle.machine_state.specs.Views.{Idle};
 ghost use Rattle.wal_rule.specs.SeatedPasses.{HasView, hand_of, view_of};
 ghost use Rattle.wal_log.specs.Downs.{KnowsNoFault};
 ghost use Rattle.wal_log.specs.Hands.{MeetsFreeWriteTurn, MeetsWriteTurn, SetsDownAndRests, TellsTurnErr};
 ghost use Rattle.wal_log.specs.Standing.{AddsNothing, HasNoTurn};
 
 use flush_core::DiskFault;
-use page_writing::writer_now;
 use segment_disk::Disk;
 use wal_rule::SeatedPass;
+use word_ring::writer_now;
 
 /// Why the turn to write was not had.
 #[derive(Clone, Copy, Debug, PartialEq, Eq)]

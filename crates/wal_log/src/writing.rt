@@ -7,7 +7,7 @@
 // page, stores behind each what is written, and gives writer and turn back.
 ghost use Rattle.std.specs.Prelude.{◌≡◌, ◌≤◌, MatchResult, OnOk};
 ghost use Rattle.insert_locks.specs.Holding.{HasTold, locks_of};
-ghost use Rattle.page_writing.specs.InHand.{IsReady, known_copied, writer_in};
+ghost use Rattle.word_ring.specs.InHand.{IsReady, known_copied, writer_in};
 ghost use Rattle.wal_rule.specs.SeatedPasses.{HasView, setup_of, view_of};
 ghost use Rattle.wal_log.specs.Downs.{KnowsNoFault, SetsDownItself};
 ghost use Rattle.wal_log.specs.Hands.{HasAllStored, HasFailed};
@@ -19,13 +19,13 @@ ghost use Rattle.wal_log.specs.declared.writing.WriteErr.TheVariants.{Fault};
 
 use crate::fault::Fault;
 use crate::turns::{TurnErr, give_back, go_down, take_ready};
-use byte_position::PAGE_SIZE;
+use byte_position::{PAGE_SIZE, Page};
 use flush_core::DiskFault;
-use insert_locks::{Held, Watched, tell, watch};
-use page_writing::{write_next, writer_now};
+use insert_locks::{Held, Watched, advance, watch};
 use segment_disk::Disk;
 use wal_page::Placed;
 use wal_rule::SeatedPass;
+use word_ring::{write_next, writer_now};
 
 /// Why a page was not written early.
 #[derive(Clone, Copy, Debug, PartialEq, Eq)]
@@ -75,7 +75,7 @@ pub(crate) fn write_known<'p, D: Disk>(
         × (known ≤ (writer_in (view_of seated.new)).written))
         (λ e. SetsDownItself e.faults (view_of seated.new) × HasNoTurn seated.new) }
     // The device is called just as that takes it. Where a call fails `write_pages` tells of it.
-    ensures calls { OnOk result (WritesAll (setup_of seated.old).segment_size known
+    ensures calls { OnOk result (WritesAll (setup_of seated.old).seg_size known
         (writer_in (view_of seated.old)) (writer_in (view_of seated.new))) }
     // Locks, copy and log are as they were, and nothing is promised.
     ensures adds_nothing { AddsNothing seated.old seated.new }
@@ -93,21 +93,21 @@ pub(crate) fn write_known<'p, D: Disk>(
 pub(crate) fn write_pages<'p, D: Disk>(
     seated: &mut SeatedPass<'p, D>,
     known: u64,
-    bytes: &mut [u8; PAGE_SIZE as usize],
+    bytes: &mut Page,
 ) -> Result<(), DiskFault>
     requires ready { IsReady D.tape D.moment D.faults seated.old }
     requires known { known ≡ known_copied (view_of seated.old) }
     requires up { KnowsNoFault (view_of seated.old) }
-    // As of `write_known`, but that where the disk has failed the writer is in hand still, with the
-    // fault that is told.
+    // All of it is stored, as `write_known` tells; but where the disk has failed the writer is in
+    // hand still, with the fault that is told.
     ensures ends { MatchResult result
         (λ _. HasAllStored D.tape D.moment D.faults seated.new
         × (known ≤ (writer_in (view_of seated.new)).written))
         (λ e. HasFailed D.tape D.moment D.faults e.faults seated.new) }
     ensures calls { MatchResult result
-        (λ _. WritesAll (setup_of seated.old).segment_size known (writer_in (view_of seated.old))
+        (λ _. WritesAll (setup_of seated.old).seg_size known (writer_in (view_of seated.old))
         (writer_in (view_of seated.new)))
-        (λ _. BreaksWriting (setup_of seated.old).segment_size known
+        (λ _. BreaksWriting (setup_of seated.old).seg_size known
         (writer_in (view_of seated.old)) (writer_in (view_of seated.new))) }
     ensures adds_nothing { AddsNothing seated.old seated.new }
 {
@@ -146,7 +146,7 @@ pub(crate) fn tell_progress<'p, 'a, D: Disk>(
     ensures told { HasTold (locks_of held) placed.now.next seated.old seated.new }
 {
     let next = placed.next_lsn().0;
-    tell(seated, held, next);
+    advance(seated, held, next);
 }
 
 // For an insert that needs a page's buffer: tells how far its own copy has come, and writes all
@@ -164,7 +164,8 @@ pub(crate) fn write_early<'p, 'a, D: Disk>(
     requires up { KnowsNoFault (view_of seated.old) }
     ensures copies { CopiesAlone (locks_of held) placed.now seated.new }
     ensures copies_on { CopyGoesOn placed.now placed.now seated.old seated.new }
-    // As of `write_copied`.
+    // All that it knew to be copied is written and stored, up to the address at least, or to the
+    // reserved end. Or the disk has failed, or a lock or the turn to write was in the way.
     ensures ends { MatchResult result
         (λ _. WritesCopied D.tape D.moment D.faults upto (view_of seated.old) seated.new
         × KnowsNoFault (view_of seated.new))

@@ -5,11 +5,11 @@ use Rattle.segment_disk.specs.Tape.{Tape}
 use Rattle.flush_core.specs.Pages.{HoldsNothing}
 use Rattle.wal_page.specs.Order.{Entry}
 use Rattle.wal_page.specs.LogPlace.{LogPlace, end_from, new_place}
-use Rattle.wal_core.specs.declared.setup.Setup.{Setup}
-use Rattle.wal_core.specs.Suited.{BeganSuited, tape_from}
-use Rattle.wal_core.specs.Views.{FlushPromise, View}
-use Rattle.wal_core.specs.Words.{Opening, end_form, flushed_word, order_end}
-use Rattle.wal_core.proofs.Tapes.{at_told}
+use Rattle.machine_state.specs.declared.setup.Setup.{Setup}
+use Rattle.machine_state.specs.Suited.{BeganSuited, tape_from}
+use Rattle.machine_state.specs.Views.{FlushPromise, View}
+use Rattle.machine_state.specs.Words.{Opening, end_form, flushed_word, order_end}
+use Rattle.machine_state.proofs.Tapes.{at_told}
 use Rattle.wal_rule.specs.declared.pass.Pass.{Pass}
 use Rattle.wal_rule.specs.Closing.{ClosesWith}
 use Rattle.wal_rule.specs.Passes.{view_of_pass}
@@ -38,22 +38,22 @@ use Rattle.wal_log_laws.specs.Keeping.{IsClosedFrom, KeepsPromises, LeavesOrder,
 
 module _ (opening : Opening) (order : List Entry) (t : Tape) (v : View)
     (c : IsClosedOn opening order t v)
-    (fresh : opening.place ≡ new_place (opening.setup).segment_size) where
+    (fresh : opening.place ≡ new_place (opening.setup).seg_size) where
   -- on a new log nothing lies below
   lies : LiesBehind opening []
   lies = LiesBehind-new opening ((c.sound).setup_is).size fresh
 
   end_is : end_of_order opening.setup order ≡ end_form opening.setup (order_end opening order)
   end_is = ap (λ (p : LogPlace). end_form opening.setup
-      (end_from (opening.setup).segment_size p order)) (sym fresh)
+      (end_from (opening.setup).seg_size p order)) (sym fresh)
 
   flushed_whole : end_of_order opening.setup order ≤ flushed_word c.words
-      → HoldsWhole (opening.setup).segment_size t order
+      → HoldsWhole (opening.setup).seg_size t order
   flushed_whole reaches = whole opening order t v c (omega (arith, end_is, reaches)) [] lies
 
   whole_as_promised : (entries : List Entry) (p : FlushPromise) → WasPromised v entries p
       → end_of_order opening.setup order ≤ p.upto
-      → HoldsWhole (opening.setup).segment_size t order
+      → HoldsWhole (opening.setup).seg_size t order
   whole_as_promised entries p was reaches =
       let low = (within_words opening c.words (some c.writer) c.views c.sound c.id v c.here entries
       p was).upto_low in
@@ -139,15 +139,15 @@ module _ {D : Type 0} (tape : D → Option Tape) (moment faults : D → ℕ)
       (view_of_pass pass).reserving
   logs = closed_logs tape moment faults wal pass closed run.closes
 
-  fresh_there : (opening_of_log wal).place ≡ new_place ((opening_of_log wal).setup).segment_size
+  fresh_there : (opening_of_log wal).place ≡ new_place ((opening_of_log wal).setup).seg_size
   fresh_there = ap (λ (o : Opening). o.place) (run.opened).opening
-      ∙ ap (λ (o : Opening). new_place (o.setup).segment_size) (sym (run.opened).opening)
+      ∙ ap (λ (o : Opening). new_place (o.setup).seg_size) (sym (run.opened).opening)
 
   ends_there : closed.end.0 ≡ end_of_order (setup_of_log wal) (((run.closes).closes).sound).order
   ends_there = (run.closes).end_is ∙ ap (λ (n : ℕ). end_form (setup_of_log wal) n)
       (its_ends.position_is ∙ ((its_ends.closed).free).position)
       ∙ ap (λ (p : LogPlace). end_form (setup_of_log wal)
-      (end_from (setup_of_log wal).segment_size p order)) fresh_there
+      (end_from (setup_of_log wal).seg_size p order)) fresh_there
 
   its_narrow : (setup_of_log wal).sysid < 2 ^ 64
   its_narrow = subst (λ (n : ℕ). n < 2 ^ 64)

@@ -1,3 +1,8 @@
+pub mod Closing
+pub mod Lives
+pub mod Theorem
+pub mod Commits
+pub mod Reopening
 pub mod Grown
 pub mod Promised
 pub mod Closes

@@ -2,16 +2,16 @@
 use Rattle.std.specs.Prelude.{Result, Ok, Err}
 use Rattle.std.proofs.Common.{◌≡◌, ◌≢◌, inl, inr, ℕ, ◌+◌, ◌%◌, ◌<◌, Contains, List, [], slice_index, refl, sym, ap, ◌∙◌, subst, ⊎_elim, arith}
 use Rattle.wal_types.specs.declared.answers.Hard.{Hard}
-use Rattle.record_spelling.specs.Spelling.{Assembled}
+use Rattle.wal_spelling.specs.Spelling.{Assembled}
 use Rattle.wal_page.specs.Placed.{PlacedState}
-use Rattle.wal_core.specs.declared.setup.Setup.{Setup}
-use Rattle.wal_core.specs.Words.{Opening, lock_number}
-use Rattle.wal_core.specs.Failed.{KnowsOfFault}
-use Rattle.wal_core.specs.Locked.{HasTurn, HasWriteTurn}
-use Rattle.wal_core.specs.Moves.{with_told}
-use Rattle.wal_core.specs.Opened.{first_view}
-use Rattle.wal_core.specs.Steps.{IsResting, load_position, lock_position}
-use Rattle.wal_core.specs.Views.{Away, Free, Idle, View}
+use Rattle.machine_state.specs.declared.setup.Setup.{Setup}
+use Rattle.machine_state.specs.Words.{Opening, lock_number}
+use Rattle.machine_state.specs.Failed.{KnowsOfFault}
+use Rattle.machine_state.specs.Locked.{HasTurn, HasWriteTurn}
+use Rattle.machine_state.specs.Moves.{with_told}
+use Rattle.machine_state.specs.Opened.{first_view}
+use Rattle.machine_state.specs.Steps.{IsResting, load_position, lock_position}
+use Rattle.machine_state.specs.Views.{Away, Free, Idle, View}
 use Rattle.machine_laws.specs.LonePasses.{HasAllThatIsHeld, IsLone}
 use Rattle.machine_laws.proofs.ClosingNumbers.{first_has_all}
 use Rattle.machine_laws.proofs.LoneLaws.{has_all, same_position}

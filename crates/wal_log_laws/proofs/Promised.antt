@@ -1,11 +1,11 @@
 -- What a pass was told is promised to its log, and stays promised.
 use Rattle.std.proofs.Common.{inl, inr, ℕ, Contains, List, sym, ap, subst, arith}
 use Rattle.std.proofs.lemmas.List.Elements.{Contains-append_left, Contains-push}
-use Rattle.record_spelling.specs.Spelling.{Assembled}
+use Rattle.wal_spelling.specs.Spelling.{Assembled}
 use Rattle.wal_types.specs.declared.answers.Sealed.{Sealed}
 use Rattle.wal_page.specs.Order.{Entry, finish_of}
-use Rattle.wal_core.specs.declared.setup.Setup.{Setup}
-use Rattle.wal_core.specs.Views.{FlushPromise, View}
+use Rattle.machine_state.specs.declared.setup.Setup.{Setup}
+use Rattle.machine_state.specs.Views.{FlushPromise, View}
 use Rattle.run_laws.specs.Closed.{WasPromised}
 use Rattle.wal_log.specs.Committing.{IsSealed}
 use Rattle.wal_log.specs.Flushing.{IsToldHard, TellsHard}
@@ -53,7 +53,7 @@ module _ (setup : Setup) (body : Assembled) (old new : View) (sealed : Sealed)
   promise_in_log = subst (λ (l : PassLog). Contains l.promises promise) (sym s.log_is)
       (Contains-push old.writing.promises promise)
 
-  pub commit_promises : Promises (log_of_pass new) (finish_of setup.segment_size s.entry)
+  pub commit_promises : Promises (log_of_pass new) (finish_of setup.seg_size s.entry)
       (promise_to (log_with_entry s.entry (log_of_pass old)) s.upto sealed.moment)
   commit_promises = record { in_log = promise_in_log; reaches = s.reached }
 

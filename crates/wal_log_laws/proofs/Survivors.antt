@@ -4,16 +4,16 @@ use Rattle.std.proofs.lemmas.List.{get_or-take, length-take-le}
 use Rattle.std.proofs.lemmas.List.Elements.{All-contains, Contains-append_cases, Contains-append_left, Contains-append_right, Contains-push, Contains-push_cases}
 use Rattle.std.proofs.lemmas.Option.{slice_get_read}
 use Rattle.byte_position.specs.Position.{address_of}
-use Rattle.record_spelling.specs.Spelling.{Assembled}
+use Rattle.wal_spelling.specs.Spelling.{Assembled}
 use Rattle.wal_types.specs.declared.answers.Sealed.{Sealed}
 use Rattle.flush_core.specs.Pages.{HoldsNothing}
 use Rattle.segment_disk.specs.Tape.{Tape}
 use Rattle.wal_page.specs.Order.{Entry, finish_of}
-use Rattle.wal_core.specs.Ordered.{entries_under, is_pass}
-use Rattle.wal_core.specs.Views.{FlushPromise, Joined, View}
-use Rattle.wal_core.specs.Words.{Opening}
+use Rattle.machine_state.specs.Ordered.{entries_under, is_pass}
+use Rattle.machine_state.specs.Views.{FlushPromise, Joined, View}
+use Rattle.machine_state.specs.Words.{Opening}
 use Rattle.wal_reader.specs.declared.found.FoundRecord.{FoundRecord}
-use Rattle.written_log.specs.Written.{found_entry, found_from}
+use Rattle.written_log_laws.specs.Written.{found_entry, found_from}
 use Rattle.wal_rule.specs.declared.pass.Pass.{Pass}
 use Rattle.wal_rule.specs.Passes.{view_of_pass}
 use Rattle.run_laws.specs.Rising.{LogsAreOfOrder}
@@ -103,10 +103,10 @@ entry_in_order opening order v logs e has =
 -- ---- what survives
 
 pub survives : (opening : Opening) (order : List Entry) (t : Tape) (v : View) → KeepsPromises opening order t v → (e : Entry)
-    (p : FlushPromise) → HasEntry e v → HasPromise (finish_of (opening.setup).segment_size e) p v
-    → Survives (opening.setup).segment_size order t p.moment e
+    (p : FlushPromise) → HasEntry e v → HasPromise (finish_of (opening.setup).seg_size e) p v
+    → Survives (opening.setup).seg_size order t p.moment e
 survives opening order t v k e p has told moment image since left torn found answer decodes =
-    let size = (opening.setup).segment_size in
+    let size = (opening.setup).seg_size in
     let was = was_promised v (finish_of size e) p told in
     let began = (k.timely (told.0).entries p was).since in
     let f : IsFrontAsPromised size moment order v found =
@@ -132,7 +132,7 @@ pub sealed_survives : {D : Type 0} → (tape : D → Option Tape) (disk : D) (wa
     → (body : Assembled) (old new : View) (sealed : Sealed)
     (s : IsSealed (setup_of_log wal) body old new sealed)
     → HasGrown (log_of_pass new) (view_of_pass pass)
-    → Survives (setup_of_log wal).segment_size order t sealed.moment s.entry
+    → Survives (setup_of_log wal).seg_size order t sealed.moment s.entry
 sealed_survives tape disk wal pass closed order leaves nothing t told body old new sealed s grown =
     let setup = setup_of_log wal in
     let v = view_of_pass pass in
@@ -140,5 +140,5 @@ sealed_survives tape disk wal pass closed order leaves nothing t told body old n
     survives (opening_of_log wal) order t v
     (leaves.keeps nothing t told) s.entry p
     (still_entry (log_of_pass new) v s.entry (commit_reserved setup body old new sealed s) grown)
-    (still_promise (log_of_pass new) v (finish_of setup.segment_size s.entry) p
+    (still_promise (log_of_pass new) v (finish_of setup.seg_size s.entry) p
     (commit_promises setup body old new sealed s) grown)

@@ -1,7 +1,7 @@
 -- How the log of a pass grows, and who has it once its pass was taken in.
 use Rattle.std.specs.Prelude.{◌≡◌, ◌⊎◌, Contains, List, ◌++◌, Result, Ok, Err}
-use Rattle.wal_core.specs.PassLogs.{log_of_joined}
-use Rattle.wal_core.specs.Views.{Joined, View}
+use Rattle.machine_state.specs.PassLogs.{log_of_joined}
+use Rattle.machine_state.specs.Views.{Joined, View}
 use Rattle.wal_rule.specs.declared.pass.Pass.{Pass}
 use Rattle.wal_rule.specs.Passes.{view_of_pass}
 use Rattle.wal_log.specs.declared.beginning.TryErr.{TryErr}

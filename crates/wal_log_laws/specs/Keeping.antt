@@ -3,9 +3,9 @@ use Rattle.std.specs.Prelude.{◌≡◌, ℕ, ◌≤◌, List, Option, Some}
 use Rattle.segment_disk.specs.Tape.{Tape}
 use Rattle.flush_core.specs.Pages.{HoldsNothing}
 use Rattle.wal_page.specs.Order.{Entry, end_position}
-use Rattle.wal_core.specs.declared.setup.Setup.{Setup}
-use Rattle.wal_core.specs.Words.{Opening, end_form, flushed_word}
-use Rattle.wal_core.specs.Views.{FlushPromise, View}
+use Rattle.machine_state.specs.declared.setup.Setup.{Setup}
+use Rattle.machine_state.specs.Words.{Opening, end_form, flushed_word}
+use Rattle.machine_state.specs.Views.{FlushPromise, View}
 use Rattle.wal_rule.specs.declared.pass.Pass.{Pass}
 use Rattle.wal_rule.specs.Passes.{view_of_pass}
 use Rattle.run_laws.specs.Closed.{IsClosedOn, WasPromised}
@@ -21,7 +21,7 @@ use Rattle.wal_log.specs.Opening.{IsOpened}
 
 -- the address at which an order ends
 abbrev pub end_of_order : Setup → List Entry → ℕ
-end_of_order setup order = end_form setup (end_position setup.segment_size order)
+end_of_order setup order = end_form setup (end_position setup.seg_size order)
 
 -- a log with this order was closed on a disk with this tape, by a pass that knew this, and keeps
 -- what it promised
@@ -37,10 +37,10 @@ pub record KeepsPromises (opening : Opening) (order : List Entry) (t : Tape) (v 
         → IsTimely opening order t entries p
     -- where all is flushed, or was promised, the disk holds all for good
     pub flushed : end_of_order opening.setup order ≤ flushed_word closed.words
-        → HoldsWhole (opening.setup).segment_size t order
+        → HoldsWhole (opening.setup).seg_size t order
     pub promised : (entries : List Entry) (p : FlushPromise) → WasPromised v entries p
         → end_of_order opening.setup order ≤ p.upto
-        → HoldsWhole (opening.setup).segment_size t order
+        → HoldsWhole (opening.setup).seg_size t order
 
 module _ {D : Type 0} (tape : D → Option Tape) where
   -- a log that was opened on a disk leaves this order, which ends where its closing told; each

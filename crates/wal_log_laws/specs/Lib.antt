@@ -1,3 +1,6 @@
+pub mod History
+pub mod Lives
+pub mod Reopened
 pub mod Growing
 pub mod Told
 pub mod Unhindered

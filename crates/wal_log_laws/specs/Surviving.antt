@@ -7,8 +7,8 @@ use Rattle.wal_reader.specs.declared.found.Answer.{Answer}
 use Rattle.wal_reader.specs.declared.found.FoundRecord.{FoundRecord}
 use Rattle.wal_reader.specs.Decodes.{Decodes}
 use Rattle.wal_reader.specs.Pages.{pages_in}
-use Rattle.written_log.specs.Torn.{NoTornPass}
-use Rattle.written_log.specs.Written.{found_entry, found_of}
+use Rattle.written_log_laws.specs.Torn.{NoTornPass}
+use Rattle.written_log_laws.specs.Written.{found_entry, found_of}
 
 -- what was found is a front of the order, which holds an entry, and the entry is found at its place
 pub record FindsEntry (size : ℕ) (order : List Entry) (e : Entry) (found : List FoundRecord)

@@ -1,7 +1,7 @@
 -- What a pass was told of flushes, and the entries and promises that it has once it took others in.
 use Rattle.std.specs.Prelude.{ℕ, ◌≤◌, Contains, length}
 use Rattle.wal_page.specs.Order.{Entry}
-use Rattle.wal_core.specs.Views.{FlushPromise, View}
+use Rattle.machine_state.specs.Views.{FlushPromise, View}
 use Rattle.wal_log.specs.PassLogs.{PassLog}
 use Rattle.wal_log_laws.specs.Growing.{HasLog}
 

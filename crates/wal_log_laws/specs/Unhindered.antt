@@ -2,7 +2,7 @@
 -- tell, another pass was not in the way.
 use Rattle.std.specs.Prelude.{◌≡◌, Result, Ok, Err}
 use Rattle.wal_types.specs.declared.answers.Hard.{Hard}
-use Rattle.wal_core.specs.Views.{View}
+use Rattle.machine_state.specs.Views.{View}
 use Rattle.machine_laws.specs.LonePasses.{IsLone}
 use Rattle.wal_rule.specs.declared.pass.Pass.{Pass}
 use Rattle.wal_log.specs.declared.beginning.TryErr.{TryErr}

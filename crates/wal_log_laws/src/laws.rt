@@ -1,7 +1,7 @@
 //! What users of a log that passes share may count on, proved by functions that do nothing.
 
 ghost use Rattle.std.specs.Prelude.{◌≡◌, ◌⊎◌, ℕ, ◌^◌, ◌<◌, Contains, List, Result, Some};
-ghost use Rattle.record_spelling.specs.Spelling.{Assembled};
+ghost use Rattle.wal_spelling.specs.Spelling.{Assembled};
 ghost use Rattle.segment_disk.specs.Tape.{Tape};
 ghost use Rattle.flush_core.specs.Pages.{HoldsNothing};
 ghost use Rattle.wal_page.specs.Order.{Entry, finish_of};
@@ -9,12 +9,12 @@ ghost use Rattle.wal_types.specs.declared.answers.Hard.{Hard};
 ghost use Rattle.wal_types.specs.declared.answers.Receipt.{Receipt};
 ghost use Rattle.wal_types.specs.declared.answers.Refused.{Refused};
 ghost use Rattle.wal_types.specs.declared.answers.Sealed.{Sealed};
-ghost use Rattle.wal_core.specs.declared.setup.Setup.{Setup};
-ghost use Rattle.wal_core.specs.Views.{FlushPromise, View};
-ghost use Rattle.wal_core.specs.Words.{Opening};
+ghost use Rattle.machine_state.specs.declared.setup.Setup.{Setup};
+ghost use Rattle.machine_state.specs.Views.{FlushPromise, View};
+ghost use Rattle.machine_state.specs.Words.{Opening};
 ghost use Rattle.wal_rule.specs.declared.pass.Pass.{Pass};
 ghost use Rattle.wal_rule.specs.Passes.{view_of_pass};
-ghost use Rattle.wal_core.specs.Moves.{after_join, after_split};
+ghost use Rattle.machine_state.specs.Moves.{after_join, after_split};
 ghost use Rattle.run_laws.specs.Closed.{WasPromised};
 ghost use Rattle.wal_log.specs.Behind.{AnswersBehind};
 ghost use Rattle.wal_log.specs.Committing.{AnswersCommit, IsSealed};
@@ -134,10 +134,10 @@ pub fn sealed_records_survive<D: Disk>()
         → (body : Assembled) (old new : View) (sealed : Sealed)
         (s : IsSealed (setup_of_log wal) body old new sealed)
         → HasGrown (log_of_pass new) (view_of_pass pass)
-        → Survives (setup_of_log wal).segment_size order t sealed.moment s.entry }
+        → Survives (setup_of_log wal).seg_size order t sealed.moment s.entry }
     ensures entries { (opening : Opening) (order : List Entry) (t : Tape)
         (v : View) → KeepsPromises opening order t v
         → (e : Entry) (p : FlushPromise) → HasEntry e v
-        → HasPromise (finish_of (opening.setup).segment_size e) p v
-        → Survives (opening.setup).segment_size order t p.moment e }
+        → HasPromise (finish_of (opening.setup).seg_size e) p v
+        → Survives (opening.setup).seg_size order t p.moment e }
 {}

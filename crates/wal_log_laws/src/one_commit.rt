@@ -1,7 +1,7 @@
 //! One record committed on an empty disk survives: a caller that meets the laws' premises.
 
 ghost use Rattle.std.specs.Prelude.{◌≡◌, false, IfSome, Some, List};
-ghost use Rattle.record_spelling.specs.Spelling.{is_assembled_switch};
+ghost use Rattle.wal_spelling.specs.Spelling.{is_assembled_switch};
 ghost use Rattle.segment_disk.specs.Tape.{Tape};
 ghost use Rattle.flush_core.specs.Pages.{HoldsNothing};
 ghost use Rattle.wal_page.specs.Order.{Entry, start_of, finish_of};
@@ -11,14 +11,14 @@ use crate::laws::{
     closed_logs_are_closed_on_their_disk, logs_are_never_lost, logs_only_grow,
     sealed_records_survive,
 };
-use record_spelling::Body;
+use machine_state::Setup;
 use segment_disk::Disk;
 use std::alloc::Global;
 use std::sync::Wait;
-use wal_core::Setup;
 use wal_log::numbers::calls_keep_numbers;
 use wal_log::{Closed, Wal};
 use wal_rule::numbers::seats_keep_numbers;
+use wal_spelling::Body;
 use wal_types::Sealed;
 
 /// Opens a log, commits a record, and closes it.
@@ -33,9 +33,9 @@ pub fn commit_one<D: Disk + Drop, R: Wait>(
     requires inserted { is_assembled_switch body.now ≡ false }
     ensures { IfSome result (λ r. (t : Tape) → D.tape r.1.disk ≡ Some t
         → (order : List Entry) × (e : Entry)
-        × Survives setup.segment_size order t r.0.moment e
-        × (r.0.start.0 ≡ start_of setup.segment_size e)
-        × (r.0.end.0 ≡ finish_of setup.segment_size e)) }
+        × Survives setup.seg_size order t r.0.moment e
+        × (r.0.start.0 ≡ start_of setup.seg_size e)
+        × (r.0.end.0 ≡ finish_of setup.seg_size e)) }
 {
     seats_keep_numbers();
     calls_keep_numbers();

@@ -3,14 +3,14 @@
 //! their way. Proved by functions that do nothing.
 
 ghost use Rattle.std.specs.Prelude.{◌≡◌, ℕ, Result};
-ghost use Rattle.record_spelling.specs.Spelling.{Assembled};
+ghost use Rattle.wal_spelling.specs.Spelling.{Assembled};
 ghost use Rattle.wal_page.specs.Placed.{PlacedState};
 ghost use Rattle.wal_types.specs.declared.answers.Hard.{Hard};
-ghost use Rattle.wal_core.specs.declared.setup.Setup.{Setup};
-ghost use Rattle.wal_core.specs.Opened.{first_view};
-ghost use Rattle.wal_core.specs.Steps.{IsResting};
-ghost use Rattle.wal_core.specs.Views.{Away, View};
-ghost use Rattle.wal_core.specs.Words.{Opening};
+ghost use Rattle.machine_state.specs.declared.setup.Setup.{Setup};
+ghost use Rattle.machine_state.specs.Opened.{first_view};
+ghost use Rattle.machine_state.specs.Steps.{IsResting};
+ghost use Rattle.machine_state.specs.Views.{Away, View};
+ghost use Rattle.machine_state.specs.Words.{Opening};
 ghost use Rattle.wal_rule.specs.declared.pass.Pass.{Pass};
 ghost use Rattle.wal_log.specs.Copying.{CopiesFront};
 ghost use Rattle.wal_log.specs.Flights.{AnswersTryBegin};

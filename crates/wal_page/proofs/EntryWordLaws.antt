@@ -3,7 +3,7 @@ use Rattle.std.proofs.Common.{◌≡◌, ℕ, ◌+◌, ◌-◌, ◌/◌, ◌%◌
 use Rattle.byte_position.specs.Geometry.{IsSegmentSize}
 use Rattle.byte_position.specs.Position.{end_address_of}
 use Rattle.byte_position.proofs.Words.{end_address_of-mod_word}
-use Rattle.record_spelling.specs.Spelling.{assembled}
+use Rattle.wal_spelling.specs.Spelling.{assembled}
 use Rattle.wal_page.specs.Order.{Entry, assembled_room_at}
 use Rattle.wal_page.specs.EntryWords.{words_owned, address_of_word}
 use Rattle.wal_page.specs.Placed.{Owns}

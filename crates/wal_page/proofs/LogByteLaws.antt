@@ -6,10 +6,10 @@ use Rattle.std.proofs.lemmas.List.{get_or_append_left, get_or-append_right, get_
 use Rattle.std.proofs.lemmas.List.Elements.{All-nil, All-from_recursion, All-replicate}
 use Rattle.byte_position.specs.Geometry.{IsSegmentSize}
 use Rattle.byte_position.specs.Position.{is_in_header, position_of, address_of, end_address_of, first_position}
-use Rattle.record_spelling.specs.Spelling.{assembled, filled, room_of}
-use Rattle.record_spelling.proofs.Bytes.{IsBytes-from_All}
-use Rattle.record_spelling.proofs.AfterHeader.{AreBytes, bytes_and, bytes16, bytes32, bytes64}
-use Rattle.record_spelling.proofs.SpellingLaws.{ready, bytes_filled}
+use Rattle.wal_spelling.specs.Spelling.{assembled, filled, room_of}
+use Rattle.wal_spelling.proofs.Bytes.{IsBytes-from_All}
+use Rattle.wal_spelling.proofs.AfterHeader.{AreBytes, bytes_and, bytes16, bytes32, bytes64}
+use Rattle.wal_spelling.proofs.SpellingLaws.{ready, bytes_filled}
 use Rattle.wal_page.specs.Order.{Entry, FollowsFrom, IsChained, padding_at, position_behind, rooms_of, prev_of, room_at}
 use Rattle.wal_page.specs.Page.{is_first_page, page_header}
 use Rattle.wal_page.specs.Log.{bytes_of_entry, stream_from, stream_of, owner_of, owner_at, remaining_at, header_byte, log_byte}

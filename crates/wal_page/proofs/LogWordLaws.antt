@@ -7,11 +7,11 @@ use Rattle.std.proofs.lemmas.List.Elements.{All-from_recursion}
 use Rattle.byte_position.specs.Geometry.{IsSegmentSize}
 use Rattle.byte_position.specs.Position.{is_in_header, position_of, end_address_of, first_position}
 use Rattle.byte_position.proofs.HeaderSizes.{header_size_bounds}
-use Rattle.record_spelling.specs.Record.{switch_record}
-use Rattle.record_spelling.specs.Spelling.{Assembled, assembled, assembled_room, filled, room_of, word_at}
-use Rattle.record_spelling.proofs.SpellingLaws.{length-filled}
-use Rattle.record_spelling.proofs.SwitchLaws.{room-switch}
-use Rattle.record_spelling.proofs.Bytes.{IsBytes-from_All, IsBytes-take, IsBytes-drop, wide64}
+use Rattle.wal_spelling.specs.Record.{switch_record}
+use Rattle.wal_spelling.specs.Spelling.{Assembled, assembled, assembled_room, filled, room_of, word_at}
+use Rattle.wal_spelling.proofs.SpellingLaws.{length-filled}
+use Rattle.wal_spelling.proofs.SwitchLaws.{room-switch}
+use Rattle.wal_spelling.proofs.Bytes.{IsBytes-from_All, IsBytes-take, IsBytes-drop, wide64}
 use Rattle.wal_page.specs.Order.{Entry, IsChained, position_behind, rooms_of, prev_of}
 use Rattle.wal_page.specs.Page.{header_size, page_header}
 use Rattle.wal_page.specs.Log.{stream_of, owner_of, owner_at, remaining_at, header_byte, log_byte, log_word}

@@ -4,7 +4,7 @@ use Rattle.std.proofs.lemmas.Bool.{lt-ltb, le-ltb, cond-true, cond-false}
 use Rattle.std.proofs.lemmas.List.{take-take}
 use Rattle.std.proofs.lemmas.List.Sums.{sum_by_push, sum_by-cons, sum_by-append, sum_by_more, sum_by-take-le}
 use Rattle.byte_position.specs.Position.{address_of, first_position}
-use Rattle.record_spelling.specs.Spelling.{IsLogRecord}
+use Rattle.wal_spelling.specs.Spelling.{IsLogRecord}
 use Rattle.wal_page.specs.Order.{Entry, FollowsFrom, IsChained, position_behind, rooms_of, prev_of, prev_before, prev_in, room_at}
 
 -- no record takes up less than its header

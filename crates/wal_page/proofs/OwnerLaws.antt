@@ -6,8 +6,8 @@ use Rattle.std.proofs.lemmas.Option.{same_Some, none-some}
 use Rattle.byte_position.specs.Geometry.{IsSegmentSize}
 use Rattle.byte_position.specs.Position.{position_of, end_address_of, first_position}
 use Rattle.byte_position.proofs.EndAddresses.{le-position_of, end_address_of-le}
-use Rattle.record_spelling.specs.Record.{switch_record}
-use Rattle.record_spelling.specs.Spelling.{Assembled, assembled}
+use Rattle.wal_spelling.specs.Record.{switch_record}
+use Rattle.wal_spelling.specs.Spelling.{Assembled, assembled}
 use Rattle.wal_page.specs.Order.{Entry, FollowsFrom, IsChained, end_position, next_segment, position_behind, rooms_of, assembled_room_at}
 use Rattle.wal_page.specs.Log.{owner_of, owner_at}
 use Rattle.wal_page.specs.Placed.{Owns}

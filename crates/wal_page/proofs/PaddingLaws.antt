@@ -9,9 +9,9 @@ use Rattle.byte_position.proofs.Rising.{position_of-mono}
 use Rattle.byte_position.proofs.SegmentSizes.{segment_size_in_pages}
 use Rattle.byte_position.proofs.Segments.{position_of-next_segment}
 use Rattle.wal_types.specs.declared.record.Record.{Record}
-use Rattle.record_spelling.specs.Record.{switch_record}
-use Rattle.record_spelling.specs.Spelling.{Assembled, assembled, assembled_room, assembled_size, is_assembled_switch, IsWritable, room_of, size_of}
-use Rattle.record_spelling.proofs.SwitchLaws.{ends_its_segment, is_assembled_switch-inserted, size-switch}
+use Rattle.wal_spelling.specs.Record.{switch_record}
+use Rattle.wal_spelling.specs.Spelling.{Assembled, assembled, assembled_room, assembled_size, is_assembled_switch, IsWritable, room_of, size_of}
+use Rattle.wal_spelling.proofs.SwitchLaws.{ends_its_segment, is_assembled_switch-inserted, size-switch}
 use Rattle.wal_page.specs.Order.{Entry, finish_of, next_segment, padding_at, position_behind, assembled_room_at, room_at}
 use Rattle.wal_page.proofs.NextSegmentLaws.{lt-next_segment, next_segment-whole, end_of_switch}
 

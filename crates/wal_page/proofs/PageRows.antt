@@ -1,7 +1,7 @@
 -- A long header's checks among those of a page.
 use Rattle.std.proofs.Common.{◌≡◌, ℕ, ◌*◌, not, Bool, true, false, cond, ◌==◌, nat_lt, Some, List, [], ◌∷◌, ◌++◌, arith}
 use Rattle.std.specs.Int.{w16, w64}
-use Rattle.record_spelling.specs.Numbers.{number_at}
+use Rattle.wal_spelling.specs.Numbers.{number_at}
 use Rattle.wal_page.specs.declared.checks.PageErr.{PageErr}
 use Rattle.wal_page.specs.declared.checks.PageErr.TheVariants.{Address, Timeline}
 use Rattle.wal_page.specs.Page.{first_fault, info_of, is_first_page, is_long, long_header_rows, page_fault, timeline_of}

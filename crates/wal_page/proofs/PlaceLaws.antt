@@ -6,9 +6,9 @@ use Rattle.std.proofs.lemmas.Option.{none-some, same_Some}
 use Rattle.byte_position.specs.Geometry.{IsSegmentSize}
 use Rattle.byte_position.specs.Position.{position_of, address_of, end_address_of, first_position}
 use Rattle.byte_position.proofs.EndAddresses.{le-position_of, end_address_of-le}
-use Rattle.record_spelling.specs.Record.{switch_record}
-use Rattle.record_spelling.specs.Spelling.{assembled, room_of}
-use Rattle.record_spelling.proofs.SwitchLaws.{room-switch}
+use Rattle.wal_spelling.specs.Record.{switch_record}
+use Rattle.wal_spelling.specs.Spelling.{assembled, room_of}
+use Rattle.wal_spelling.proofs.SwitchLaws.{room-switch}
 use Rattle.wal_page.specs.Order.{Entry, FollowsFrom, IsChained, next_segment, position_behind, prev_before, prev_of, rooms_of}
 use Rattle.wal_page.specs.Log.{log_word, owner_of, owner_at}
 use Rattle.wal_page.specs.Placed.{Owns, entry_word}

@@ -7,7 +7,7 @@ use Rattle.byte_position.specs.Position.{is_in_header, position_of, end_address_
 use Rattle.byte_position.proofs.EndAddresses.{end_address_of-le, le-position_of, position_of-end_address_of}
 use Rattle.byte_position.proofs.Rising.{position_of-mono}
 use Rattle.byte_position.proofs.Words.{end_address_of-mod_word}
-use Rattle.record_spelling.specs.Spelling.{Assembled, assembled_room, assembled_size, filled, word_at}
+use Rattle.wal_spelling.specs.Spelling.{Assembled, assembled_room, assembled_size, filled, word_at}
 use Rattle.wal_page.specs.Order.{assembled_room_at}
 use Rattle.wal_page.specs.Page.{page_header}
 use Rattle.wal_page.specs.Placed.{Owns, StandsAt, entry_word, still_to_come}

@@ -8,7 +8,7 @@ use Rattle.byte_position.proofs.EndAddresses.{position_of-end_address_of}
 use Rattle.byte_position.proofs.Pages.{is_in_header-by_page, header_below}
 use Rattle.byte_position.proofs.PositionLaws.{position_of-run}
 use Rattle.byte_position.proofs.Rising.{position_of-mono}
-use Rattle.record_spelling.specs.Spelling.{Assembled, assembled_room, filled, word_at}
+use Rattle.wal_spelling.specs.Spelling.{Assembled, assembled_room, filled, word_at}
 use Rattle.wal_page.specs.Order.{assembled_room_at}
 use Rattle.wal_page.specs.Page.{header_size}
 use Rattle.wal_page.specs.Placed.{PlacedState, HasWordsFrom, StandsAt, entry_word}

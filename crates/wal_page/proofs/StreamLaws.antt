@@ -3,8 +3,8 @@ use Rattle.std.proofs.Common.{◌≡◌, ℕ, ◌-◌, List, [], ◌∷◌, ◌+
 use Rattle.std.proofs.lemmas.Bool.{cases_lt}
 use Rattle.std.proofs.lemmas.List.{append_assoc, append-nil, get_or_append_left, get_or-append_right, get_or-replicate, get_or_past, length-append, length-replicate}
 use Rattle.byte_position.specs.Position.{address_of}
-use Rattle.record_spelling.specs.Spelling.{assembled, filled, room_of}
-use Rattle.record_spelling.proofs.SpellingLaws.{length-filled}
+use Rattle.wal_spelling.specs.Spelling.{assembled, filled, room_of}
+use Rattle.wal_spelling.proofs.SpellingLaws.{length-filled}
 use Rattle.wal_page.specs.Order.{Entry, padding_at, rooms_of, room_at, prev_of}
 use Rattle.wal_page.specs.Log.{bytes_of_entry, stream_from, stream_of}
 use Rattle.wal_page.proofs.OrderLaws.{rooms_of_cons}

@@ -3,7 +3,7 @@
 use Rattle.std.specs.Prelude.{◌≡◌, ℕ, ◌+◌, ◌-◌, ◌/◌, ◌%◌, ◌&&◌, ◌⊎◌, List, [], ◌∷◌, ◌++◌, replicate, slice_index, Option, Some, None, nat_lt, nat_le, if◌then◌else◌}
 use Rattle.std.specs.Int.{w64, from_le_bytes, to_le_bytes}
 use Rattle.byte_position.specs.Position.{is_in_header, position_of, address_of, first_position}
-use Rattle.record_spelling.specs.Spelling.{assembled, filled, room_of, size_of}
+use Rattle.wal_spelling.specs.Spelling.{assembled, filled, room_of, size_of}
 use Rattle.wal_page.specs.Order.{Entry, padding_at, position_behind}
 use Rattle.wal_page.specs.Page.{page_header}
 

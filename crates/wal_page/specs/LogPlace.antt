@@ -5,7 +5,7 @@
 use Rattle.std.specs.Prelude.{◌≡◌, ℕ, ◌+◌, ◌-◌, ◌/◌, ◌%◌, ◌≤◌, List, [], slice_index, Option, Some, None, nat_lt, if◌then◌else◌}
 use Rattle.std.specs.Int.{w64, to_le_bytes}
 use Rattle.byte_position.specs.Position.{end_address_of, first_position}
-use Rattle.record_spelling.specs.Spelling.{assembled}
+use Rattle.wal_spelling.specs.Spelling.{assembled}
 use Rattle.wal_page.specs.Order.{Entry, prev_before, rooms_of}
 use Rattle.wal_page.specs.Log.{owner_at}
 use Rattle.wal_page.specs.Placed.{entry_word}

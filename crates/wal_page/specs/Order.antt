@@ -3,7 +3,7 @@
 use Rattle.std.specs.Prelude.{◌≡◌, ℕ, ◌+◌, ◌-◌, ◌*◌, ◌/◌, List, [], ◌∷◌, Option, sum_by, nat_lt, if◌then◌else◌}
 use Rattle.byte_position.specs.Position.{position_of, address_of, end_address_of, first_position}
 use Rattle.wal_types.specs.declared.record.Record.{Record}
-use Rattle.record_spelling.specs.Spelling.{Assembled, assembled, assembled_room, assembled_size, is_assembled_switch, IsLogRecord}
+use Rattle.wal_spelling.specs.Spelling.{Assembled, assembled, assembled_room, assembled_size, is_assembled_switch, IsLogRecord}
 
 -- an entry of the log: the pass that reserved it (none where a restart found it), its record, and
 -- the byte position at which it starts

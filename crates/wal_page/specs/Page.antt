@@ -3,8 +3,8 @@
 use Rattle.std.specs.Prelude.{ℕ, ◌+◌, ◌*◌, ◌/◌, ◌%◌, Bool, ◌&&◌, not, List, [], ◌∷◌, ◌++◌, Option, ◌==◌, nat_lt, if◌then◌else◌}
 use Rattle.std.specs.Int.{w16, w32, w64, to_le_bytes}
 pub use Rattle.byte_position.specs.Position.{is_first_page, header_size}
-pub use Rattle.record_spelling.specs.Checks.{first_fault}
-use Rattle.record_spelling.specs.Numbers.{number_at}
+pub use Rattle.wal_spelling.specs.Checks.{first_fault}
+use Rattle.wal_spelling.specs.Numbers.{number_at}
 use Rattle.wal_page.specs.declared.checks.PageErr.{PageErr}
 use Rattle.wal_page.specs.declared.checks.PageErr.TheVariants.{Magic, Flags, NoLong, LongInside, SegSize, PageSize, SysId, Address, Timeline}
 

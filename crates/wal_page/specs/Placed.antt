@@ -4,7 +4,7 @@
 use Rattle.std.specs.Prelude.{◌≡◌, ℕ, ◌+◌, ◌-◌, ◌*◌, ◌/◌, ◌%◌, ◌^◌, ◌<◌, ◌≤◌, false, List, slice_index, nat_lt, if◌then◌else◌, ◌∷◌, ◌++◌, Some}
 use Rattle.byte_position.specs.Geometry.{IsSegmentSize}
 use Rattle.byte_position.specs.Position.{is_in_header, position_of, end_address_of}
-use Rattle.record_spelling.specs.Spelling.{Assembled, assembled, assembled_room, assembled_size, filled, word_at}
+use Rattle.wal_spelling.specs.Spelling.{Assembled, assembled, assembled_room, assembled_size, filled, word_at}
 use Rattle.wal_page.specs.Order.{Entry, IsChained, prev_in, assembled_room_at}
 use Rattle.wal_page.specs.Page.{page_header}
 use Rattle.wal_page.specs.Log.{log_word, owner_at}

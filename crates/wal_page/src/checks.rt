@@ -3,12 +3,11 @@
 //! are made in one order, and the first that fails is told, so a damage has one name.
 
 ghost use Rattle.std.specs.Prelude.{◌≡◌, ℕ, ◌+◌, ◌*◌, ◌/◌, ◌%◌, ◌^◌, ◌<◌, ◌≤◌, ◌==◌, IfOk, MatchResult, Some, None};
-ghost use Rattle.std.specs.Int.{w16, w32, w64};
-ghost use Rattle.record_spelling.specs.Numbers.{number_at};
 ghost use Rattle.wal_page.specs.Page.{first_fault, info_of, long_header_rows, page_fault, remaining_of, timeline_of};
 
 use crate::layout::*;
-use byte_position::{Geometry, PAGE_SIZE};
+use byte_position::{Geometry, PAGE_SIZE, Page};
+use wal_spelling::numbers::{u16_at, u32_at, u64_at};
 use wal_types::Lsn;
 
 /// Which check of a page failed, and what the field holds that the check looked at.
@@ -78,7 +77,7 @@ impl PageInfo {
 pub fn check_page(
     geometry: Geometry,
     page: u64,
-    bytes: &[u8; 8192],
+    bytes: &Page,
     last_timeline: u32,
 ) -> Result<PageInfo, PageErr>
     ensures info { IfOk result (λ i. (i.info ≡ info_of bytes.now)
@@ -123,7 +122,7 @@ pub fn check_page(
 }
 
 // What a long header says besides: the sizes that the log is read with, and a system id.
-fn check_long_header(geometry: Geometry, bytes: &[u8; 8192]) -> Result<(), PageErr>
+fn check_long_header(geometry: Geometry, bytes: &Page) -> Result<(), PageErr>
     ensures { MatchResult result
         (λ _. first_fault (long_header_rows geometry bytes.now) ≡ None)
         (λ e. first_fault (long_header_rows geometry bytes.now) ≡ Some e) }
@@ -147,34 +146,4 @@ fn is_page_address(page: u64, address: u64) -> bool
     ensures { result ≡ (address == page * 8192) }
 {
     address / PAGE_SIZE == page && address % PAGE_SIZE == 0
-}
-
-fn u16_at(page: &[u8; 8192], at: usize) -> u16
-    requires { at + 2 ≤ 8192 }
-    ensures { result ≡ number_at w16 page.now at }
-{
-    u16::from_le_bytes([page[at], page[at + 1]])
-}
-
-fn u32_at(page: &[u8; 8192], at: usize) -> u32
-    requires { at + 4 ≤ 8192 }
-    ensures { result ≡ number_at w32 page.now at }
-{
-    u32::from_le_bytes([page[at], page[at + 1], page[at + 2], page[at + 3]])
-}
-
-fn u64_at(page: &[u8; 8192], at: usize) -> u64
-    requires { at + 8 ≤ 8192 }
-    ensures { result ≡ number_at w64 page.now at }
-{
-    u64::from_le_bytes([
-        page[at],
-        page[at + 1],
-        page[at + 2],
-        page[at + 3],
-        page[at + 4],
-        page[at + 5],
-        page[at + 6],
-        page[at + 7],
-    ])
 }

@@ -4,7 +4,7 @@
 //! one copy, and is 0 until then.
 
 ghost use Rattle.std.specs.Prelude.{◌≡◌, ◌+◌, ◌*◌, ◌^◌, ◌<◌, nat_lt, if◌then◌else◌};
-ghost use Rattle.record_spelling.specs.Spelling.{word_at};
+ghost use Rattle.wal_spelling.specs.Spelling.{word_at};
 ghost use Rattle.wal_page.specs.Page.{header_size, is_first_page, page_header};
 
 use crate::layout::{BACKUP_REMOVABLE, CONTINUED, LONG, MAGIC};

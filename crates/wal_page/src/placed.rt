@@ -12,7 +12,7 @@
 
 ghost use Rattle.std.specs.Prelude.{◌≡◌, ℕ, ◌+◌, ◌-◌, ◌*◌, ◌%◌, ◌^◌, ◌<◌, ◌≤◌, ◌↔◌, ◌==◌, IfSome, IfNone, IsSome, IsTrue, length, if◌then◌else◌};
 ghost use Rattle.byte_position.specs.Position.{end_address_of, is_in_header, position_of};
-ghost use Rattle.record_spelling.specs.Spelling.{assembled_room, assembled_size, word_at};
+ghost use Rattle.wal_spelling.specs.Spelling.{assembled_room, assembled_size, word_at};
 ghost use Rattle.wal_page.specs.Order.{assembled_room_at};
 ghost use Rattle.wal_page.specs.Page.{header_size};
 ghost use Rattle.wal_page.specs.Placed.{HasWordsFrom, IsWordOfLog, LieTogether, Owns, header_word, placed_end, placed_word};
@@ -20,8 +20,8 @@ ghost use Rattle.wal_page.specs.Placed.{HasWordsFrom, IsWordOfLog, LieTogether, 
 use crate::header::page_header_word;
 use crate::room::room_at;
 use byte_position::{Geometry, PAGE_SIZE, WORD};
-use record_spelling::Body;
 use std::marker::Model;
+use wal_spelling::Body;
 use wal_types::Lsn;
 
 /// A record at its place: gives its words with their addresses, those of the page headers that it
@@ -86,8 +86,8 @@ impl<'a> Placed<'a> {
         Placed::reserved(geometry, sysid, body, start, room, prev, next)
     }
 
-    /// The same, where its room and the address of its first word are known: who reserved its place
-    /// has computed both.
+    /// A record that starts at a byte position, where its room and the address of its first word
+    /// are known: who reserved its place has computed both.
     #[inline(always)]
     pub fn reserved(
         geometry: Geometry,
@@ -123,8 +123,8 @@ impl<'a> Placed<'a> {
         }
     }
 
-    /// The same record where its next word is one further on, for a copy that goes on where it
-    /// stopped: any word that the record owns, or where its last one ends.
+    /// A record whose next word is one further on, for a copy that goes on where it stopped: any
+    /// word that the record owns, or where its last one ends.
     pub fn at(
         geometry: Geometry,
         sysid: u64,

@@ -5,7 +5,7 @@ ghost use Rattle.std.specs.Prelude.{◌≡◌, ◌%◌, ◌^◌, ◌<◌};
 ghost use Rattle.wal_page.specs.Order.{assembled_room_at, next_segment};
 
 use byte_position::Geometry;
-use record_spelling::Body;
+use wal_spelling::Body;
 use wal_types::Lsn;
 
 /// The first byte position of the segment behind the one in which a byte position's byte stands.

@@ -18,4 +18,5 @@ pub mod FailureLaws
 pub mod RunLaws
 pub mod ReachLaws
 pub mod ReadAtLaws
+pub mod SoundLaws
 pub mod FindsLaws

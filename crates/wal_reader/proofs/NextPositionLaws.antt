@@ -3,7 +3,7 @@ use Rattle.std.proofs.Common.{◌≡◌, ℕ, ◌+◌, ◌-◌, ◌*◌, ◌/◌
 use Rattle.std.proofs.lemmas.Bool.{cases_Bool, cond-true, cond-false}
 use Rattle.byte_position.specs.Geometry.{IsSegmentSize}
 use Rattle.byte_position.specs.Position.{address_of, end_address_of}
-use Rattle.record_spelling.specs.Record.{is_switch}
+use Rattle.wal_spelling.specs.Record.{is_switch}
 use Rattle.wal_types.specs.declared.record.Record.{Record}
 use Rattle.wal_page.specs.Order.{next_segment}
 use Rattle.wal_page.proofs.NextSegmentLaws.{lt-next_segment, next_segment-whole, next_segment-below, end_of_switch, next_segment-last}

@@ -7,18 +7,18 @@ use Rattle.byte_position.specs.Geometry.{IsSegmentSize}
 use Rattle.byte_position.specs.Position.{address_of, position_of}
 use Rattle.byte_position.proofs.PositionLaws.{position_of-address_of}
 use Rattle.wal_types.specs.declared.record.Record.{Record}
-use Rattle.record_spelling.specs.Layout.{last_block_id, long_main_tag, origin_tag, short_main_tag, top_xid_tag}
-use Rattle.record_spelling.specs.Numbers.{number_at}
-use Rattle.record_decode.specs.Fails.{FailsAt, block_rows, fork_rows, image_rows, is_cut_at, item_rows, last_of, relation_rows}
-use Rattle.record_decode.specs.Reading.{Checks, reading_of}
-use Rattle.record_decode.specs.Items.{Items}
-use Rattle.record_decode.specs.Spells.{Spells}
-use Rattle.record_decode.specs.declared.fault.RecErr.{RecErr}
-use Rattle.record_decode.specs.declared.fault.RecErr.TheVariants.{Memory, Malformed, Compressed}
-use Rattle.record_decode.specs.declared.fault.RecKind.{RecKind}
-use Rattle.record_decode.specs.declared.fault.RecKind.TheVariants as kinds
-use Rattle.record_decode.specs.declared.head.BlockHead.{BlockHead}
-use Rattle.record_decode.proofs.Failing.{reads_spelled, refuses_failing}
+use Rattle.wal_spelling.specs.Layout.{last_block_id, long_main_tag, origin_tag, short_main_tag, top_xid_tag}
+use Rattle.wal_spelling.specs.Numbers.{number_at}
+use Rattle.wal_record.specs.Fails.{FailsAt, block_rows, fork_rows, image_rows, is_cut_at, item_rows, last_of, relation_rows}
+use Rattle.wal_record.specs.Reading.{Checks, reading_of}
+use Rattle.wal_record.specs.Items.{Items}
+use Rattle.wal_record.specs.Spells.{Spells}
+use Rattle.wal_record.specs.declared.fault.RecErr.{RecErr}
+use Rattle.wal_record.specs.declared.fault.RecErr.TheVariants.{Memory, Malformed, Compressed}
+use Rattle.wal_record.specs.declared.fault.RecKind.{RecKind}
+use Rattle.wal_record.specs.declared.fault.RecKind.TheVariants as kinds
+use Rattle.wal_record.specs.declared.head.BlockHead.{BlockHead}
+use Rattle.wal_record.proofs.Failing.{reads_spelled, refuses_failing}
 use Rattle.wal_page.specs.Page.{first_fault}
 use Rattle.wal_reader.specs.declared.found.FoundRecord.{FoundRecord}
 use Rattle.wal_reader.specs.declared.found.Answer.{Answer}

@@ -6,7 +6,7 @@ use Rattle.std.proofs.lemmas.Bool.{cases_Bool, ltb-true, ne_eqb}
 use Rattle.byte_position.specs.Position.{address_of, position_of}
 use Rattle.byte_position.proofs.HeaderSizes.{header_size_bounds}
 use Rattle.byte_position.proofs.Pages.{position_by_page, position_of-next_page}
-use Rattle.record_spelling.specs.Numbers.{number_at}
+use Rattle.wal_spelling.specs.Numbers.{number_at}
 use Rattle.wal_page.specs.declared.checks.PageErr.{PageErr}
 use Rattle.wal_page.specs.declared.checks.PageErr.TheVariants.{Magic, Flags, NoLong, LongInside, Address, Timeline}
 use Rattle.wal_page.specs.Page.{first_fault, header_size, info_of, is_continued, is_first_page, is_long, long_header_rows, page_rows, timeline_of}

@@ -2,7 +2,7 @@
 use Rattle.std.proofs.Common.{◌≡◌, ℕ, ◌+◌, ◌-◌, ◌≤◌, Bool, true, false, cond, Option, Some, None, option_map, List, [], ◌∷◌, ◌++◌, take, drop, map, refl, ap, ◌∙◌, arith}
 use Rattle.std.specs.Int.{Width, byte_len, from_le_bytes}
 use Rattle.std.proofs.lemmas.List.{take-take, drop-take}
-use Rattle.record_spelling.specs.Numbers.{number_at}
+use Rattle.wal_spelling.specs.Numbers.{number_at}
 use Rattle.wal_page.specs.Page.{first_fault}
 
 -- the first of two answers

@@ -8,12 +8,12 @@ use Rattle.byte_position.specs.Position.{position_of, address_of, end_address_of
 use Rattle.wal_types.specs.declared.lsn.Lsn.{Lsn}
 use Rattle.wal_types.specs.declared.record.Record.{Record}
 use Rattle.wal_crc32c.specs.Crc32c.{crc32c}
-use Rattle.record_spelling.specs.Record.{is_free_manager, is_switch}
-use Rattle.record_spelling.specs.Numbers.{number_at}
-use Rattle.record_decode.specs.Fails.{FailsAt}
-use Rattle.record_decode.specs.Spells.{Spells}
-use Rattle.record_decode.specs.declared.fault.RecErr.TheVariants.{Malformed, Compressed}
-use Rattle.record_decode.specs.declared.fault.RecKind.{RecKind}
+use Rattle.wal_spelling.specs.Record.{is_free_manager, is_switch}
+use Rattle.wal_spelling.specs.Numbers.{number_at}
+use Rattle.wal_record.specs.Fails.{FailsAt}
+use Rattle.wal_record.specs.Spells.{Spells}
+use Rattle.wal_record.specs.declared.fault.RecErr.TheVariants.{Malformed, Compressed}
+use Rattle.wal_record.specs.declared.fault.RecKind.{RecKind}
 use Rattle.wal_page.specs.Order.{next_segment}
 use Rattle.wal_page.specs.Page.{header_size, timeline_of, remaining_of, is_continued, is_overwritten, first_fault, page_rows}
 use Rattle.wal_reader.specs.declared.found.FoundRecord.{FoundRecord}

@@ -4,10 +4,10 @@ use Rattle.std.specs.Prelude.{◌≡◌, ℕ, ◌/◌, List, [], ◌∷◌, Opti
 use Rattle.std.specs.Int.{w32, w64}
 use Rattle.byte_position.specs.Position.{address_of}
 use Rattle.wal_types.specs.declared.record.Record.{Record}
-use Rattle.record_spelling.specs.Numbers.{number_at}
-use Rattle.record_decode.specs.Reading.{reading_of}
-use Rattle.record_decode.specs.declared.fault.RecErr.{RecErr}
-use Rattle.record_decode.specs.declared.fault.RecErr.TheVariants.{Memory, Malformed, Compressed}
+use Rattle.wal_spelling.specs.Numbers.{number_at}
+use Rattle.wal_record.specs.Reading.{reading_of}
+use Rattle.wal_record.specs.declared.fault.RecErr.{RecErr}
+use Rattle.wal_record.specs.declared.fault.RecErr.TheVariants.{Memory, Malformed, Compressed}
 use Rattle.wal_page.specs.Page.{first_fault}
 use Rattle.wal_reader.specs.declared.found.FoundRecord.{FoundRecord}
 use Rattle.wal_reader.specs.declared.found.Answer.{Answer}

@@ -2,8 +2,8 @@
 use Rattle.std.specs.Prelude.{◌≡◌, ◌⊎◌, ℕ, ◌/◌, ◌<◌, List, Option, Some, None, Result, Ok, Err}
 use Rattle.std.specs.Int.{w32, w64}
 use Rattle.byte_position.specs.Position.{address_of, end_address_of}
-use Rattle.record_spelling.specs.Numbers.{number_at}
-use Rattle.record_decode.specs.Reading.{reading_of}
+use Rattle.wal_spelling.specs.Numbers.{number_at}
+use Rattle.wal_record.specs.Reading.{reading_of}
 use Rattle.wal_reader.specs.declared.found.Answer.{Answer}
 use Rattle.wal_reader.specs.declared.found.FoundRecord.{FoundRecord}
 use Rattle.wal_reader.specs.declared.record_place.RecordPlace.{RecordPlace}

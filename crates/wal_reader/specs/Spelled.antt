@@ -1,6 +1,6 @@
 -- The bytes that a record was read from.
 use Rattle.std.specs.Prelude.{◌≡◌, ℕ, List, length}
-use Rattle.record_decode.specs.Spells.{Spells}
+use Rattle.wal_record.specs.Spells.{Spells}
 use Rattle.byte_position.specs.Position.{position_of}
 use Rattle.wal_reader.specs.declared.found.FoundRecord.{FoundRecord}
 use Rattle.wal_reader.specs.Pages.{Pages, bytes_from}

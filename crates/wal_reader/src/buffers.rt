@@ -8,8 +8,8 @@ ghost use Rattle.wal_reader.specs.Pages.{Pages};
 
 use crate::page_cache::PageCache;
 use byte_position::Geometry;
-use record_decode::BlockHead;
 use std::alloc::{AllocError, Global};
+use wal_record::BlockHead;
 
 /// The page that is held, and the room in which a record's bytes are put together and the heads of
 /// its blocks are read.

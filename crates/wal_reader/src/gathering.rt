@@ -20,6 +20,7 @@ use crate::page_checks::turn_page;
 use crate::page_cursor::PageCursor;
 use crate::read_failure::ReadFailure;
 use crate::record_extent::RecordExtent;
+use byte_position::Page;
 use segment_disk::Disk;
 use std::alloc::AllocError;
 
@@ -144,7 +145,7 @@ fn take_bytes(
 
 // Appends what a page has from an offset on, `most` bytes if it has so many, and answers how many.
 #[inline(always)]
-fn append(room: &mut Vec<u8>, page: &[u8; 8192], offset: u32, most: u32) -> Result<u32, AllocError>
+fn append(room: &mut Vec<u8>, page: &Page, offset: u32, most: u32) -> Result<u32, AllocError>
     requires { offset ≤ 8192 }
     ensures count { IfOk result (λ count. count ≡ min (8192 - offset) most) }
     ensures items { IfOk result (λ count. room.new.items ≡ room.old.items ++ take count

@@ -23,9 +23,9 @@ use crate::page_cursor::PageCursor;
 use crate::read_failure::ReadFailure;
 use crate::record_place::RecordPlace;
 use crate::record_reading::read_record;
-use record_decode::KeepsRecord;
 use segment_disk::Disk;
 use std::alloc::Global;
+use wal_record::KeepsRecord;
 use wal_types::Lsn;
 
 /// The next record at or behind `start`, and where the one behind it stands: from a place, or
@@ -90,7 +90,8 @@ fn read_given<D: Disk, K: KeepsRecord>(
     requires ready { IsReadyAt buffers.old.cache from ready.old }
     ensures ready { MatchResult result (λ r. IsReadyAt buffers.new.cache r.1 ready.new)
         (λ _. ready.new ≡ None) }
-    // As of `next_given`, from a place on.
+    // What is answered is the next record of these pages from the place on, at or behind `start`.
+    // Where nothing is to be read, or all that may be is held already, the disk is untouched.
     ensures answered { IfOk (read_with (K.kept value.new) result)
         (IsAnswered (Some from) buffers.old.cache.geometry) }
     ensures gives { (pages : Pages) → Sees (D.tape disk.old) buffers.old.cache pages

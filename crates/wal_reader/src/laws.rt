@@ -4,7 +4,7 @@ ghost use Rattle.std.specs.Prelude.{◌≡◌, ◌↔◌, ℕ, ◌+◌, ◌-◌,
 ghost use Rattle.byte_position.specs.Geometry.{IsSegmentSize};
 ghost use Rattle.byte_position.specs.Position.{address_of, end_address_of};
 ghost use Rattle.wal_types.specs.declared.record.Record.{Record};
-ghost use Rattle.record_spelling.specs.Record.{is_switch};
+ghost use Rattle.wal_spelling.specs.Record.{is_switch};
 ghost use Rattle.wal_reader.specs.declared.found.Answer.{Answer};
 ghost use Rattle.wal_reader.specs.declared.found.FoundRecord.{FoundRecord};
 ghost use Rattle.wal_reader.specs.declared.record_place.RecordPlace.{RecordPlace};

@@ -1,5 +1,5 @@
 //! Where a record's header has what the reader looks at (PostgreSQL's xlogrecord.h), and a page's
-//! length; the other numbers are those of byte_position and record_spelling.
+//! length; the other numbers are those of byte_position and wal_spelling.
 
 use byte_position::PAGE_SIZE;
 

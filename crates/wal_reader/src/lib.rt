@@ -12,7 +12,6 @@ mod given;
 mod laws;
 mod layout;
 mod log_reader;
-mod numbers;
 mod page_cache;
 mod page_checks;
 mod page_cursor;

@@ -15,9 +15,9 @@ use crate::page_cursor::PageCursor;
 use crate::read_failure::ReadFailure;
 use crate::standing::{Comes, ReadErr, Standing, Step, step_with, told};
 use byte_position::Geometry;
-use record_decode::KeepsRecord;
 use segment_disk::Disk;
 use std::alloc::Global;
+use wal_record::KeepsRecord;
 use wal_types::{Lsn, Record};
 
 /// Reads the records of a disk's log, one behind another.
@@ -38,6 +38,7 @@ pub struct Reader {
 
 impl Reader {
     ghost use Rattle.std.specs.Prelude.{IfOk, option_map};
+    ghost use Rattle.byte_position.specs.Geometry.{IsSegmentSize};
     ghost use Rattle.segment_disk.specs.Tape.{IsUncalled};
     ghost use Rattle.wal_reader.specs.declared.standing.Standing.TheVariants.{NotBegun};
     ghost use Rattle.wal_reader.specs.Pages.{Pages};
@@ -60,7 +61,11 @@ impl Reader {
               standing = NotBegun;
             } }
         ensures knows { (pages : Pages) → Knows result pages }
+        // That a log decodes to something rests on a valid size.
+        ensures valid { IsSegmentSize geometry }
     {
+        // That the size is valid rests on its own call.
+        let _size = geometry.segment_size();
         Reader {
             geometry,
             start,
@@ -111,7 +116,7 @@ impl Reader {
         disk: &mut D,
         value: &mut K,
     ) -> Result<Comes, ReadErr>
-        // As of `next`, by the step that they make together.
+        // What `next` promises, of the step that result and kept record make together.
         ensures gives { (pages : Pages) → IsLogOf (D.tape disk.old)
             (reader_state self.old).size pages → Knows self.old pages
             → IsStepIn pages self.old self.new (step_with (K.kept value.new) result) }

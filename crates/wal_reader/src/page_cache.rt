@@ -10,7 +10,7 @@ ghost use Rattle.wal_reader.specs.PageCursor.{Sees};
 ghost use Rattle.wal_reader.specs.Pages.{Pages};
 ghost use Rattle.wal_reader.specs.ReadsOn.{ReadsOn};
 
-use byte_position::Geometry;
+use byte_position::{Geometry, Page};
 use segment_disk::{Disk, Failed};
 use std::alloc::{AllocError, Global};
 
@@ -23,7 +23,7 @@ pub(crate) struct PageCache {
     pub(crate) geometry: Geometry,
     /// Which page is held, counted from address 0.
     pub(crate) number: Option<u64>,
-    pub(crate) bytes: Box<[u8; 8192]>,
+    pub(crate) bytes: Box<Page>,
 }
 
 impl PageCache {
@@ -73,7 +73,8 @@ impl PageCache {
     #[inline(never)]
     fn read<D: Disk>(&mut self, disk: &mut D, page: u64) -> Result<bool, Failed>
         requires { page < 2 ^ 47 }
-        // As of `load`.
+        // The answer is true just where the disk's log has the page, which is held then. Behind a
+        // failed read no page is held.
         ensures held { IfOk result (λ there. IsTrue there → self.new.number ≡ Some page) }
         ensures nothing_held { OnErr result (self.new.number ≡ None) }
         ensures loaded { (pages : Pages) → Sees (D.tape disk.old) self.old pages

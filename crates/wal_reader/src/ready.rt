@@ -125,7 +125,9 @@ pub(crate) fn open_ready<D: Disk>(
 ) -> Result<PageCursor, ReadFailure>
     requires reachable { IsReachable at }
     requires ready { IsReadyAt cache.old at ready }
-    // As of `open_page`.
+    // At Ok the page is held that has the record's first byte, and the cursor stands at that byte.
+    // All checks before the record's first word hold then; else it tells the first that fails. A
+    // page that is held is not read again.
     ensures cursor { IfOk result (λ cursor. IsOn cache.new cursor
         × HasGathered cache.old.geometry at.position 0 cursor) }
     ensures place { IfOk result (λ cursor. (cursor.page

@@ -4,14 +4,14 @@
 ghost use Rattle.std.specs.Prelude.{◌≡◌, ◌^◌, ◌<◌, ◌≤◌, length, Ok};
 ghost use Rattle.byte_position.specs.Position.{address_of, end_address_of};
 ghost use Rattle.wal_types.specs.declared.record.Record.{Record};
-ghost use Rattle.record_decode.specs.Reading.{reading_of};
+ghost use Rattle.wal_record.specs.Reading.{reading_of};
 ghost use Rattle.wal_reader.specs.Decodes.{next_position};
 
 use crate::record_place::RecordPlace;
 use byte_position::{Geometry, PAGE_SIZE};
-use record_spelling::ends_segment;
-use record_spelling::layout::{INFO_AT, RMID_AT};
 use wal_page::next_segment;
+use wal_spelling::ends_segment;
+use wal_spelling::layout::{INFO_AT, RMID_AT};
 use wal_types::Lsn;
 
 /// Where a record is read, and the size that it claims.

@@ -37,10 +37,11 @@ use crate::ready::{is_beyond, open_ready, ready_behind, ready_over};
 use crate::record_checks::{check_crc, check_header, found};
 use crate::record_place::RecordPlace;
 use crate::record_start::claimed;
-use record_decode::{BlockHead, KeepsRecord};
-use record_spelling::layout::HEADER_LEN;
+use byte_position::Page;
 use segment_disk::Disk;
 use std::alloc::Global;
+use wal_record::{BlockHead, KeepsRecord};
+use wal_spelling::layout::HEADER_LEN;
 use wal_types::Lsn;
 
 /// Reads the record at a place, and answers it with the place behind it, or what stands
@@ -142,7 +143,7 @@ fn read_in_page<K: KeepsRecord>(
     Ok(read)
 }
 
-fn part_of_page(page: &[u8; 8192], offset: u32, count: u32) -> &[u8]
+fn part_of_page(page: &Page, offset: u32, count: u32) -> &[u8]
     requires { offset + count ≤ 8192 }
     ensures bytes { result.now ≡ take count (drop offset page.now) }
     ensures len { length result.now ≡ count }
@@ -165,7 +166,8 @@ fn read_over_pages<D: Disk, K: KeepsRecord>(
     requires passed { HasPassed buffers.old.cache opened.cursor.page }
     ensures ready { MatchResult result (λ r. IsReadyAt buffers.new.cache r.1 ready.new)
         (λ _. ready.new ≡ ready.old) }
-    // As of `read_record`, for a record that goes on on further pages.
+    // It answers what is computed of these pages at this place, and at Ok the place behind is where
+    // the next record would start.
     ensures answered { IfOk (read_with (K.kept value.new) result)
         (IsAnswered (Some opened.extent.at) buffers.old.cache.geometry) }
     ensures beyond { 2 ^ 47 ≤ opened.cursor.page + 1

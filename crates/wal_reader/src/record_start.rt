@@ -6,7 +6,7 @@ ghost use Rattle.std.specs.Prelude.{◌≡◌, ℕ, ◌+◌, ◌*◌, ◌/◌, �
 ghost use Rattle.std.specs.Int.{w32, w64};
 ghost use Rattle.byte_position.specs.Position.{address_of};
 ghost use Rattle.wal_page.specs.Page.{first_fault};
-ghost use Rattle.record_spelling.specs.Numbers.{number_at};
+ghost use Rattle.wal_spelling.specs.Numbers.{number_at};
 ghost use Rattle.wal_reader.specs.PageCursor.{HasGathered, IsOn, Sees};
 ghost use Rattle.wal_reader.specs.Pages.{IsPage, Pages};
 ghost use Rattle.wal_reader.specs.Decodes.{opening_fault, size_rows};
@@ -16,16 +16,16 @@ ghost use Rattle.wal_reader.specs.ReadFailures.{HasFailureCause, Passes, Settles
 
 use crate::answers::{damaged, end_of_log, reaches_end};
 use crate::found::{Answer, DamageKind};
-use crate::numbers::{u32_at, u64_at};
 use crate::page_cache::PageCache;
 use crate::page_checks::{check_held, header_len};
 use crate::page_cursor::PageCursor;
 use crate::read_failure::ReadFailure;
 use crate::record_extent::RecordExtent;
 use crate::record_place::RecordPlace;
-use byte_position::PAGE_SIZE;
-use record_spelling::layout::{HEADER_LEN, LEN_AT};
+use byte_position::{PAGE_SIZE, Page};
 use segment_disk::Disk;
+use wal_spelling::layout::{HEADER_LEN, LEN_AT};
+use wal_spelling::numbers::{u32_at, u64_at};
 use wal_types::Lsn;
 
 /// The page in which a record is to start: it is there and passes its checks, and no other record
@@ -120,7 +120,7 @@ pub(crate) fn is_zero_word(cache: &PageCache, offset: u32) -> bool
     word_at(&cache.bytes, offset) == 0
 }
 
-fn word_at(page: &[u8; 8192], offset: u32) -> u64
+fn word_at(page: &Page, offset: u32) -> u64
     requires { offset + 8 ≤ 8192 }
     ensures value { result ≡ number_at w64 page.now offset }
     ensures whole { IsPage page.now }
@@ -130,7 +130,7 @@ fn word_at(page: &[u8; 8192], offset: u32) -> u64
     u64_at(&page[at..at + 8], 0)
 }
 
-fn size_at(page: &[u8; 8192], offset: u32) -> u32
+fn size_at(page: &Page, offset: u32) -> u32
     requires { offset + 8 ≤ 8192 }
     ensures { result ≡ number_at w32 page.now offset }
 {

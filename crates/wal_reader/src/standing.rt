@@ -67,7 +67,7 @@ pub enum Comes {
         prev: Lsn,
         total: u32,
     },
-    /// As of `Step::End`.
+    /// A clean end of the log, as `Step::End` tells it.
     End {
         at: Lsn,
     },

@@ -7,12 +7,12 @@ use Rattle.std.proofs.lemmas.Bool.{cases_Bool, eqb-true, ltb-true, OnTrue_from}
 use Rattle.wal_types.specs.declared.record.Block.{Block}
 use Rattle.wal_types.specs.declared.record.Record.{Record}
 use Rattle.wal_types.specs.declared.record.Rel.{Rel}
-use Rattle.record_decode.specs.declared.fault.RecErr.{RecErr}
-use Rattle.record_spelling.specs.Spelling.{Assembled, IsLogRecord, IsReadable, spelled, assembled, block_headers, block_payload, crc_of, is_same_relation, main_header, origin_item, size_of, spelling, top_xid_item}
-use Rattle.record_spelling.proofs.SwitchLaws.{logged_readable}
-use Rattle.record_decode.specs.Reading.{reading_of}
-use Rattle.record_decode.proofs.Readings.{only}
-use Rattle.record_decode.specs.Spells.{Spells, SpellsBlockHeaders}
+use Rattle.wal_record.specs.declared.fault.RecErr.{RecErr}
+use Rattle.wal_spelling.specs.Spelling.{Assembled, IsLogRecord, IsReadable, spelled, assembled, block_headers, block_payload, crc_of, is_same_relation, main_header, origin_item, size_of, spelling, top_xid_item}
+use Rattle.wal_spelling.proofs.SwitchLaws.{logged_readable}
+use Rattle.wal_record.specs.Reading.{reading_of}
+use Rattle.wal_record.proofs.Readings.{only}
+use Rattle.wal_record.specs.Spells.{Spells, SpellsBlockHeaders}
 
 -- ---- the headers of items
 

@@ -3,9 +3,9 @@
 
 ghost use Rattle.std.specs.Prelude.{◌≡◌, ℕ, Ok};
 ghost use Rattle.wal_types.specs.declared.record.Record.{Record};
-ghost use Rattle.record_spelling.specs.Spelling.{IsLogRecord, IsReadable, assembled, spelling};
-ghost use Rattle.record_decode.specs.Reading.{reading_of};
-ghost use Rattle.record_decode.specs.Spells.{Spells};
+ghost use Rattle.wal_spelling.specs.Spelling.{IsLogRecord, IsReadable, assembled, spelling};
+ghost use Rattle.wal_record.specs.Reading.{reading_of};
+ghost use Rattle.wal_record.specs.Spells.{Spells};
 
 /// The writer's spelling of a record is one that a reader accepts as this record. So it is of each
 /// that the log may hold, and of switches with data and longer records, which it is never given.

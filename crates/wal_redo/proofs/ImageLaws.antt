@@ -9,8 +9,8 @@ use Rattle.wal_types.specs.declared.record.Block.{Block}
 use Rattle.wal_types.specs.declared.record.Image.{Image}
 use Rattle.wal_reader.specs.declared.found.FoundRecord.{FoundRecord}
 use Rattle.wal_reader.specs.Spelled.{IsSpelled}
-use Rattle.record_spelling.specs.Record.{are_right_blocks, is_right_block, is_right_image}
-use Rattle.record_spelling.proofs.RightBlocks.{right_parts}
+use Rattle.wal_spelling.specs.Record.{are_right_blocks, is_right_block, is_right_image}
+use Rattle.wal_spelling.proofs.RightBlocks.{right_parts}
 use Rattle.wal_redo.specs.Images.{IsRedoable, MakesPage, page_of}
 
 -- an image that has all of a page's bytes has no hole

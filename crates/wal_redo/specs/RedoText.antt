@@ -2,7 +2,7 @@
 use Rattle.std.specs.Prelude.{ℕ, List, [], ◌∷◌, ◌++◌, length, not, ◌==◌, codes, count_by, slice_index_or}
 use Rattle.std.specs.Fmt.{decimal}
 use Rattle.std.specs.List.{flat_map}
-use Rattle.listing_filter.specs.Names.{fork_names}
+use Rattle.waldump_filter.specs.Names.{fork_names}
 use Rattle.waldump_text.specs.Put.{joined}
 use Rattle.wal_redo.specs.declared.block_id.BlockId.{BlockId}
 

@@ -7,6 +7,7 @@ ghost use Rattle.wal_redo.specs.Calls.{PutCall, with_put_call};
 ghost use Rattle.wal_redo.specs.Redo.{HasPutCause, is_failed};
 
 use crate::block_id::BlockId;
+use byte_position::Page;
 use std::alloc::Global;
 use thiserror::Error;
 
@@ -35,7 +36,7 @@ pub trait Blocks {
     ghost never_fails: { Self → Bool };
 
     /// Puts a page in a block's place.
-    fn put(&mut self, alloc: Global, block: BlockId, page: &[u8; 8192]) -> Result<(), PutErr>
+    fn put(&mut self, alloc: Global, block: BlockId, page: &Page) -> Result<(), PutErr>
         ensures put { OnOk result (pages self.new ≡ told_with (pages self.old) block page.now) }
         ensures refused { OnErr result (pages self.new ≡ pages self.old) }
         ensures called { calls self.new ≡ with_put_call (calls self.old) block page.now result }

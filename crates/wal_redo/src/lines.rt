@@ -1,5 +1,5 @@
 ghost use Rattle.std.specs.Prelude.{◌≡◌, ◌==◌, [], not, count_by, slice_index_or};
-ghost use Rattle.listing_filter.specs.Names.{fork_names};
+ghost use Rattle.waldump_filter.specs.Names.{fork_names};
 ghost use Rattle.std.specs.List.Sorted.{IsStrictlySortedBy};
 ghost use Rattle.std.specs.Map.{keys_of};
 ghost use Rattle.waldump_text.specs.Put.{Puts, joined};
@@ -9,9 +9,10 @@ ghost use Rattle.wal_redo.specs.RedoText.{block_line, counts_line, redo_text};
 
 use crate::block_id::BlockId;
 use crate::mem_blocks::MemBlocks;
+use byte_position::Page;
 use itoa::Buffer;
-use listing_filter::fork_name;
 use segment_disk::Sink;
+use waldump_filter::fork_name;
 use waldump_text::{SinkFault, put_all};
 
 // How many bytes of a piece are not 0. The count fits a byte, so sixteen bytes are counted at once.
@@ -26,7 +27,7 @@ fn nonzero_in_piece(piece: &[u8; 128]) -> u8
 }
 
 // How many bytes of a page are not 0.
-fn nonzero(page: &[u8; 8192]) -> u16
+fn nonzero(page: &Page) -> u16
     ensures { result ≡ count_by (λ byte. not (byte == 0)) page.now }
 {
     let mut count = 0;
@@ -47,7 +48,7 @@ fn name_of_fork(fork: u8) -> &'static str
 }
 
 // Puts the line of a block and its page.
-fn put_block<O: Sink>(out: &mut O, block: &BlockId, page: &[u8; 8192]) -> Result<(), SinkFault>
+fn put_block<O: Sink>(out: &mut O, block: &BlockId, page: &Page) -> Result<(), SinkFault>
     ensures { Puts (O.taken out.old) (O.taken out.new) (O.faults out.old) (O.faults out.new)
         (block_line (block.now, page.now)) result }
 {

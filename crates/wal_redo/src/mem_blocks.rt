@@ -7,6 +7,7 @@ ghost use Rattle.segment_disk.specs.Failing.{after_next, fails_next};
 use crate::block_id::BlockId;
 use crate::blocks::{Blocks, PutErr};
 use crate::put_calls::PutCalls;
+use byte_position::Page;
 use segment_disk::{Memory, count_fault};
 use std::alloc::Global;
 use std::collections::BTreeMap;
@@ -15,7 +16,7 @@ use std::collections::btree_map::Iter;
 /// A store of blocks in memory.
 #[derive(Drop)]
 pub struct MemBlocks {
-    pages: BTreeMap<BlockId, Box<[u8; 8192]>>,
+    pages: BTreeMap<BlockId, Box<Page>>,
     /// The puts that fail, by their numbers from 1.
     fail: Vec<u64>,
     /// How many puts were asked for.
@@ -62,7 +63,7 @@ impl MemBlocks {
 
     /// The block at a place of their order, counted from 0, and its page. Each call goes over all
     /// before.
-    pub fn at(&self, place: usize) -> Option<(BlockId, &[u8; 8192])>
+    pub fn at(&self, place: usize) -> Option<(BlockId, &Page)>
         ensures page { option_map (λ e. (e.0, e.1.now)) result
             ≡ slice_get (stored_pages self.now) place }
         ensures ordered { IsStrictlySortedBy block_order (keys_of (stored_pages self.now)) }
@@ -72,7 +73,7 @@ impl MemBlocks {
     }
 
     /// The blocks that have a page, in their order, and their pages.
-    pub fn iter(&self) -> Iter<'_, BlockId, Box<[u8; 8192]>>
+    pub fn iter(&self) -> Iter<'_, BlockId, Box<Page>>
         ensures pages { map (λ e. (e.0, e.1.value)) result ≡ stored_pages self.now }
         ensures ordered { IsStrictlySortedBy block_order (keys_of (stored_pages self.now)) }
     {
@@ -80,12 +81,7 @@ impl MemBlocks {
     }
 
     // A put that is not noted yet.
-    fn put_unnoted(
-        &mut self,
-        alloc: Global,
-        block: BlockId,
-        page: &[u8; 8192],
-    ) -> Result<(), PutErr>
+    fn put_unnoted(&mut self, alloc: Global, block: BlockId, page: &Page) -> Result<(), PutErr>
         ensures put { OnOk result
             (pages_told self.new ≡ told_with (pages_told self.old) block page.now) }
         ensures refused { OnErr result (pages_told self.new ≡ pages_told self.old) }
@@ -123,7 +119,7 @@ impl Blocks for MemBlocks {
 
     ghost never_fails = { lists_none };
 
-    fn put(&mut self, alloc: Global, block: BlockId, page: &[u8; 8192]) -> Result<(), PutErr>
+    fn put(&mut self, alloc: Global, block: BlockId, page: &Page) -> Result<(), PutErr>
         ensures put { OnOk result
             (pages_told self.new ≡ told_with (pages_told self.old) block page.now) }
         ensures refused { OnErr result (pages_told self.new ≡ pages_told self.old) }

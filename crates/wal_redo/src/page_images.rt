@@ -8,11 +8,12 @@ ghost use Rattle.wal_redo.specs.Redo.{HasStoreCause, NoPutFailed, EndsPuts};
 use crate::block_id::BlockId;
 use crate::blocks::{Blocks, PutErr};
 use crate::redoing::RedoErr;
+use byte_position::Page;
 use std::alloc::Global;
 use wal_types::{Block, Image};
 
 // The page of an image without a hole, which is its bytes.
-fn whole_page(image: &Image) -> Option<&[u8; 8192]>
+fn whole_page(image: &Image) -> Option<&Page>
     requires { MakesPage image.now }
     ensures page { IfSome result (λ page. page.now ≡ page_of image.now) }
     ensures without_hole { IsSome result ↔ (image.now.hole_len ≡ 0) }
@@ -38,7 +39,7 @@ fn restore_image(image: &Image, page: &mut [u8])
 fn put_page<B: Blocks>(
     alloc: Global,
     block: BlockId,
-    page: &[u8; 8192],
+    page: &Page,
     blocks: &mut B,
 ) -> Result<u64, RedoErr>
     ensures puts { EndsPuts (B.pages blocks.old) (B.pages blocks.new)
@@ -64,7 +65,7 @@ fn put_image<B: Blocks>(
     alloc: Global,
     block: BlockId,
     image: &Option<Image>,
-    room: &mut [u8; 8192],
+    room: &mut Page,
     blocks: &mut B,
 ) -> Result<u64, RedoErr>
     requires makes { IfSome image.now MakesPage }
@@ -94,7 +95,7 @@ fn put_image<B: Blocks>(
 pub(crate) fn put_images<B: Blocks>(
     alloc: Global,
     references: &[Block],
-    room: &mut [u8; 8192],
+    room: &mut Page,
     blocks: &mut B,
 ) -> Result<u64, RedoErr>
     requires { All IsRedoable references.now }

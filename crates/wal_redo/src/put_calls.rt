@@ -5,6 +5,7 @@ ghost use Rattle.wal_redo.specs.Calls.{PutCall, with_put_call};
 
 use crate::block_id::BlockId;
 use crate::blocks::PutErr;
+use byte_position::Page;
 use std::marker::{Brand, Model, PhantomData};
 
 /// Calls of puts, which a call picks for the proof alone.
@@ -37,7 +38,7 @@ impl PutCalls {
     }
 
     /// With one more behind them.
-    pub fn with(&self, block: BlockId, page: &[u8; 8192], answer: Result<(), PutErr>) -> PutCalls
+    pub fn with(&self, block: BlockId, page: &Page, answer: Result<(), PutErr>) -> PutCalls
         ensures { result.calls ≡ with_put_call self.now.calls block page.now answer }
     {
         self.with_picked::<Brand>(block, page, answer)
@@ -46,7 +47,7 @@ impl PutCalls {
     fn with_picked<B: PicksPuts>(
         &self,
         _block: BlockId,
-        _page: &[u8; 8192],
+        _page: &Page,
         _answer: Result<(), PutErr>,
     ) -> PutCalls
         ensures { result.calls ≡ B.calls }

@@ -64,8 +64,6 @@ pub fn redo<D: Disk, B: Blocks>(
         (B.faults blocks.new) result }
     ensures never { IsTrue (B.never_fails blocks.old) → NoPutFailed result }
 {
-    // That a log decodes to something rests on a valid size.
-    let _size = geometry.segment_size();
     let mut reader = Reader::new(geometry, start, None);
     let mut room = [0; 8192];
     let mut count = 0;

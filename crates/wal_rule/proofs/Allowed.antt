@@ -7,16 +7,16 @@ use lib.Seq.{set_comm}
 use prog.Atomic.{either}
 use Rattle.atomic_table.specs.Table.{State, Me, Allows, Joins, Splits, gives, keeps, put_back, rest, takes}
 use Rattle.atomic_table.proofs.Lists.{at_map, set_again, set_else, set_here}
-use Rattle.wal_core.proofs.Lists.{at_below}
-use Rattle.wal_core.proofs.WordLists.{word_again}
+use Rattle.machine_state.proofs.Lists.{at_below}
+use Rattle.machine_state.proofs.WordLists.{word_again}
 use Rattle.segment_disk.specs.Tape.{DiskState, Tape}
-use Rattle.wal_core.specs.Words.{Opening, write_turn, write_turn_number}
-use Rattle.wal_core.specs.Views.{Hold, Plain, Turned, View, writer_of, Lent}
-use Rattle.wal_core.specs.Locked.{StandsTo}
-use Rattle.wal_core.specs.Moves.{after_join, orphan_of, spent, split_off, after_split, without_work}
-use Rattle.wal_core.specs.Sound.{IsSound}
-use Rattle.wal_core.specs.Steps.{Abandons, StepKind, MayStep, Moves, SplitsOff, TakesIn, returned, slot_in, slot_out, word_of_step, value_behind, home_behind, view_behind, IsResting, IsStranded}
-use Rattle.wal_core.specs.Steps as machine
+use Rattle.machine_state.specs.Words.{Opening, write_turn, write_turn_number}
+use Rattle.machine_state.specs.Views.{Hold, Plain, Turned, View, writer_of, Lent}
+use Rattle.machine_state.specs.Locked.{StandsTo}
+use Rattle.machine_state.specs.Moves.{after_join, orphan_of, spent, split_off, after_split, without_work}
+use Rattle.machine_state.specs.Sound.{IsSound}
+use Rattle.machine_state.specs.Steps.{Abandons, StepKind, MayStep, Moves, SplitsOff, TakesIn, returned, slot_in, slot_out, word_of_step, value_behind, home_behind, view_behind, IsResting, IsStranded}
+use Rattle.machine_state.specs.Steps as machine
 use Rattle.machine_laws.proofs.EveryStep.{step_keeps}
 use Rattle.machine_laws.specs.RisingMoments.{MomentsKeepRising}
 use Rattle.machine_laws.proofs.EveryMoment.{steps_rise}

@@ -4,10 +4,10 @@ use mathlib.Core.Option.{Option, none, some, some-injective, some-ne-none}
 use lib.ListN.{get_elem?}
 use Rattle.atomic_table.specs.Table.{State, Me, Allows, Final, Seen, gives, rest, takes}
 use Rattle.segment_disk.specs.Tape.{IsUncalled, Tape}
-use Rattle.wal_core.specs.Words.{Opening, write_turn_number}
-use Rattle.wal_core.specs.Views.{Idle, Turned, Out, Hold, Plain, View}
-use Rattle.wal_core.specs.Opened.{AreFirstWords, IsFirstWriter, IsOpenable, first_view}
-use Rattle.wal_core.proofs.WordLists.{word_again}
+use Rattle.machine_state.specs.Words.{Opening, write_turn_number}
+use Rattle.machine_state.specs.Views.{Idle, Turned, Out, Hold, Plain, View}
+use Rattle.machine_state.specs.Opened.{AreFirstWords, IsFirstWriter, IsOpenable, first_view}
+use Rattle.machine_state.proofs.WordLists.{word_again}
 use Rattle.wal_rule.specs.declared.writer.LogWriter.{LogWriter}
 use Rattle.wal_rule.specs.Beginning.{HoldsRule, IsBeginning, IsUnbegunWriter, IsUncalledWriter, reading_view, view_before, view_by_home, waiting_view}
 use Rattle.wal_rule.specs.Ruled.{IsRuled, home_of}

@@ -5,9 +5,9 @@ use Rattle.segment_disk.specs.declared.disk.Call.{Call}
 use Rattle.segment_disk.specs.Cause.{Rose, RoseByOne}
 use Rattle.segment_disk.specs.Tape.{Fails, Tape, failed_call, with_call}
 use Rattle.flush_core.specs.declared.writer.DiskFault.{DiskFault}
-use Rattle.wal_core.specs.Views.{Plain}
-use Rattle.wal_core.specs.Suited.{tape_from}
-use Rattle.wal_core.specs.Moves.{Failed, CallOutcome, with_outcome}
+use Rattle.machine_state.specs.Views.{Plain}
+use Rattle.machine_state.specs.Suited.{tape_from}
+use Rattle.machine_state.specs.Moves.{Failed, CallOutcome, with_outcome}
 use Rattle.wal_rule.specs.declared.writer.LogWriter.{LogWriter}
 use Rattle.wal_rule.specs.Slotted.{CallEnds, as_machine_has, calls_of, first_on, slot_plain}
 use Rattle.wal_rule.proofs.SlotTapes.{calls_of_more, own_tape, tape_of_call}

@@ -4,16 +4,16 @@ use mathlib.Core.Option.{Option, some, some-injective, some-ne-none}
 use lib.ListN.{get_elem?}
 use Rattle.atomic_table.specs.Table.{State, Final, Seen}
 use Rattle.segment_disk.specs.Tape.{DiskState, Tape}
-use Rattle.wal_core.specs.Words.{Opening, position_word}
-use Rattle.wal_core.specs.Views.{Plain, View}
-use Rattle.wal_core.specs.Sound.{IsSound}
+use Rattle.machine_state.specs.Words.{Opening, position_word}
+use Rattle.machine_state.specs.Views.{Plain, View}
+use Rattle.machine_state.specs.Sound.{IsSound}
 use Rattle.machine_laws.specs.ClosedLogs.{HasAllNumbers, IsClosed, IsLastPass}
 use Rattle.machine_laws.proofs.ClosingLaws.{closed}
 use Rattle.machine_laws.proofs.EveryMoment.{logs_rise}
 use Rattle.wal_rule.specs.declared.writer.LogWriter.{LogWriter}
 use Rattle.wal_rule.specs.Closing.{ClosesWith}
 use Rattle.wal_rule.specs.Ruled.{IsRuled, home_of}
-use Rattle.wal_core.specs.Steps.{IsResting}
+use Rattle.machine_state.specs.Steps.{IsResting}
 use Rattle.wal_rule.specs.Slotted.{IsOfLog, first_on, slot_plain}
 use Rattle.wal_rule.proofs.Allowed.{is_home}
 

@@ -9,14 +9,14 @@ use Rattle.segment_disk.specs.declared.disk.Call.{Call}
 use Rattle.segment_disk.specs.Cause.{Rose}
 use Rattle.segment_disk.specs.Tape.{DiskState, Tape, create_call, failed_call, sync_call, write_call}
 use Rattle.flush_core.specs.declared.writer.DiskFault.{DiskFault}
-use Rattle.wal_core.specs.Words.{Opening, write_turn_number}
-use Rattle.wal_core.specs.Views.{Hold, Idle, Lent, Out, Plain, Turned, View}
-use Rattle.wal_core.specs.Suited.{tape_from}
-use Rattle.wal_core.specs.Moves.{one_call_more, Done, Failed, CallOutcome, is_counted, is_done, with_hold, with_outcome}
-use Rattle.wal_core.specs.Steps.{IsCallFault, MayStep, StepKind, create, sync, write, home_behind, value_behind, view_behind, with_call_on, word_of_step}
+use Rattle.machine_state.specs.Words.{Opening, write_turn_number}
+use Rattle.machine_state.specs.Views.{Hold, Idle, Lent, Out, Plain, Turned, View}
+use Rattle.machine_state.specs.Suited.{tape_from}
+use Rattle.machine_state.specs.Moves.{one_call_more, Done, Failed, CallOutcome, is_counted, is_done, with_hold, with_outcome}
+use Rattle.machine_state.specs.Steps.{IsCallFault, MayStep, StepKind, create, sync, write, home_behind, value_behind, view_behind, with_call_on, word_of_step}
 use Rattle.wal_rule.specs.declared.writer.LogWriter.{LogWriter}
 use Rattle.wal_rule.specs.Called.{DeviceCall, DeviceCallEnds, IsCalled, IsWriteLow, creates, step_of_call, syncs, writer_behind, writes}
-use Rattle.wal_core.specs.Suited.{tape_from}
+use Rattle.machine_state.specs.Suited.{tape_from}
 use Rattle.wal_rule.specs.Slotted.{CallEnds, EndsAs, GoesOnFrom, IsOfLog, first_on, slot_disk, slot_plain, slot_segment_size, calls_of}
 use Rattle.wal_rule.specs.Stepping.{Stands}
 use Rattle.wal_rule.specs.Ruled.{HasInHand, IsRuled, home_of}
@@ -181,7 +181,7 @@ abbrev holding : Hold → View → View
 holding hold v = with_hold hold v
 
 abbrev size_of : View → ℕ
-size_of v = ((v.opening).setup).segment_size
+size_of v = ((v.opening).setup).seg_size
 
 held_behind : (call : DeviceCall) (outcome : CallOutcome) (v : View) (l : Lent)
     → view_behind (holding (Out l) v) (step_of_call call outcome) 0 none
@@ -293,13 +293,13 @@ module _ {D : Type 0} (tape : D → Rattle.std.specs.Prelude.Option Tape) (momen
   Held s = IsRuled tape moment faults opening began s.words s.homes s.views
 
   of_log_behind : (call : DeviceCall) (result : Result Unit DiskFault) (before now : LogWriter D)
-      → IsOfLog tape faults began opening before → IsWriteLow (opening.setup).segment_size call
+      → IsOfLog tape faults began opening before → IsWriteLow (opening.setup).seg_size call
       → (slot_plain tape moment before).fault ≡ none
       → CallEnds tape moment faults before now result
-      (writer_behind (opening.setup).segment_size call)
+      (writer_behind (opening.setup).seg_size call)
       → IsOfLog tape faults began opening now
   of_log_behind call result before now was low up ends =
-      let size : ℕ = (opening.setup).segment_size in
+      let size : ℕ = (opening.setup).seg_size in
       let rises = ends.rises in
       let failed = was.failed in
       let old : Plain = slot_plain tape moment before in
@@ -348,10 +348,10 @@ module _ {D : Type 0} (tape : D → Rattle.std.specs.Prelude.Option Tape) (momen
     abbrev told : View
     told = view_behind me.0 made 0 none
 
-    own_size : (opening.setup).segment_size ≡ size_of me.0
-    own_size = ap (λ (o : Opening). (o.setup).segment_size) (sym own)
+    own_size : (opening.setup).seg_size ≡ size_of me.0
+    own_size = ap (λ (o : Opening). (o.setup).seg_size) (sym own)
 
-    told_hold : told ≡ holding (Out (lent_behind (opening.setup).segment_size call
+    told_hold : told ≡ holding (Out (lent_behind (opening.setup).seg_size call
         (called.ends).outcome called.lent)) me.0
     told_hold = ap (λ (h : Hold). view_behind (holding h me.0) made 0 none) (called.had).hold
         ∙ held_behind call (called.ends).outcome me.0 called.lent
@@ -371,7 +371,7 @@ module _ {D : Type 0} (tape : D → Rattle.std.specs.Prelude.Option Tape) (momen
     pub call_ended : MayStep me.0 (step_of_call call Done)
         → DeviceCallEnds tape moment faults began opening call result me.0 (told, me.1)
     call_ended may =
-        let size : ℕ = (opening.setup).segment_size in
+        let size : ℕ = (opening.setup).seg_size in
         let outcome : CallOutcome = (called.ends).outcome in
         record {
           outcome = outcome;
@@ -451,7 +451,7 @@ module _ {D : Type 0} (tape : D → Rattle.std.specs.Prelude.Option Tape) (momen
     lent_writer = ap (λ (c : List (ℕ × LogWriter D)). (get_or c 0 (0, w)).1)
         (sym has.slot ∙ lent_is)
 
-    pub lent_size : (opening.setup).segment_size ≡ slot_segment_size held
+    pub lent_size : (opening.setup).seg_size ≡ slot_segment_size held
     lent_size = sym (has.of_log).size_is ∙ ap (λ (x : LogWriter D). slot_segment_size x) lent_writer
 
     pub is_called : (call : DeviceCall) (result : Result Unit DiskFault) (now : LogWriter D)
@@ -474,7 +474,7 @@ module _ {D : Type 0} (tape : D → Rattle.std.specs.Prelude.Option Tape) (momen
     -- ---- the segment called for has an address
 
     own_held : (me.0).opening ≡ opening → size_of me.0 ≡ slot_segment_size held
-    own_held own = ap (λ (o : Opening). (o.setup).segment_size) own ∙ lent_size
+    own_held own = ap (λ (o : Opening). (o.setup).seg_size) own ∙ lent_size
 
     written_held : (lent : Lent) → (me.0).writing.hold ≡ Out lent
         → (lent.writer).written ≡ held.written

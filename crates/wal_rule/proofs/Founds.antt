@@ -6,9 +6,9 @@ use Rattle.segment_disk.specs.Tape.{IsUncalled, Tape, state_now}
 use Rattle.flush_core.specs.Settled.{HasNotSettled, HasSettled, settle_calls}
 use Rattle.flush_core.specs.Planned.{settled_tape}
 use Rattle.flush_core.proofs.PlanLaws.{settled_tape_is}
-use Rattle.wal_core.specs.Opened.{IsFirstWriter}
-use Rattle.wal_core.specs.Views.{Plain}
-use Rattle.wal_core.specs.Words.{Opening, found_end}
+use Rattle.machine_state.specs.Opened.{IsFirstWriter}
+use Rattle.machine_state.specs.Views.{Plain}
+use Rattle.machine_state.specs.Words.{Opening, found_end}
 use Rattle.wal_rule.specs.declared.seats.Founding.{Founding}
 use Rattle.wal_rule.specs.declared.writer.LogWriter.{LogWriter}
 use Rattle.wal_rule.specs.Beginning.{IsUnbegunWriter, IsUncalledWriter}
@@ -59,20 +59,20 @@ module _ {D : Type 0} (tape : D → Option Tape) (moment faults : D → ℕ) (fo
 
   pub began_on_first : first_on began ≡ first_on (tape disk)
   unfolding began_of_founding
-  began_on_first = settled_on_first (founding.setup).segment_size (found_end opening)
+  began_on_first = settled_on_first (founding.setup).seg_size (found_end opening)
       founding.made (tape disk)
 
   pub nothing_settled : founding.made ≡ 0 → began ≡ tape disk
   unfolding began_of_founding
   nothing_settled none =
-      ap (λ (n : ℕ). settled_tape (founding.setup).segment_size (found_end opening) n (tape disk))
-      none ∙ nothing_to_settle (founding.setup).segment_size (found_end opening) (tape disk)
+      ap (λ (n : ℕ). settled_tape (founding.setup).seg_size (found_end opening) n (tape disk))
+      none ∙ nothing_to_settle (founding.setup).seg_size (found_end opening) (tape disk)
 
   pub began_settled : (new : Option Tape) (new_moment : ℕ)
-      → HasSettled (founding.setup).segment_size (found_end opening) founding.made (tape disk) new
+      → HasSettled (founding.setup).seg_size (found_end opening) founding.made (tape disk) new
       (moment disk) new_moment → new ≡ began
   unfolding began_of_founding
-  began_settled new new_moment settled = settled_tape_is (founding.setup).segment_size
+  began_settled new new_moment settled = settled_tape_is (founding.setup).seg_size
       (found_end opening) founding.made (tape disk) new (moment disk) new_moment settled
 
   -- ---- the writer that was handed in
@@ -135,16 +135,16 @@ module _ {D : Type 0} (tape : D → Option Tape) (moment faults : D → ℕ) (fo
           moment = moment (slot_disk new);
         }) given.plain_is
 
-        module _ (settled : HasSettled (founding.setup).segment_size (found_end opening)
+        module _ (settled : HasSettled (founding.setup).seg_size (found_end opening)
             founding.made (tape (slot_disk w)) (tape (slot_disk new)) (moment (slot_disk w))
             (moment (slot_disk new))) (is : moment (slot_disk new) ≡ opening.moment) where
-          settled_from : HasSettled (founding.setup).segment_size (found_end opening)
+          settled_from : HasSettled (founding.setup).seg_size (found_end opening)
               founding.made (tape disk) (tape (slot_disk new)) (moment disk)
               (moment (slot_disk new))
-          settled_from = subst (λ (t : Option Tape). HasSettled (founding.setup).segment_size
+          settled_from = subst (λ (t : Option Tape). HasSettled (founding.setup).seg_size
               (found_end opening) founding.made t (tape (slot_disk new)) (moment disk)
               (moment (slot_disk new))) given.tape_is
-              (subst (λ (m : ℕ). HasSettled (founding.setup).segment_size (found_end opening)
+              (subst (λ (m : ℕ). HasSettled (founding.setup).seg_size (found_end opening)
               founding.made (tape (slot_disk w)) (tape (slot_disk new)) m
               (moment (slot_disk new))) moment_as settled)
 
@@ -163,12 +163,12 @@ module _ {D : Type 0} (tape : D → Option Tape) (moment faults : D → ℕ) (fo
             tape_is = tape_settled;
           }
 
-          pub settled_begun : HasSettled (founding.setup).segment_size (found_end opening)
+          pub settled_begun : HasSettled (founding.setup).seg_size (found_end opening)
               founding.made (tape disk) began (moment disk) opening.moment
-          settled_begun = subst (λ (t : Option Tape). HasSettled (founding.setup).segment_size
+          settled_begun = subst (λ (t : Option Tape). HasSettled (founding.setup).seg_size
               (found_end opening) founding.made (tape disk) t (moment disk) opening.moment)
               tape_settled
-              (subst (λ (m : ℕ). HasSettled (founding.setup).segment_size (found_end opening)
+              (subst (λ (m : ℕ). HasSettled (founding.setup).seg_size (found_end opening)
               founding.made (tape disk) (tape (slot_disk new)) (moment disk) m) is settled_from)
 
         module _ (size end : ℕ) (stopped : HasNotSettled size end (tape (slot_disk w))

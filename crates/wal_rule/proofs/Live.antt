@@ -4,11 +4,11 @@ use mathlib.Core.Option.{Option, none, some, some-injective, some-ne-none}
 use lib.ListN.{get_elem?}
 use Rattle.atomic_table.specs.Table.{State, Final, Joins, Seen, Splits}
 use Rattle.segment_disk.specs.Tape.{Tape}
-use Rattle.wal_core.specs.Words.{Opening}
+use Rattle.machine_state.specs.Words.{Opening}
 use Rattle.wal_rule.specs.declared.writer.LogWriter.{LogWriter}
 use Rattle.wal_rule.specs.Beginning.{HoldsRule, view_by_home}
 use Rattle.wal_rule.specs.Ruled.{IsRuled}
-use Rattle.wal_core.specs.Views.{View}
+use Rattle.machine_state.specs.Views.{View}
 
 -- a step that keeps the machine's invariant keeps the rule
 pub kept_step : {V A : Type 0} {IsValid Begins Holds Tells : V → A → Type 0}

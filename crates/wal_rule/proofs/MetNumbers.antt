@@ -4,11 +4,11 @@ use Rattle.std.proofs.lemmas.List.Elements.{All-weaker}
 use Rattle.atomic_table.proofs.Lists.{at_map}
 use Rattle.segment_disk.specs.Cause.{Rose}
 use Rattle.machine_words.proofs.Bounds.{limit_low}
-use Rattle.wal_core.specs.Words.{down_word, flushed_word, moment_word, position_word, prev_word}
-use Rattle.wal_core.specs.Views.{FlushPromise, async_met_of, reserving_of, receipts_of, View}
-use Rattle.wal_core.specs.Durable.{IsPromised, IsToldRightly}
-use Rattle.wal_core.specs.Moves.{unlocked}
-use Rattle.wal_core.specs.Steps.{StepKind, load_async, load_down, load_flushed, load_moment, load_position}
+use Rattle.machine_state.specs.Words.{down_word, flushed_word, moment_word, position_word, prev_word}
+use Rattle.machine_state.specs.Views.{FlushPromise, async_met_of, reserving_of, receipts_of, View}
+use Rattle.machine_state.specs.Durable.{IsPromised, IsToldRightly}
+use Rattle.machine_state.specs.Moves.{unlocked}
+use Rattle.machine_state.specs.Steps.{StepKind, load_async, load_down, load_flushed, load_moment, load_position}
 use Rattle.machine_laws.proofs.OrderSteps.{unlocked-is}
 use Rattle.wal_rule.specs.Downs.{KnowsDown}
 use Rattle.wal_rule.specs.Stepping.{Meets, Stands}

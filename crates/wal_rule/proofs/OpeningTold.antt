@@ -6,8 +6,8 @@ use Rattle.segment_disk.specs.declared.disk.Call.{Call}
 use Rattle.segment_disk.specs.Assured.{SegmentAssures}
 use Rattle.segment_disk.specs.Tape.{DiskState, Tape, after_calls, state_at, state_now}
 use Rattle.flush_core.specs.Pages.{HoldsNothing}
-use Rattle.wal_core.specs.Suited.{BeganSuited, IsLogAt, IsSuited}
-use Rattle.wal_core.specs.Words.{Opening}
+use Rattle.machine_state.specs.Suited.{BeganSuited, IsLogAt, IsSuited}
+use Rattle.machine_state.specs.Words.{Opening}
 use Rattle.wal_rule.specs.Slotted.{GoesOnFrom, first_on}
 
 -- the state at a moment that the earlier tape counted
@@ -24,7 +24,7 @@ state_then b t moment counted same goes =
 none_assures : (opening : Opening) → opening.made ≡ 0 → (state : DiskState)
     → ((n : ℕ) → state n ≡ None) → IsSuited opening state
 none_assures opening none_made state none_there = λ n. subst
-    (SegmentAssures (opening.setup).segment_size
+    (SegmentAssures (opening.setup).seg_size
     (λ segment. (1 ≤ segment) × (segment ≤ opening.made)) (IsLogAt opening []) n)
     (sym (none_there n)) (λ made. omega (arith, none_made, made.0, made.1))
 

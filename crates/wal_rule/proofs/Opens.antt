@@ -4,9 +4,9 @@ use Rattle.std.specs.Prelude.{IsSome}
 use Rattle.std.proofs.Common.{◌≡◌, ℕ, List, [], ◌∷◌, map, append-nil, arith, refl, sym, ◌∙◌, subst, Some, None}
 use mathlib.Core.Option.{some, some-injective, some-ne-none}
 use Rattle.segment_disk.specs.Tape.{Tape}
-use Rattle.wal_core.specs.Views.{Plain}
-use Rattle.wal_core.specs.Words.{Opening}
-use Rattle.wal_core.specs.Opened.{AreFirstWords, IsFirstWriter, IsOpenable, first_view}
+use Rattle.machine_state.specs.Views.{Plain}
+use Rattle.machine_state.specs.Words.{Opening}
+use Rattle.machine_state.specs.Opened.{AreFirstWords, IsFirstWriter, IsOpenable, first_view}
 use Rattle.machine_laws.proofs.OpeningLaws.{logs_begin}
 use Rattle.machine_laws.proofs.EveryMoment.{first_rises}
 use Rattle.wal_rule.specs.declared.writer.LogWriter.{LogWriter}
@@ -25,7 +25,7 @@ from_own (Some t) = ([], sym (append-nil t.calls))
 module _ {D : Type 0} (tape : D → Rattle.std.specs.Prelude.Option Tape) (moment faults : D → ℕ)
     (opening : Opening) (disk : D) (words : List ℕ) (writer : LogWriter D) where
   pub is_of_log : disk ≡ slot_disk writer
-      → slot_segment_size writer ≡ (opening.setup).segment_size
+      → slot_segment_size writer ≡ (opening.setup).seg_size
       → opening.faults ≡ faults (slot_disk writer)
       → IsFirstWriter opening (slot_plain tape moment writer)
       → IsOfLog tape faults (tape disk) opening writer

@@ -2,10 +2,10 @@
 use Rattle.std.specs.Prelude.{if◌then◌else◌}
 use Rattle.std.proofs.Common.{◌≡◌, ℕ, ◌<◌, ◌≤◌, Bool, true, false, sym, ap, ◌∙◌, arith}
 use Rattle.std.proofs.Common.{ltb-true, ltb-false}
-use Rattle.wal_core.specs.Moves.{has_spares, after_join}
+use Rattle.machine_state.specs.Moves.{has_spares, after_join}
 use Rattle.wal_rule.specs.declared.pass.Pass.{Pass}
 use Rattle.wal_rule.specs.Passes.{HasNumbers, SamePass}
-use Rattle.wal_core.specs.Views.{View}
+use Rattle.machine_state.specs.Views.{View}
 
 module _ (v w : View) (number spare spare_end other_number other other_end : ℕ)
     (mine : HasNumbers number spare spare_end v)

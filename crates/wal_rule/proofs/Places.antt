@@ -2,10 +2,10 @@
 use Rattle.std.proofs.Common.{◌≡◌, ℕ, ◌+◌, ◌*◌, ◌<◌, arith, sym, subst}
 use Rattle.std.proofs.Math.Logic.{∥∥₁_elim}
 use Rattle.std.specs.Coded.{le_prop}
-use Rattle.wal_core.specs.declared.setup.Setup.{Setup}
-use Rattle.wal_core.specs.Words.{Opening, async_number, word_count}
-use Rattle.wal_core.specs.Views.{Stage, View}
-use Rattle.wal_core.specs.Steps.{buffer_of, end_number, page_mapped, ring_number, ring_place, words_zeroed, zero_ring_word, MayStep}
+use Rattle.machine_state.specs.declared.setup.Setup.{Setup}
+use Rattle.machine_state.specs.Words.{Opening, async_number, word_count}
+use Rattle.machine_state.specs.Views.{Stage, View}
+use Rattle.machine_state.specs.Steps.{buffer_of, end_number, page_mapped, ring_number, ring_place, words_zeroed, zero_ring_word, MayStep}
 use Rattle.machine_laws.proofs.PutWords.{buffer-below, place-below, ring_place-below}
 use Rattle.wal_rule.specs.Stepping.{Stands}
 

@@ -2,8 +2,8 @@
 -- knows behind one is the same wherever that is.
 use Rattle.std.proofs.Common.{◌≡◌, ℕ, refl}
 use mathlib.Core.Option.{Option}
-use Rattle.wal_core.specs.Views.{Plain, View}
-use Rattle.wal_core.specs.Steps.{StepKind, home_behind, view_behind, load_position, take_write_turn, slot_out, slot_in, release_write_turn, lock_position, load_prev, store_prev, store_position, give_position_back, stay, load_lock, take_lock, advance, release, load_buffer_end, store_ring_word, load_ring_word, load_written, load_flushed, load_moment, load_down, store_written, store_moment, store_flushed, set_down, load_async, raise_async, take_mapping_turn, load_initialised_end, clear_end, zero_ring_word, publish_end, publish_initialised_end, release_mapping_turn, create, write, sync}
+use Rattle.machine_state.specs.Views.{Plain, View}
+use Rattle.machine_state.specs.Steps.{StepKind, home_behind, view_behind, load_position, take_write_turn, slot_out, slot_in, release_write_turn, lock_position, load_prev, store_prev, store_position, give_position_back, stay, load_lock, take_lock, advance, release, load_buffer_end, store_ring_word, load_ring_word, load_written, load_flushed, load_moment, load_down, store_written, store_moment, store_flushed, set_down, load_async, raise_async, take_mapping_turn, load_initialised_end, clear_end, zero_ring_word, publish_end, publish_initialised_end, release_mapping_turn, create, write, sync}
 use Rattle.wal_rule.specs.Stepping.{IsQuiet}
 
 pub home_on : (v : View) (e : StepKind) → IsQuiet e → (home : Option Plain)

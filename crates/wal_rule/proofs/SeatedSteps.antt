@@ -2,8 +2,8 @@
 use Rattle.std.proofs.Common.{◌≡◌, ℕ, sym, ap, ◌∙◌}
 use Rattle.atomic_table.specs.Seated.{TableId}
 use Rattle.atomic_table.specs.declared.shared.Seat.{Seat}
-use Rattle.wal_core.specs.Words.{Opening}
-use Rattle.wal_core.specs.Views.{View}
+use Rattle.machine_state.specs.Words.{Opening}
+use Rattle.machine_state.specs.Views.{View}
 use Rattle.wal_rule.specs.Stepping.{IsSeatOf, Stands}
 
 module _ {S : Type 0} (table : TableId) (opening : Opening) (number : ℕ)

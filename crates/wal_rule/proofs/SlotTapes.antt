@@ -5,8 +5,8 @@ use Rattle.segment_disk.specs.declared.disk.Call.{Call}
 use Rattle.segment_disk.specs.Tape.{DiskState, Fails, Tape, with_call}
 use Rattle.flush_core.specs.Calls.{with_calls}
 use Rattle.flush_core.specs.Settled.{NextFails, StopsCalls}
-use Rattle.wal_core.specs.Moves.{one_call_more}
-use Rattle.wal_core.specs.Suited.{tape_from}
+use Rattle.machine_state.specs.Moves.{one_call_more}
+use Rattle.machine_state.specs.Suited.{tape_from}
 use Rattle.wal_rule.specs.Slotted.{calls_of, first_on}
 
 pub own_tape : (t : Option Tape) → tape_from (first_on t) (calls_of t) ≡ t

@@ -3,8 +3,8 @@ use Rattle.std.specs.Prelude.{if◌then◌else◌}
 use Rattle.std.proofs.Common.{◌≡◌, ℕ, Bool, true, false, List, ◌==◌, refl}
 use mathlib.Core.Option.{Option}
 use Rattle.wal_types.specs.declared.record.Record.{Record}
-use Rattle.wal_core.specs.Views.{Place, Free, Locked, Loaded, Stored, Plain, View}
-use Rattle.wal_core.specs.Steps.{StepKind, view_behind, load_position, take_write_turn, slot_out, slot_in, release_write_turn, lock_position, load_prev, store_prev, store_position, give_position_back, stay, load_lock, take_lock, advance, release, load_buffer_end, store_ring_word, load_ring_word, load_written, load_flushed, load_moment, load_down, store_written, store_moment, store_flushed, set_down, load_async, raise_async, take_mapping_turn, load_initialised_end, clear_end, zero_ring_word, publish_end, publish_initialised_end, release_mapping_turn, create, write, sync}
+use Rattle.machine_state.specs.Views.{Place, Free, Locked, Loaded, Stored, Plain, View}
+use Rattle.machine_state.specs.Steps.{StepKind, view_behind, load_position, take_write_turn, slot_out, slot_in, release_write_turn, lock_position, load_prev, store_prev, store_position, give_position_back, stay, load_lock, take_lock, advance, release, load_buffer_end, store_ring_word, load_ring_word, load_written, load_flushed, load_moment, load_down, store_written, store_moment, store_flushed, set_down, load_async, raise_async, take_mapping_turn, load_initialised_end, clear_end, zero_ring_word, publish_end, publish_initialised_end, release_mapping_turn, create, write, sync}
 use Rattle.wal_rule.specs.Stepping.{IsQuiet}
 
 -- two views are of one log and one pass, and both are live or neither is

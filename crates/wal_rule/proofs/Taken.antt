@@ -2,11 +2,11 @@
 use Rattle.std.proofs.Common.{◌≡◌, ℕ, List, [], ◌∷◌, refl, ap, ◌∙◌, subst}
 use mathlib.Core.Option.{none}
 use Rattle.segment_disk.specs.Tape.{Tape}
-use Rattle.wal_core.specs.Words.{Opening}
-use Rattle.wal_core.specs.Views.{Plain, View}
-use Rattle.wal_core.specs.Steps.{take_write_turn, view_behind}
+use Rattle.machine_state.specs.Words.{Opening}
+use Rattle.machine_state.specs.Views.{Plain, View}
+use Rattle.machine_state.specs.Steps.{take_write_turn, view_behind}
 use Rattle.wal_rule.specs.declared.writer.LogWriter.{LogWriter}
-use Rattle.wal_core.specs.Moves.{after_slot_out}
+use Rattle.machine_state.specs.Moves.{after_slot_out}
 use Rattle.wal_rule.specs.Slotted.{slot_plain}
 use Rattle.wal_rule.specs.Ruled.{HasTaken, IsOutOf}
 

@@ -10,14 +10,14 @@
 use Rattle.std.specs.Prelude.{◌≡◌, ◌⊎◌, ℕ, false, List, [], ◌∷◌, None}
 use mathlib.Core.Option.{Option, none, some}
 use Rattle.segment_disk.specs.Tape.{Tape}
-use Rattle.wal_core.specs.Words.{Opening}
-use Rattle.wal_core.specs.Moves.{no_writing}
-use Rattle.wal_core.specs.Opened.{AreFirstWords, IsFirstWriter, first_view}
+use Rattle.machine_state.specs.Words.{Opening}
+use Rattle.machine_state.specs.Moves.{no_writing}
+use Rattle.machine_state.specs.Opened.{AreFirstWords, IsFirstWriter, first_view}
 use Rattle.wal_rule.specs.declared.seats.Founding.{Founding}
 use Rattle.wal_rule.specs.declared.writer.LogWriter.{LogWriter}
 use Rattle.wal_rule.specs.Founded.{founded_opening, founded_plain}
 use Rattle.wal_rule.specs.Ruled.{IsRuled}
-use Rattle.wal_core.specs.Views.{Out, Plain, View}
+use Rattle.machine_state.specs.Views.{Out, Plain, View}
 use Rattle.wal_rule.specs.Slotted.{first_on, resting_plain, slot_disk, slot_plain, slot_segment_size}
 
 -- the view of a seat whose table is not begun, with this of the writer, this number that tells
@@ -57,7 +57,7 @@ founded_view tape moment founding =
 pub record IsUnbegunWriter {D : Type 0} (tape : D → Rattle.std.specs.Prelude.Option Tape)
     (opening : Opening) (began : Rattle.std.specs.Prelude.Option Tape) (w : LogWriter D)
     : Type 0 where
-  pub size_is : slot_segment_size w ≡ (opening.setup).segment_size
+  pub size_is : slot_segment_size w ≡ (opening.setup).seg_size
   pub on_first : first_on (tape (slot_disk w)) ≡ first_on began
 
 -- the writer with which a table may be begun: its disk has the tape of the opening, and of its log
@@ -66,7 +66,7 @@ pub record IsUncalledWriter {D : Type 0} (tape : D → Rattle.std.specs.Prelude.
     (moment : D → ℕ) (opening : Opening) (began : Rattle.std.specs.Prelude.Option Tape)
     (w : LogWriter D) : Type 0 where
   pub first : IsFirstWriter opening (slot_plain tape moment w)
-  pub size_is : slot_segment_size w ≡ (opening.setup).segment_size
+  pub size_is : slot_segment_size w ≡ (opening.setup).seg_size
   pub tape_is : tape (slot_disk w) ≡ began
 
 module _ {D : Type 0} (tape : D → Rattle.std.specs.Prelude.Option Tape) (moment faults : D → ℕ)

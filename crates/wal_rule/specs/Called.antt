@@ -5,10 +5,10 @@ use Rattle.std.specs.Prelude.{◌≡◌, ℕ, ◌/◌, ◌^◌, ◌<◌, List, [
 use mathlib.Core.Option.{none}
 use Rattle.segment_disk.specs.Tape.{Tape, create_call, sync_call, write_call}
 use Rattle.flush_core.specs.declared.writer.DiskFault.{DiskFault}
-use Rattle.wal_core.specs.Words.{Opening}
-use Rattle.wal_core.specs.Views.{Plain, Lent, View}
-use Rattle.wal_core.specs.Moves.{CallOutcome, after_create, after_sync, after_write}
-use Rattle.wal_core.specs.Steps.{StepKind, create, sync, write, view_behind}
+use Rattle.machine_state.specs.Words.{Opening}
+use Rattle.machine_state.specs.Views.{Plain, Lent, View}
+use Rattle.machine_state.specs.Moves.{CallOutcome, after_create, after_sync, after_write}
+use Rattle.machine_state.specs.Steps.{StepKind, create, sync, write, view_behind}
 use Rattle.wal_rule.specs.declared.writer.LogWriter.{LogWriter}
 use Rattle.wal_rule.specs.Slotted.{CallEnds, EndsAs}
 use Rattle.wal_rule.specs.Ruled.{HasInHand}
@@ -52,8 +52,8 @@ module _ {D : Type 0} (tape : D → Rattle.std.specs.Prelude.Option Tape) (momen
       pub had : HasInHand tape moment faults began opening (me.0, (0, before) ∷ []) lent before
       pub slot : me.1 ≡ (0, writer) ∷ []
       pub ends : CallEnds tape moment faults before writer result
-          (writer_behind (opening.setup).segment_size call)
-      pub low : IsWriteLow (opening.setup).segment_size call
+          (writer_behind (opening.setup).seg_size call)
+      pub low : IsWriteLow (opening.setup).seg_size call
 
     -- a call ended: the seat has the writer in hand, and knows of the call what the machine says
     pub record DeviceCallEnds (old : View) (new : View × List (ℕ × LogWriter D)) : Type 0

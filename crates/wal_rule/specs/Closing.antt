@@ -2,9 +2,9 @@
 use Rattle.std.specs.Prelude.{◌≡◌, ℕ, List}
 use mathlib.Core.Option.{some}
 use Rattle.segment_disk.specs.Tape.{Tape}
-use Rattle.wal_core.specs.Words.{Opening, position_word}
-use Rattle.wal_core.specs.Views.{HasAt, View}
-use Rattle.wal_core.specs.Sound.{IsSound}
+use Rattle.machine_state.specs.Words.{Opening, position_word}
+use Rattle.machine_state.specs.Views.{HasAt, View}
+use Rattle.machine_state.specs.Sound.{IsSound}
 use Rattle.machine_laws.specs.SharedOrders.{HasNumber}
 use Rattle.machine_laws.specs.ClosedLogs.{IsClosed}
 use Rattle.machine_laws.specs.RisingMoments.{LogsRise, promised_of}

@@ -5,9 +5,9 @@ use Rattle.std.specs.Prelude.{ℕ, Option}
 use Rattle.segment_disk.specs.Tape.{Tape}
 use Rattle.flush_core.specs.Planned.{settled_tape}
 use Rattle.wal_page.specs.LogPlace.{LogPlace, new_place}
-use Rattle.wal_core.specs.declared.setup.Setup.{Setup}
-use Rattle.wal_core.specs.Views.{Plain}
-use Rattle.wal_core.specs.Words.{Opening, found_end}
+use Rattle.machine_state.specs.declared.setup.Setup.{Setup}
+use Rattle.machine_state.specs.Views.{Plain}
+use Rattle.machine_state.specs.Words.{Opening, found_end}
 use Rattle.wal_rule.specs.declared.seats.Founding.{Founding}
 use Rattle.wal_rule.specs.Slotted.{resting_plain}
 
@@ -25,7 +25,7 @@ found_log_opening setup place made moment faults =
 -- .. and of one that holds nothing
 abbrev pub empty_log_opening : Setup → (moment faults : ℕ) → Opening
 empty_log_opening setup moment faults =
-    found_log_opening setup (new_place setup.segment_size) 0 moment faults
+    found_log_opening setup (new_place setup.seg_size) 0 moment faults
 
 abbrev pub founded_opening : {D : Type 0} → Founding D → Opening
 founded_opening founding = found_log_opening founding.setup (founding.place).place
@@ -37,7 +37,7 @@ disk_of_founding founding = (founding.disk).value
 
 -- its tape at the opening: as it was handed in, with the calls behind it that settle what was found
 unfoldable pub began_of_founding : {D : Type 0} → (D → Option Tape) → Founding D → Option Tape
-began_of_founding tape founding = settled_tape (founding.setup).segment_size
+began_of_founding tape founding = settled_tape (founding.setup).seg_size
     (found_end (founded_opening founding)) founding.made (tape (disk_of_founding founding))
 
 -- the writer that goes on behind what was found, on the disk as it was handed in

@@ -1,17 +1,17 @@
 -- A pass of a table: its view, and the numbers that it keeps at run time.
 use Rattle.std.specs.Prelude.{◌≡◌, ℕ, true, List, [], ◌∷◌}
 use Rattle.atomic_table.specs.Seated.{TableId}
-use Rattle.wal_core.specs.Words.{Opening}
+use Rattle.machine_state.specs.Words.{Opening}
 use Rattle.wal_rule.specs.declared.pass.Pass.{Pass}
-use Rattle.wal_core.specs.Views.{View}
-use Rattle.wal_core.specs.Opened.{first_view}
+use Rattle.machine_state.specs.Views.{View}
+use Rattle.machine_state.specs.Opened.{first_view}
 use Rattle.wal_rule.specs.Stepping.{Stands}
 
 -- of a log without a size: what stands where a proof picks a view
 abbrev pub no_view : View
 no_view = first_view (record {
   setup = record {
-    segment_size = 0;
+    seg_size = 0;
     ring_pages = 0;
     cap_segments = 0;
     sysid = 0;

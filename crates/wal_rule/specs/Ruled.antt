@@ -6,14 +6,14 @@ use Rattle.std.specs.Prelude.{◌≡◌, ℕ, List, [], ◌∷◌, length}
 use mathlib.Core.Option.{Option, none, some}
 use lib.ListN.{get_elem?}
 use Rattle.segment_disk.specs.Tape.{Tape}
-use Rattle.wal_core.specs.Words.{Opening}
-use Rattle.wal_core.specs.Views.{Plain, Out, Lent, View}
-use Rattle.wal_core.specs.Sound.{IsSound}
-use Rattle.wal_core.specs.Steps.{slot_out, view_behind}
+use Rattle.machine_state.specs.Words.{Opening}
+use Rattle.machine_state.specs.Views.{Plain, Out, Lent, View}
+use Rattle.machine_state.specs.Sound.{IsSound}
+use Rattle.machine_state.specs.Steps.{slot_out, view_behind}
 use Rattle.machine_laws.specs.RisingMoments.{MomentsKeepRising}
 use Rattle.wal_rule.specs.declared.writer.LogWriter.{LogWriter}
 use Rattle.wal_rule.specs.Slotted.{IsOfLog, first_on, slot_plain}
-use Rattle.wal_core.specs.Moves.{after_slot_out, lent}
+use Rattle.machine_state.specs.Moves.{after_slot_out, lent}
 
 module _ {D : Type 0} (tape : D → Rattle.std.specs.Prelude.Option Tape) (moment faults : D → ℕ)
   where

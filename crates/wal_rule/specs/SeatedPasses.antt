@@ -2,10 +2,10 @@
 use Rattle.std.specs.Prelude.{◌≡◌, ℕ, List, [], Option}
 use mathlib.Core.Option.{none}
 use Rattle.segment_disk.specs.Tape.{Tape}
-use Rattle.wal_core.specs.Words.{Opening}
-use Rattle.wal_core.specs.declared.setup.Setup.{Setup}
-use Rattle.wal_core.specs.Steps.{IsResting, StepKind, view_behind}
-use Rattle.wal_core.specs.Views.{View}
+use Rattle.machine_state.specs.Words.{Opening}
+use Rattle.machine_state.specs.declared.setup.Setup.{Setup}
+use Rattle.machine_state.specs.Steps.{IsResting, StepKind, view_behind}
+use Rattle.machine_state.specs.Views.{View}
 use Rattle.wal_rule.specs.declared.seated.SeatedPass.{SeatedPass}
 use Rattle.wal_rule.specs.declared.writer.LogWriter.{LogWriter}
 use Rattle.wal_rule.specs.Tables.{began_of_table, opening_of_table}

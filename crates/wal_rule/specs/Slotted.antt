@@ -5,10 +5,10 @@ use Rattle.segment_disk.specs.declared.disk.Call.{Call}
 use Rattle.segment_disk.specs.Cause.{Rose}
 use Rattle.segment_disk.specs.Tape.{DiskState, Tape, empty_state}
 use Rattle.flush_core.specs.declared.writer.DiskFault.{DiskFault}
-use Rattle.wal_core.specs.Words.{Opening}
-use Rattle.wal_core.specs.Suited.{tape_from}
-use Rattle.wal_core.specs.Views.{Plain}
-use Rattle.wal_core.specs.Moves.{CallOutcome, Done, Failed}
+use Rattle.machine_state.specs.Words.{Opening}
+use Rattle.machine_state.specs.Suited.{tape_from}
+use Rattle.machine_state.specs.Views.{Plain}
+use Rattle.machine_state.specs.Moves.{CallOutcome, Done, Failed}
 use Rattle.wal_rule.specs.declared.writer.LogWriter.{LogWriter}
 
 -- a number that may be missing, as the machine has it
@@ -91,7 +91,7 @@ pub record CallEnds {D : Type 0} (tape : D → Rattle.std.specs.Prelude.Option T
 pub record IsOfLog {D : Type 0} (tape : D → Rattle.std.specs.Prelude.Option Tape)
     (faults : D → ℕ) (began : Rattle.std.specs.Prelude.Option Tape) (opening : Opening)
     (w : LogWriter D) : Type 0 where
-  pub size_is : slot_segment_size w ≡ (opening.setup).segment_size
+  pub size_is : slot_segment_size w ≡ (opening.setup).seg_size
   pub on_first : IfSome (tape (slot_disk w)) (λ t. t.at_first ≡ first_on began)
   pub goes_on : IfSome (tape (slot_disk w)) (GoesOnFrom began)
   pub told : IsSome began → IsSome (tape (slot_disk w))
@@ -99,4 +99,4 @@ pub record IsOfLog {D : Type 0} (tape : D → Rattle.std.specs.Prelude.Option Ta
   pub up : as_machine_has w.fault ≡ none → faults (slot_disk w) ≡ opening.faults
   pub down : (f : ℕ) → as_machine_has w.fault ≡ some f → f ≡ faults (slot_disk w)
   pub waits_low : (segment : ℕ) → as_machine_has w.waiting ≡ some segment
-      → segment < 2 ^ 64 / (opening.setup).segment_size
+      → segment < 2 ^ 64 / (opening.setup).seg_size

@@ -8,10 +8,10 @@ use mathlib.Core.Option.{Option}
 use Rattle.atomic_table.specs.Seated.{TableId}
 use Rattle.atomic_table.specs.declared.shared.Seat.{Seat}
 use Rattle.segment_disk.specs.Tape.{DiskState}
-use Rattle.wal_core.specs.Words.{Opening}
-use Rattle.wal_core.specs.Views.{HasAt, Plain, View}
-use Rattle.wal_core.specs.Sound.{IsSound}
-use Rattle.wal_core.specs.Steps.{StepKind, create, slot_in, slot_out, sync, word_of_step, write}
+use Rattle.machine_state.specs.Words.{Opening}
+use Rattle.machine_state.specs.Views.{HasAt, Plain, View}
+use Rattle.machine_state.specs.Sound.{IsSound}
+use Rattle.machine_state.specs.Steps.{StepKind, create, slot_in, slot_out, sync, word_of_step, write}
 
 -- there is a state that the rule allows, in which a pass has this view: so all that the machine's
 -- invariant says of a view alone is known of it

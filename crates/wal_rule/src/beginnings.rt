@@ -3,8 +3,8 @@
 ghost use Rattle.std.specs.Prelude.{◌≡◌, IfSome, Option, length};
 ghost use Rattle.segment_disk.specs.Tape.{Tape, state_now};
 ghost use Rattle.flush_core.specs.Pages.{HoldsNothing};
-ghost use Rattle.wal_core.specs.Suited.{BeganSuited, IsSuited};
-ghost use Rattle.wal_core.specs.Words.{Opening};
+ghost use Rattle.machine_state.specs.Suited.{BeganSuited, IsSuited};
+ghost use Rattle.machine_state.specs.Words.{Opening};
 ghost use Rattle.wal_rule.specs.Slotted.{GoesOnFrom, first_on};
 
 /// Where a log was opened on a disk without a segment, a tape that goes on from the one then

@@ -7,7 +7,7 @@
 ghost use Rattle.machine_laws.specs.ClosedLogs.{HasAllNumbers};
 ghost use Rattle.wal_rule.specs.Closing.{ClosesWith};
 ghost use Rattle.wal_rule.specs.Passes.{view_of_pass};
-ghost use Rattle.wal_core.specs.Steps.{IsResting};
+ghost use Rattle.machine_state.specs.Steps.{IsResting};
 ghost use Rattle.wal_rule.specs.Tables.{IsPassOn, IsSeatOn, began_of_table, opening_of_table};
 
 use crate::pass::Pass;

@@ -7,16 +7,16 @@
 // call ends, the writer stays in hand; behind a fault it keeps the disk's count, and its view lets
 // no further call be made: down is to be set, and the writer put back.
 ghost use Rattle.std.specs.Prelude.{◌≡◌};
-ghost use Rattle.wal_core.specs.Moves.{Done};
-ghost use Rattle.wal_core.specs.Steps.{create, sync, write, MayStep};
+ghost use Rattle.machine_state.specs.Moves.{Done};
+ghost use Rattle.machine_state.specs.Steps.{create, sync, write, MayStep};
 ghost use Rattle.wal_rule.specs.Called.{DeviceCallEnds, IsCalled, creates, step_of_call, syncs, writes};
 ghost use Rattle.wal_rule.specs.Ruled.{HasInHand};
-ghost use Rattle.wal_core.specs.Views.{Lent};
+ghost use Rattle.machine_state.specs.Views.{Lent};
 ghost use Rattle.wal_rule.specs.SeatedPasses.{Steps, began_of, opening_of, view_of};
 
 use crate::plays::{CatchesUp, OfCall};
 use crate::seated::SeatedPass;
-use byte_position::PAGE_SIZE;
+use byte_position::Page;
 use flush_core::DiskFault;
 use machine_words::layout::WRITE_TURN;
 use segment_disk::Disk;
@@ -51,7 +51,7 @@ impl<'a, D: Disk> SeatedPass<'a, D> {
         segment: u64,
         page: u32,
         upto: u64,
-        bytes: &[u8; PAGE_SIZE as usize],
+        bytes: &Page,
     ) -> Result<(), DiskFault>
         // The writer is in hand, as the view keeps it, and this page is next.
         requires out { (l : Lent) × (w : _) × HasInHand D.tape D.moment D.faults

@@ -4,7 +4,7 @@
 ghost use Rattle.std.specs.Prelude.{◌≡◌, ℕ};
 ghost use Rattle.segment_disk.specs.Cause.{Rose};
 ghost use Rattle.wal_rule.specs.Downs.{KnowsDown};
-ghost use Rattle.wal_core.specs.Views.{View};
+ghost use Rattle.machine_state.specs.Views.{View};
 ghost use Rattle.wal_rule.specs.Stepping.{Stands};
 
 /// A down value that a pass met or set is a count of faults above the one at the opening, or the

@@ -3,8 +3,8 @@
 // copies any more, and its locks stay held for good and tell no more than was copied. The pass is
 // about nothing then, and may be taken in; its log keeps the record, which has its place.
 ghost use Rattle.std.specs.Prelude.{◌≡◌};
-ghost use Rattle.wal_core.specs.Steps.{IsStranded};
-ghost use Rattle.wal_core.specs.Moves.{without_work};
+ghost use Rattle.machine_state.specs.Steps.{IsStranded};
+ghost use Rattle.machine_state.specs.Moves.{without_work};
 ghost use Rattle.wal_rule.specs.SeatedPasses.{HasView, view_of};
 
 use crate::plays::GivesCopyUp;

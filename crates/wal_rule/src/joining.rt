@@ -5,8 +5,8 @@
 // gone, and nobody reserves under its number again. Both tell views alone, so a load that changes
 // nothing (`look`) follows: by it the view stands in the state that the load finds.
 ghost use Rattle.std.specs.Prelude.{◌≡◌, ◌<◌, [], true};
-ghost use Rattle.wal_core.specs.Steps.{IsResting};
-ghost use Rattle.wal_core.specs.Moves.{after_join, after_split, spent, split_off};
+ghost use Rattle.machine_state.specs.Steps.{IsResting};
+ghost use Rattle.machine_state.specs.Moves.{after_join, after_split, spent, split_off};
 ghost use Rattle.wal_rule.specs.Stepping.{Stands};
 ghost use Rattle.wal_rule.specs.Tables.{IsSeatOn, table_number};
 
@@ -42,7 +42,7 @@ impl<D: Disk> LogTable<D> {
         self.join_leaving::<Brand>(seat, other);
     }
 
-    // The same, with what is left of the other seat picked for the proof.
+    // Takes another backend's seat in, with what is left of that seat picked for the proof.
     fn join_leaving<B: Leaves>(&self, seat: &mut LogSeat<D>, other: LogSeat<D>)
         requires seat { IsSeatOn self.now seat.old }
         requires other { IsSeatOn self.now other }

@@ -9,7 +9,7 @@
 // pass whose view lets it step (`may`), and tell what is left of the pass (`steps`) and what was
 // met (`met`).
 ghost use Rattle.std.specs.Prelude.{◌≡◌, ◌+◌, ◌%◌, ◌<◌, ◌^◌};
-ghost use Rattle.wal_core.specs.Steps.{advance, load_lock, release, take_lock, MayStep};
+ghost use Rattle.machine_state.specs.Steps.{advance, load_lock, release, take_lock, MayStep};
 ghost use Rattle.wal_rule.specs.Stepping.{Meets};
 ghost use Rattle.wal_rule.specs.SeatedPasses.{Steps, view_of};
 

@@ -7,7 +7,7 @@
 // cleared the turn may be given back, and behind the last store, but not between. As each step
 // (quiet.rt) these are made by a seated pass whose view lets it step.
 ghost use Rattle.std.specs.Prelude.{◌≡◌, ◌<◌};
-ghost use Rattle.wal_core.specs.Steps.{clear_end, load_initialised_end, publish_end, publish_initialised_end, release_mapping_turn, take_mapping_turn, zero_ring_word, MayStep, value_behind, word_of_step};
+ghost use Rattle.machine_state.specs.Steps.{clear_end, load_initialised_end, publish_end, publish_initialised_end, release_mapping_turn, take_mapping_turn, zero_ring_word, MayStep, value_behind, word_of_step};
 ghost use Rattle.wal_rule.specs.Stepping.{Meets};
 ghost use Rattle.wal_rule.specs.SeatedPasses.{Steps, view_of};
 
@@ -100,8 +100,8 @@ impl<'a, D: Disk> SeatedPass<'a, D> {
         self.zero_ring_word_at(self.table, place);
     }
 
-    /// The same, where the caller has taken the pass's table out of it: so a run of stores looks it
-    /// up once.
+    /// `zero_ring_word`, where the caller has taken the pass's table out of it: so a run of stores
+    /// looks it up once.
     #[inline(always)]
     pub fn zero_ring_word_at(&mut self, table: &LogTable<D>, place: usize)
         requires table { table.now ≡ self.old.table.now }

@@ -3,14 +3,14 @@
 
 ghost use Rattle.std.specs.Prelude.{◌⊎◌, ℕ};
 ghost use mathlib.Core.Option.{Option};
-ghost use Rattle.wal_core.specs.Words.{Opening};
-ghost use Rattle.wal_core.specs.Views.{Plain, View};
-ghost use Rattle.wal_core.specs.Steps.{StepKind, IsResting, view_behind};
+ghost use Rattle.machine_state.specs.Words.{Opening};
+ghost use Rattle.machine_state.specs.Views.{Plain, View};
+ghost use Rattle.machine_state.specs.Steps.{StepKind, IsResting, view_behind};
 ghost use Rattle.machine_laws.specs.SharedOrders.{HasNumber, IsSpare};
 ghost use Rattle.machine_laws.specs.ClosedLogs.{HasAllNumbers};
 ghost use Rattle.wal_rule.specs.Closing.{KeepsNumbers};
-ghost use Rattle.wal_core.specs.Opened.{first_view};
-ghost use Rattle.wal_core.specs.Moves.{after_join, after_split, split_off};
+ghost use Rattle.machine_state.specs.Opened.{first_view};
+ghost use Rattle.machine_state.specs.Moves.{after_join, after_split, split_off};
 
 /// A table's first seat is about nothing and has all numbers. No step takes one away; behind a
 /// split one of both seats has each; and a seat that takes another one in has the numbers of both,

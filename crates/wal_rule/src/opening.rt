@@ -5,12 +5,11 @@
 // counted.
 ghost use Rattle.std.specs.Prelude.{◌≡◌, [], IfErr, IfOk, IfSome, None};
 ghost use Rattle.segment_disk.specs.Tape.{page_of_segment, state_now};
-ghost use Rattle.wal_core.specs.Opened.{AreFirstWords, IsOpenable, first_view};
-ghost use Rattle.wal_rule.specs.Beginning.{founded_view};
+ghost use Rattle.machine_state.specs.Opened.{AreFirstWords, IsOpenable, first_view};
 ghost use Rattle.wal_rule.specs.Founded.{disk_of_founding, founded_opening};
-ghost use Rattle.wal_rule.specs.Opening.{IsFoundedWriter, TellsOpenErr};
+ghost use Rattle.wal_rule.specs.Opening.{IsFoundedNow, IsFoundedWriter, IsWaitingSeat, TellsOpenErr};
 ghost use Rattle.wal_rule.specs.Slotted.{slot_disk};
-ghost use Rattle.wal_rule.specs.Tables.{IsSeatOn, began_of_table, opening_of_table, table_number};
+ghost use Rattle.wal_rule.specs.Tables.{IsSeatOn, began_of_table, opening_of_table};
 
 use crate::plays::BeganOn;
 use crate::seats::Founding;
@@ -73,13 +72,9 @@ impl<D: Disk> LogTable<D> {
         requires openable { IsOpenable (opening_of_table self) }
         requires made { self.table.shared.key.made ≡ 0 }
         // The seat waits, and nothing was called since what is fixed was told.
-        requires table { seat.table_id ≡ table_number self }
-        requires waits { seat.me ≡ (founded_view D.tape D.moment self.table.shared.key, []) }
+        requires seat { IsWaitingSeat D.tape D.moment self seat }
         requires began { B.began ≡ began_of_table D.tape self }
-        requires counted { D.moment (disk_of_founding self.table.shared.key)
-            ≡ (opening_of_table self).moment }
-        requires failed { D.faults (disk_of_founding self.table.shared.key)
-            ≡ (opening_of_table self).faults }
+        requires told { IsFoundedNow D.moment D.faults self }
         // At Ok the table is begun, with the first pass's seat; else table and seat are gone, and
         // the disk comes back.
         ensures same { IfOk result (λ t. t.0 ≡ self) }

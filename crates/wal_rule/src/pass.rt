@@ -5,11 +5,11 @@
 // in hand at most within a call.
 ghost use Rattle.std.specs.Prelude.{◌≡◌, ◌-◌, ◌<◌, ◌≤◌, []};
 ghost use Rattle.atomic_table.specs.Seated.{TableId};
-ghost use Rattle.wal_core.specs.Words.{Opening};
+ghost use Rattle.machine_state.specs.Words.{Opening};
 ghost use Rattle.wal_rule.specs.Company.{IsAlone};
 ghost use Rattle.wal_rule.specs.Passes.{HasNumbers, IsPassOf, SamePass, view_of_pass};
-ghost use Rattle.wal_core.specs.Steps.{IsResting};
-ghost use Rattle.wal_core.specs.Moves.{after_join, after_split, split_off};
+ghost use Rattle.machine_state.specs.Steps.{IsResting};
+ghost use Rattle.machine_state.specs.Moves.{after_join, after_split, split_off};
 ghost use Rattle.wal_rule.specs.Stepping.{IsSeatOf};
 ghost use Rattle.wal_rule.specs.SeatedPasses.{hand_of, view_of};
 ghost use Rattle.wal_rule.specs.Tables.{IsPassOn};

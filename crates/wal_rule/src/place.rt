@@ -4,8 +4,8 @@ ghost use Rattle.std.specs.Prelude.{◌≡◌, []};
 ghost use Rattle.std.specs.Borrow.{ftrue};
 ghost use Rattle.wal_page.specs.LogPlace.{LogPlace, new_place};
 
+use machine_state::Setup;
 use std::marker::{Brand, Model, PhantomData};
-use wal_core::Setup;
 
 /// A place, which a call picks for the proof alone.
 pub trait PicksPlace {
@@ -40,7 +40,7 @@ impl OrderPlace {
 
     // That of a log that holds nothing.
     pub(crate) fn of_new_log(setup: Setup) -> OrderPlace
-        ensures { result.place ≡ new_place setup.segment_size }
+        ensures { result.place ≡ new_place setup.seg_size }
     {
         OrderPlace::picked::<Brand>(setup)
     }

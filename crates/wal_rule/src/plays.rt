@@ -6,14 +6,14 @@ ghost use Rattle.std.specs.Prelude.{◌≡◌, [], ◌∷◌, None, Ok, Option, 
 ghost use mathlib.Core.Option.{none};
 ghost use Rattle.segment_disk.specs.Tape.{Tape};
 ghost use Rattle.flush_core.specs.declared.writer.DiskFault.{DiskFault};
-ghost use Rattle.wal_core.specs.Steps.{StepKind, load_position, slot_in, view_behind};
+ghost use Rattle.machine_state.specs.Steps.{StepKind, load_position, slot_in, view_behind};
 ghost use Rattle.wal_rule.specs.Beginning.{IsUnbegunWriter, reading_view, waiting_view};
 ghost use Rattle.wal_rule.specs.Called.{DeviceCall, DeviceCallEnds, syncs};
 ghost use Rattle.wal_rule.specs.Ruled.{IsOutOf};
-ghost use Rattle.wal_core.specs.Views.{View};
-ghost use Rattle.wal_core.specs.Opened.{first_view};
+ghost use Rattle.machine_state.specs.Views.{View};
+ghost use Rattle.machine_state.specs.Opened.{first_view};
 ghost use Rattle.wal_rule.specs.Passes.{no_view};
-ghost use Rattle.wal_core.specs.Moves.{after_join, after_split, orphan_of, split_off, without_work};
+ghost use Rattle.machine_state.specs.Moves.{after_join, after_split, orphan_of, split_off, without_work};
 ghost use Rattle.wal_rule.specs.Slotted.{slot_disk, slot_plain};
 ghost use Rattle.wal_rule.specs.Stepping.{Meets, Stands};
 

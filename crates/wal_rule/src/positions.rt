@@ -9,9 +9,9 @@
 // are made by a seated pass whose view lets it step.
 ghost use Rattle.std.specs.Prelude.{◌≡◌, ◌≢◌, ℕ, ◌<◌, ◌≤◌, ◌^◌, All};
 ghost use Rattle.segment_disk.specs.Cause.{Rose};
-ghost use Rattle.wal_core.specs.Moves.{unlocked};
-ghost use Rattle.wal_core.specs.Views.{FlushPromise};
-ghost use Rattle.wal_core.specs.Steps.{load_down, load_flushed, load_moment, load_position, load_async, load_written, raise_async, set_down, store_flushed, store_moment, store_written, MayStep, value_behind};
+ghost use Rattle.machine_state.specs.Moves.{unlocked};
+ghost use Rattle.machine_state.specs.Views.{FlushPromise};
+ghost use Rattle.machine_state.specs.Steps.{load_down, load_flushed, load_moment, load_position, load_async, load_written, raise_async, set_down, store_flushed, store_moment, store_written, MayStep, value_behind};
 ghost use Rattle.wal_rule.specs.Downs.{KnowsDown};
 ghost use Rattle.wal_rule.specs.Stepping.{Meets};
 ghost use Rattle.wal_rule.specs.SeatedPasses.{Steps, opening_of, view_of};

@@ -7,7 +7,7 @@
 // whatever the word held (`meets_none`).
 ghost use Rattle.std.specs.Prelude.{◌≡◌, ℕ, ◌<◌, ◌==◌, if◌then◌else◌};
 ghost use mathlib.Core.Option.{none};
-ghost use Rattle.wal_core.specs.Steps.{view_behind, MayStep, value_behind, word_of_step};
+ghost use Rattle.machine_state.specs.Steps.{view_behind, MayStep, value_behind, word_of_step};
 ghost use Rattle.wal_rule.specs.Stepping.{IsQuiet, Meets};
 ghost use Rattle.wal_rule.specs.SeatedPasses.{Steps, view_of};
 
@@ -43,8 +43,8 @@ impl<'a, D: Disk> SeatedPass<'a, D> {
         self.loads_at::<K>(self.table, word, operands)
     }
 
-    // The same, where the caller has taken the table out of the pass: so a run of steps looks it up
-    // once.
+    // A step of a kind that loads a word, where the caller has taken the table out of the pass: so
+    // a run of steps looks it up once.
     #[inline(always)]
     pub(crate) fn loads_at<K: OfKind>(
         &mut self,
@@ -79,7 +79,7 @@ impl<'a, D: Disk> SeatedPass<'a, D> {
         self.stores_at::<K>(self.table, word, value, operands);
     }
 
-    // The same, where the caller has taken the table out of the pass.
+    // A step of a kind that stores a word, where the caller has taken the table out of the pass.
     #[inline(always)]
     pub(crate) fn stores_at<K: OfKind>(
         &mut self,

@@ -9,7 +9,7 @@
 // pass whose view lets it step.
 ghost use Rattle.std.specs.Prelude.{◌≡◌, ℕ, List};
 ghost use Rattle.wal_types.specs.declared.record.Record.{Record};
-ghost use Rattle.wal_core.specs.Steps.{give_position_back, load_prev, lock_position, stay, store_position, store_prev, MayStep, value_behind};
+ghost use Rattle.machine_state.specs.Steps.{give_position_back, load_prev, lock_position, stay, store_position, store_prev, MayStep, value_behind};
 ghost use Rattle.wal_rule.specs.Stepping.{Meets};
 ghost use Rattle.wal_rule.specs.SeatedPasses.{Steps, view_of};
 

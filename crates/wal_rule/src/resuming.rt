@@ -8,13 +8,12 @@
 ghost use Rattle.std.specs.Prelude.{◌≡◌, ◌+◌, ◌<◌, ◌^◌, [], IfErr, IfOk};
 ghost use Rattle.flush_core.specs.Planned.{IsPlanOf, call_count};
 ghost use Rattle.flush_core.specs.Settled.{HasSettled};
-ghost use Rattle.wal_core.specs.Opened.{AreFirstWords, IsOpenable, first_view};
-ghost use Rattle.wal_core.specs.Words.{found_end};
-ghost use Rattle.wal_rule.specs.Beginning.{founded_view};
+ghost use Rattle.machine_state.specs.Opened.{AreFirstWords, IsOpenable, first_view};
+ghost use Rattle.machine_state.specs.Words.{found_end};
 ghost use Rattle.wal_rule.specs.Founded.{disk_of_founding, founded_opening};
-ghost use Rattle.wal_rule.specs.Opening.{IsUnsettledWriter, TellsResumeErr};
+ghost use Rattle.wal_rule.specs.Opening.{IsUnsettledWriter, IsWaitingSeat, TellsResumeErr};
 ghost use Rattle.wal_rule.specs.Slotted.{slot_disk};
-ghost use Rattle.wal_rule.specs.Tables.{IsSeatOn, began_of_table, opening_of_table, table_number};
+ghost use Rattle.wal_rule.specs.Tables.{IsSeatOn, began_of_table, opening_of_table};
 
 use crate::plays::BeganOn;
 use crate::seats::Founding;
@@ -53,7 +52,7 @@ impl<D: Disk> LogTable<D> {
         requires shape { shape ≡ founding.now.setup }
         requires words { AreFirstWords (founded_opening founding.now) words.now }
         requires writer { IsUnsettledWriter D.tape D.moment D.faults founding.now writer }
-        requires plan { IsPlanOf founding.now.setup.segment_size
+        requires plan { IsPlanOf founding.now.setup.seg_size
             (found_end (founded_opening founding.now)) founding.now.made
             (D.tape (slot_disk writer)) plan.now }
         requires moment { D.moment (slot_disk writer) + call_count plan.now < 2 ^ 64
@@ -62,12 +61,12 @@ impl<D: Disk> LogTable<D> {
         ensures key { IfOk result (λ t. t.0.table.shared.key ≡ founding.now) }
         ensures seat { IfOk result (λ t. (t.1.me
             ≡ (first_view (founded_opening founding.now), [])) × IsSeatOn t.0 t.1) }
-        ensures settled { IfOk result (λ t. HasSettled founding.now.setup.segment_size
+        ensures settled { IfOk result (λ t. HasSettled founding.now.setup.seg_size
             (found_end (founded_opening founding.now)) founding.now.made
             (D.tape (slot_disk writer)) (began_of_table D.tape t.0)
             (D.moment (slot_disk writer)) (opening_of_table t.0).moment) }
         ensures refused { IfErr result (λ e. TellsResumeErr D.tape D.moment D.faults
-            founding.now.setup.segment_size (found_end (founded_opening founding.now))
+            founding.now.setup.seg_size (found_end (founded_opening founding.now))
             (slot_disk writer) e) }
     {
         match LogTable::waiting(alloc, words, writer, shape, founding) {
@@ -84,12 +83,11 @@ impl<D: Disk> LogTable<D> {
     ) -> Result<(LogTable<D>, LogSeat<D>), ResumeErr<D>>
         requires openable { IsOpenable (opening_of_table self) }
         // The seat waits, and nothing was called since what is fixed was told.
-        requires table { seat.table_id ≡ table_number self }
-        requires waits { seat.me ≡ (founded_view D.tape D.moment self.table.shared.key, []) }
+        requires seat { IsWaitingSeat D.tape D.moment self seat }
         requires began { B.began ≡ began_of_table D.tape self }
         requires failed { D.faults (disk_of_founding self.table.shared.key)
             ≡ (opening_of_table self).faults }
-        requires plan { IsPlanOf (opening_of_table self).setup.segment_size
+        requires plan { IsPlanOf (opening_of_table self).setup.seg_size
             (found_end (opening_of_table self)) (opening_of_table self).made
             (D.tape (disk_of_founding self.table.shared.key)) plan.now }
         requires moment { D.moment (disk_of_founding self.table.shared.key) + call_count plan.now
@@ -100,12 +98,12 @@ impl<D: Disk> LogTable<D> {
         ensures same { IfOk result (λ t. t.0 ≡ self) }
         ensures seat { IfOk result (λ t. (t.1.me
             ≡ (first_view (opening_of_table self), [])) × IsSeatOn self t.1) }
-        ensures settled { IfOk result (λ t. HasSettled (opening_of_table self).setup.segment_size
+        ensures settled { IfOk result (λ t. HasSettled (opening_of_table self).setup.seg_size
             (found_end (opening_of_table self)) (opening_of_table self).made
             (D.tape (disk_of_founding self.table.shared.key)) (began_of_table D.tape self)
             (D.moment (disk_of_founding self.table.shared.key)) (opening_of_table self).moment) }
         ensures refused { IfErr result (λ e. TellsResumeErr D.tape D.moment D.faults
-            (opening_of_table self).setup.segment_size (found_end (opening_of_table self))
+            (opening_of_table self).setup.seg_size (found_end (opening_of_table self))
             (disk_of_founding self.table.shared.key) e) }
     {
         self.take_out::<B>(&mut seat);

@@ -7,7 +7,7 @@
 // all is known to be copied. As each step (quiet.rt) these are made by a seated pass whose view
 // lets it step.
 ghost use Rattle.std.specs.Prelude.{◌≡◌, ◌<◌};
-ghost use Rattle.wal_core.specs.Steps.{load_buffer_end, load_ring_word, store_ring_word, MayStep, value_behind, word_of_step};
+ghost use Rattle.machine_state.specs.Steps.{load_buffer_end, load_ring_word, store_ring_word, MayStep, value_behind, word_of_step};
 ghost use Rattle.wal_rule.specs.Stepping.{Meets};
 ghost use Rattle.wal_rule.specs.SeatedPasses.{Steps, view_of};
 
@@ -48,8 +48,8 @@ impl<'a, D: Disk> SeatedPass<'a, D> {
         self.store_ring_word_at(self.table, place, word);
     }
 
-    /// The same, where the caller has taken the pass's table out of it: so a run of stores looks it
-    /// up once.
+    /// `store_ring_word`, where the caller has taken the pass's table out of it: so a run of stores
+    /// looks it up once.
     #[inline(always)]
     pub fn store_ring_word_at(&mut self, table: &LogTable<D>, place: usize, word: u64)
         requires table { table.now ≡ self.old.table.now }
@@ -71,7 +71,7 @@ impl<'a, D: Disk> SeatedPass<'a, D> {
         self.load_ring_word_at(self.table, k, place)
     }
 
-    /// The same, where the caller has taken the pass's table out of it.
+    /// `load_ring_word`, where the caller has taken the pass's table out of it.
     #[inline(always)]
     pub fn load_ring_word_at(&mut self, table: &LogTable<D>, k: u64, place: usize) -> u64
         requires table { table.now ≡ self.old.table.now }

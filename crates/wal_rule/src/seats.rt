@@ -7,14 +7,14 @@
 ghost use Rattle.std.specs.Prelude.{◌≡◌, ◌+◌, ◌<◌, ◌^◌};
 ghost use Rattle.flush_core.specs.Planned.{call_count};
 ghost use Rattle.wal_rule.specs.Founded.{disk_of_founding, empty_log_opening, found_log_opening, founded_opening};
-ghost use Rattle.wal_core.specs.Views.{View};
+ghost use Rattle.machine_state.specs.Views.{View};
 
 use crate::place::OrderPlace;
 use flush_core::SettlePlan;
+use machine_state::Setup;
 use segment_disk::Disk;
 use std::marker::{Model, PhantomData};
 use std::snapshot::Snapshot;
-use wal_core::Setup;
 
 /// What a pass knows and is about: the machine's view.
 #[derive(Drop)]
@@ -25,7 +25,7 @@ pub struct PassView {
 
 impl Model for PassView {
     ghost use Rattle.std.specs.Borrow.{ftrue};
-    ghost use Rattle.wal_core.specs.Views.{View};
+    ghost use Rattle.machine_state.specs.Views.{View};
 
     ghost Value = { View };
 

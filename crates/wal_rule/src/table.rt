@@ -1,12 +1,12 @@
-// The table and its rule. Its words are the machine's, with the same numbers (`Words` of wal_core):
-// the position and the last start; the insertion locks; the turns to map and to write; how far
-// pages are mapped, the log written and durable, since which moment, and whether the disk has
-// failed; the buffers' ends; the ring; and last the async address. Slot 0 has the writer.
-// PostgreSQL's xlog.c has the same in XLogCtlData and XLogCtlInsert, under spinlocks and LWLocks;
-// here a word changes in one atomic step, and between any two steps of any seats the rule holds. So
+// The table and its rule. Its words are the machine's, with the same numbers (`Words` of
+// machine_state): the position and the last start; the insertion locks; the turns to map and to
+// write; how far pages are mapped, the log written and durable, since which moment, and whether the
+// disk has failed; the buffers' ends; the ring; and last the async address. Slot 0 has the writer.
+// PostgreSQL's xlog.c has these in XLogCtlData and XLogCtlInsert, under spinlocks and LWLocks; here
+// a word changes in one atomic step, and between any two steps of any seats the rule holds. So
 // nobody has to hold a lock to load a word, and what a load tells is told by the rule.
 ghost use Rattle.std.specs.Prelude.{◌≡◌};
-ghost use Rattle.wal_core.specs.Words.{word_count};
+ghost use Rattle.machine_state.specs.Words.{word_count};
 ghost use Rattle.wal_rule.specs.Beginning.{HoldsRule, founded_view};
 ghost use Rattle.wal_rule.specs.Founded.{began_of_founding, founded_opening};
 

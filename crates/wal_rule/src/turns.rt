@@ -7,9 +7,9 @@
 // view lets it step.
 ghost use Rattle.std.specs.Prelude.{◌≡◌, ◌≢◌, ℕ, true, false, []};
 ghost use mathlib.Core.Option.{none};
-ghost use Rattle.wal_core.specs.Steps.{release_write_turn, slot_in, slot_out, take_write_turn, view_behind, MayStep};
+ghost use Rattle.machine_state.specs.Steps.{release_write_turn, slot_in, slot_out, take_write_turn, view_behind, MayStep};
 ghost use Rattle.wal_rule.specs.Ruled.{HasInHand, HasTaken, IsOutOf};
-ghost use Rattle.wal_core.specs.Views.{Lent};
+ghost use Rattle.machine_state.specs.Views.{Lent};
 ghost use Rattle.wal_rule.specs.Stepping.{Meets};
 ghost use Rattle.wal_rule.specs.SeatedPasses.{Steps, began_of, hand_of, opening_of, view_of};
 
@@ -56,7 +56,7 @@ impl<'a, D: Disk> SeatedPass<'a, D> {
         self.slot_out_on::<Brand>();
     }
 
-    // The same, with the tape at the opening picked for the proof.
+    // Takes the writer out of its slot, with the tape at the opening picked for the proof.
     fn slot_out_on<B: BeganOn>(&mut self)
         requires may { MayStep (view_of self.old) slot_out }
         requires began { B.began ≡ began_of D.tape self.old }

@@ -9,10 +9,10 @@
 // is ended, and the disk comes back as it is (`end_unbegun`).
 ghost use Rattle.std.specs.Prelude.{◌≡◌, [], ◌∷◌, IfErr, IfOk};
 ghost use Rattle.segment_disk.specs.Tape.{IsUncalled};
-ghost use Rattle.wal_core.specs.Opened.{AreFirstWords, IsOpenable, first_view};
-ghost use Rattle.wal_rule.specs.Beginning.{IsUnbegunWriter, IsUncalledWriter, founded_view, reading_view, waiting_view};
+ghost use Rattle.machine_state.specs.Opened.{AreFirstWords, IsOpenable, first_view};
+ghost use Rattle.wal_rule.specs.Beginning.{IsUnbegunWriter, IsUncalledWriter, reading_view, waiting_view};
 ghost use Rattle.wal_rule.specs.Founded.{founded_opening};
-ghost use Rattle.wal_rule.specs.Opening.{IsAsFounded, IsUnsettledWriter};
+ghost use Rattle.wal_rule.specs.Opening.{IsAsFounded, IsUnsettledWriter, IsWaitingSeat};
 ghost use Rattle.wal_rule.specs.Slotted.{slot_disk, slot_plain};
 ghost use Rattle.wal_rule.specs.Tables.{IsSeatOn, began_of_table, opening_of_table, table_number};
 
@@ -39,9 +39,7 @@ impl<D: Disk> LogTable<D> {
         requires words { AreFirstWords (founded_opening founding.now) words.now }
         requires writer { IsUnsettledWriter D.tape D.moment D.faults founding.now writer }
         ensures key { IfOk result (λ t. t.0.table.shared.key ≡ founding.now) }
-        ensures table { IfOk result (λ t. t.1.table_id ≡ table_number t.0) }
-        ensures waits { IfOk result (λ t. t.1.me
-            ≡ (founded_view D.tape D.moment t.0.table.shared.key, [])) }
+        ensures seat { IfOk result (λ t. IsWaitingSeat D.tape D.moment t.0 t.1) }
         ensures refused { IfErr result (λ disk. disk ≡ slot_disk writer) }
     {
         let mut slots = Vec::new(alloc);
@@ -58,9 +56,7 @@ impl<D: Disk> LogTable<D> {
 
     /// Takes the writer of a new table in hand: its disk is as it was handed in.
     pub(crate) fn take_out<B: BeganOn>(&self, seat: &mut LogSeat<D>)
-        requires table { seat.old.table_id ≡ table_number self.now }
-        requires waits { seat.old.me
-            ≡ (founded_view D.tape D.moment self.now.table.shared.key, []) }
+        requires seat { IsWaitingSeat D.tape D.moment self.now seat.old }
         requires began { B.began ≡ began_of_table D.tape self.now }
         ensures table { seat.new.table_id ≡ table_number self.now }
         ensures out { (w : _)

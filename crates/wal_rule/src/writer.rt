@@ -12,13 +12,13 @@ ghost use Rattle.flush_core.specs.Planned.{IsPlanOf, call_count};
 ghost use Rattle.flush_core.specs.Settled.{HasNotSettled, HasSettled};
 ghost use Rattle.segment_disk.specs.Cause.{HasCause};
 ghost use Rattle.segment_disk.specs.Tape.{IsUncalled, create_call, page_of_segment, state_now, sync_call, write_call};
-ghost use Rattle.wal_core.specs.declared.setup.Setup.{Setup};
-ghost use Rattle.wal_core.specs.Moves.{after_create, after_sync, after_write};
-ghost use Rattle.wal_core.specs.Opened.{IsFirstWriter};
+ghost use Rattle.machine_state.specs.declared.setup.Setup.{Setup};
+ghost use Rattle.machine_state.specs.Moves.{after_create, after_sync, after_write};
+ghost use Rattle.machine_state.specs.Opened.{IsFirstWriter};
 ghost use Rattle.wal_rule.specs.Founded.{empty_log_opening};
 ghost use Rattle.wal_rule.specs.Slotted.{calls_of, CallEnds, as_machine_has, resting_plain, slot_disk, slot_plain, slot_segment_size};
 
-use byte_position::{Geometry, PAGE_SIZE};
+use byte_position::{Geometry, PAGE_SIZE, Page};
 use flush_core::{DiskFault, SettlePlan};
 use segment_disk::{Disk, Failed};
 
@@ -44,7 +44,7 @@ impl<D: Disk> LogWriter<D> {
     pub fn new(disk: D, geometry: Geometry) -> LogWriter<D>
         ensures disk { slot_disk result ≡ disk }
         ensures size { slot_segment_size result ≡ geometry }
-        ensures first { (setup : Setup) → setup.segment_size ≡ geometry
+        ensures first { (setup : Setup) → setup.seg_size ≡ geometry
             → IsFirstWriter (empty_log_opening setup (D.moment disk) (D.faults disk))
             (slot_plain D.tape D.moment result) }
     {
@@ -142,7 +142,7 @@ impl<D: Disk> LogWriter<D> {
         segment: u64,
         page: u32,
         upto: u64,
-        bytes: &[u8; PAGE_SIZE as usize],
+        bytes: &Page,
     ) -> Result<(), DiskFault>
         requires segment { segment < 2 ^ 64 / slot_segment_size self.old }
         requires page { page < pages_of (slot_segment_size self.old) }

@@ -14,11 +14,11 @@ use Rattle.byte_position.proofs.PagesTimes.{address_of-page_start_times}
 use Rattle.byte_position.proofs.Rising.{address_of-mono, lt-position_of, position_of-mono}
 use Rattle.byte_position.proofs.SegmentSizes.{segment_size_in_pages}
 use Rattle.byte_position.proofs.Words.{address_of-in_word, address_of-mod_word}
-use Rattle.record_spelling.specs.Numbers.{number_at}
-use Rattle.record_spelling.specs.Record.{is_switch}
-use Rattle.record_decode.specs.Reading.{reading_of}
-use Rattle.record_decode.specs.declared.fault.RecErr.{RecErr}
-use Rattle.record_decode.specs.declared.fault.RecErr.TheVariants.{Memory, Malformed, Compressed}
+use Rattle.wal_spelling.specs.Numbers.{number_at}
+use Rattle.wal_spelling.specs.Record.{is_switch}
+use Rattle.wal_record.specs.Reading.{reading_of}
+use Rattle.wal_record.specs.declared.fault.RecErr.{RecErr}
+use Rattle.wal_record.specs.declared.fault.RecErr.TheVariants.{Memory, Malformed, Compressed}
 use Rattle.wal_types.specs.declared.lsn.Lsn.{Lsn}
 use Rattle.wal_types.specs.declared.record.Record.{Record}
 use Rattle.wal_page.specs.Order.{next_segment}
@@ -38,7 +38,7 @@ use Rattle.wal_reader.proofs.PagesLaws.{take-bytes_from}
 use Rattle.wal_reader.proofs.ReadAtLaws.{reads_records, records_computed}
 use Rattle.wal_reader.proofs.RowLaws.{first_fault-append, first_of, number_at-take}
 use Rattle.wal_reader.proofs.SettledLaws.{passes_both, size-passed, size_in_header, total_of}
-use Rattle.written_log.proofs.AgreeingLaws.{cases_Option, same_place}
+use Rattle.written_log_laws.proofs.AgreeingLaws.{cases_Option, same_place}
 
 -- ---- rows that tell no end
 

@@ -26,7 +26,7 @@ use Rattle.wal_reader.specs.declared.standing.Standing.{Standing}
 use Rattle.wal_reader.specs.declared.standing.Standing.TheVariants as standings
 use Rattle.wal_reader.specs.declared.standing.Step.{Step}
 use Rattle.wal_reader.specs.declared.standing.Step.TheVariants.{End}
-use Rattle.written_log.specs.FoundLog.{end_behind}
+use Rattle.written_log_laws.specs.FoundLog.{end_behind}
 use Rattle.wal_stream.specs.Sending.{EndsAt, IsListRead, IsWordEnd}
 
 -- a reader from segment 1's start on, before it has begun

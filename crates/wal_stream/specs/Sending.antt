@@ -12,7 +12,7 @@ use Rattle.wal_reader.specs.declared.found.Stopped.{Stopped as LogStop}
 use Rattle.wal_reader.specs.declared.standing.ReadErr.{ReadErr}
 use Rattle.wal_reader.specs.declared.standing.ReadErr.TheVariants as reading
 use Rattle.wal_reader.specs.Standings.{HasReadCause}
-use Rattle.written_log.specs.FoundLog.{end_behind}
+use Rattle.written_log_laws.specs.FoundLog.{end_behind}
 use Rattle.wal_stream.specs.declared.fault.SendErr.{SendErr}
 use Rattle.wal_stream.specs.declared.fault.SendErr.TheVariants.{Read, Sink}
 use Rattle.wal_stream.specs.SentFrames.{frames_between, page_read}

@@ -9,7 +9,7 @@ ghost use Rattle.wal_stream.specs.SentFrames.{frame_count, page_read};
 
 use crate::fault::SendErr;
 use crate::framing::{FRAME_SIZE, frame};
-use byte_position::{Geometry, PAGE_SIZE};
+use byte_position::{Geometry, PAGE_SIZE, Page};
 use segment_disk::{Disk, Failed, Sink};
 use wal_reader::ReadErr;
 use wal_types::Lsn;
@@ -32,7 +32,7 @@ fn read_page<D: Disk>(
     disk: &mut D,
     geometry: Geometry,
     number: u64,
-    page: &mut [u8; 8192],
+    page: &mut Page,
 ) -> Result<(), Failed>
     requires { number * 8192 < 2 ^ 63 }
     ensures reads { OnOk result (IfSome (D.tape disk.old)
@@ -63,7 +63,7 @@ fn put_frame<D: Disk, O: Sink>(
     geometry: Geometry,
     number: u64,
     end: Lsn,
-    page: &mut [u8; 8192],
+    page: &mut Page,
     bytes: &mut [u8; FRAME_SIZE],
     out: &mut O,
 ) -> Result<(), SendErr>
@@ -92,7 +92,7 @@ pub(crate) fn put_frames<D: Disk, O: Sink>(
     geometry: Geometry,
     from: Lsn,
     end: Lsn,
-    page: &mut [u8; 8192],
+    page: &mut Page,
     out: &mut O,
 ) -> Result<u64, SendErr>
     requires { IsWordEnd end.0 }

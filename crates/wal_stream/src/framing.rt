@@ -2,14 +2,13 @@
 // and has a checksum of its own (PostgreSQL's walsender.c sends stretches of the log over a
 // connection that keeps them whole and in order).
 ghost use Rattle.std.specs.Prelude.{◌≡◌, ◌+◌, ◌*◌, ◌%◌, ◌^◌, ◌<◌, ◌≤◌, ◌↔◌, All, IfNone, IfSome, IsTrue, length};
-ghost use Rattle.std.specs.Int.{w64};
 ghost use Rattle.flush_core.specs.Settled.{cleared};
-ghost use Rattle.record_spelling.specs.Numbers.{number_at};
 ghost use Rattle.wal_stream.specs.Frame.{EndsInPage, IsFrame, SentPage, frame_bytes, frame_fields, frame_head, sent_upto};
 
-use byte_position::{Geometry, PAGE_SIZE, WORD};
+use byte_position::{Geometry, PAGE_SIZE, Page, WORD};
 use std::marker::Model;
 use wal_crc32c::Crc;
+use wal_spelling::numbers::u64_at;
 use wal_types::Lsn;
 
 /// The bytes of a frame.
@@ -20,9 +19,11 @@ const MAGIC: [u8; 4] = *b"WALF";
 // The bytes before the page; the checksum is of what stands behind it.
 const HEAD_SIZE: usize = 32;
 
-const ADDRESS_AT: usize = 8;
+// Where a frame's head names its page's address.
+const FRAME_ADDRESS_AT: usize = 8;
 
-const UPTO_AT: usize = 16;
+// Where it names up to where the page is sent.
+const FRAME_UPTO_AT: usize = 16;
 
 /// A page that came in a frame. Contracts see it as a `SentPage`, whose words below `upto` are
 /// sent, and behind them are zeros.
@@ -30,7 +31,7 @@ const UPTO_AT: usize = 16;
 pub struct FramedPage<'a> {
     page: u64,
     upto: Lsn,
-    bytes: &'a [u8; 8192],
+    bytes: &'a Page,
 }
 
 impl<'a> Model for FramedPage<'a> {
@@ -63,7 +64,7 @@ impl<'a> FramedPage<'a> {
     }
 
     /// Its bytes: zeros from there on.
-    pub fn bytes(&self) -> &'a [u8; 8192]
+    pub fn bytes(&self) -> &'a Page
         ensures { result.now ≡ self.now.bytes }
     {
         self.bytes
@@ -81,8 +82,8 @@ impl<'a> FramedPage<'a> {
         let Some(page_bytes) = rest.as_array::<8192>() else {
             return None;
         };
-        let address = u64_at(head, ADDRESS_AT);
-        let upto = u64_at(head, UPTO_AT);
+        let address = u64_at(head, FRAME_ADDRESS_AT);
+        let upto = u64_at(head, FRAME_UPTO_AT);
         if !ends_in_page(address, upto) {
             return None;
         }
@@ -104,13 +105,7 @@ impl<'a> FramedPage<'a> {
 
 /// Makes the frame of a page that is sent up to an address: the end of one of its words. What
 /// stands in the page behind it is not sent.
-pub fn frame(
-    geometry: Geometry,
-    page: u64,
-    upto: Lsn,
-    bytes: &[u8; 8192],
-    into: &mut [u8; FRAME_SIZE],
-)
+pub fn frame(geometry: Geometry, page: u64, upto: Lsn, bytes: &Page, into: &mut [u8; FRAME_SIZE])
     requires { EndsInPage page upto.0 }
     ensures { into.new ≡ frame_bytes geometry (sent_upto page upto.0 bytes.now) }
 {
@@ -121,7 +116,7 @@ pub fn frame(
 }
 
 // Puts a page's first bytes, and zeros behind.
-fn put_front(into: &mut [u8], bytes: &[u8; 8192], count: usize)
+fn put_front(into: &mut [u8], bytes: &Page, count: usize)
     requires room { length into.old ≡ 8192 }
     requires count { count ≤ 8192 }
     ensures { into.new ≡ cleared count bytes.now }
@@ -170,20 +165,4 @@ fn are_zeros(bytes: &[u8]) -> bool
     ensures { IsTrue result ↔ All (λ b. b ≡ 0) bytes.now }
 {
     bytes.iter().all(|&byte| byte == 0)
-}
-
-fn u64_at(head: &[u8; HEAD_SIZE], at: usize) -> u64
-    requires { at + 8 ≤ 32 }
-    ensures { result ≡ number_at w64 head.now at }
-{
-    u64::from_le_bytes([
-        head[at],
-        head[at + 1],
-        head[at + 2],
-        head[at + 3],
-        head[at + 4],
-        head[at + 5],
-        head[at + 6],
-        head[at + 7],
-    ])
 }

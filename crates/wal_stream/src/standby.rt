@@ -6,7 +6,7 @@ ghost use Rattle.flush_core.specs.Writer.{writer_segment_size};
 mod accepting;
 mod opening;
 
-use byte_position::Geometry;
+use byte_position::{Geometry, Page};
 use flush_core::Writer;
 pub use opening::StandbyFault;
 
@@ -21,6 +21,6 @@ pub struct Standby<D> {
     /// The last segment that it may have.
     cap: u32,
     /// The page in which its log ends: the words below the end are the log's.
-    page: Box<[u8; 8192]>,
+    page: Box<Page>,
     ghost sized: { writer_segment_size writer ≡ geometry },
 }

@@ -5,7 +5,7 @@ ghost use Rattle.std.specs.Prelude.{OnErr, OnOk};
 ghost use Rattle.segment_disk.specs.Cause.{HasCause};
 ghost use Rattle.wal_stream.specs.Synced.{HasNotSynced, HasSynced};
 
-use byte_position::Geometry;
+use byte_position::{Geometry, Page};
 use flush_core::{count_segments, sync_first};
 use segment_disk::{Disk, Failed};
 
@@ -13,7 +13,7 @@ use segment_disk::{Disk, Failed};
 pub(crate) fn sync_log<D: Disk>(
     disk: &mut D,
     geometry: Geometry,
-    page: &mut [u8; 8192],
+    page: &mut Page,
 ) -> Result<(), Failed>
     ensures synced { OnOk result (HasSynced geometry (D.tape disk.old) (D.tape disk.new)
         (D.moment disk.old) (D.moment disk.new)) }

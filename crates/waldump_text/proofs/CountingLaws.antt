@@ -21,9 +21,9 @@ use Rattle.wal_reader.specs.declared.standing.Step.{Step}
 use Rattle.wal_reader.specs.declared.standing.Step.TheVariants.{End}
 use Rattle.wal_reader.specs.Standings.{given_as}
 use Rattle.wal_reader.proofs.SettledLaws.{gives_something}
-use Rattle.listing_filter.specs.declared.Filter.{Filter}
-use Rattle.listing_filter.specs.declared.listed.Listed.{Listed}
-use Rattle.listing_filter.specs.Keeping.{is_reached, keeps}
+use Rattle.waldump_filter.specs.declared.Filter.{Filter}
+use Rattle.waldump_filter.specs.declared.listed.Listed.{Listed}
+use Rattle.waldump_filter.specs.Keeping.{is_reached, keeps}
 use Rattle.waldump_text.specs.Counting.{IsTally}
 use Rattle.waldump_text.specs.Listing.{kept_by, listed_by, listed_of}
 use Rattle.waldump_text.specs.Tally.{TallyFits, Tallies}

@@ -23,8 +23,8 @@ use Rattle.wal_reader.specs.declared.standing.Standing.TheVariants.{NotBegun}
 use Rattle.wal_reader.specs.Settled.{IsSettled}
 use Rattle.wal_reader.specs.Standings.{given_as}
 use Rattle.wal_reader.proofs.SettledLaws.{decoding_is_settled, gives_something}
-use Rattle.listing_filter.specs.declared.Filter.{Filter}
-use Rattle.listing_filter.specs.Keeping.{is_reached}
+use Rattle.waldump_filter.specs.declared.Filter.{Filter}
+use Rattle.waldump_filter.specs.Keeping.{is_reached}
 use Rattle.waldump_text.specs.Dump.{DecodesOnDisk, IsAllRead, IsDump, ListsFrontInReading, PutsFront}
 use Rattle.waldump_text.specs.Listing.{kept_by, listing, listing_in_reading}
 use Rattle.waldump_text.specs.declared.dumping.DumpErr.TheVariants as errors

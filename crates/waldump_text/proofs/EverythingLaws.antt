@@ -2,8 +2,8 @@
 use Rattle.std.proofs.Common.{◌≡◌, Bool, true, false, cond, List, [], ◌∷◌, filter, nat_le, refl, ap, sym, ◌∙◌}
 use Rattle.wal_types.specs.declared.lsn.Lsn.{Lsn}
 use Rattle.wal_reader.specs.declared.found.FoundRecord.{FoundRecord}
-use Rattle.listing_filter.specs.Keeping.{everything_from, keeps}
-use Rattle.listing_filter.proofs.KeepingLaws.{everything_from-keeps}
+use Rattle.waldump_filter.specs.Keeping.{everything_from, keeps}
+use Rattle.waldump_filter.proofs.KeepingLaws.{everything_from-keeps}
 use Rattle.waldump_text.specs.Everything.{EverythingIsListed}
 use Rattle.waldump_text.specs.Listing.{kept_by, line_texts, listed_of}
 

@@ -12,8 +12,8 @@ use Rattle.wal_reader.specs.LogReader.{ReaderState, GivesRecords, IsNext}
 use Rattle.wal_reader.specs.Pages.{Pages}
 use Rattle.wal_reader.specs.declared.found.FoundRecord.{FoundRecord}
 use Rattle.wal_reader.specs.declared.found.Answer.{Answer}
-use Rattle.listing_filter.specs.declared.Filter.{Filter}
-use Rattle.listing_filter.specs.Keeping.{is_reached, keeps}
+use Rattle.waldump_filter.specs.declared.Filter.{Filter}
+use Rattle.waldump_filter.specs.Keeping.{is_reached, keeps}
 use Rattle.waldump_text.specs.Listing.{IsLimitListed, kept_by, line_text, line_texts, listed_by, listed_of, listing, listing_in_reading, up_to}
 use Rattle.waldump_text.specs.Put.{HasPut}
 use Rattle.waldump_text.proofs.SinkLaws.{HasPut-front, HasPut-front_of_next, with_behind-append, with_behind-nil}

@@ -12,9 +12,9 @@ use Rattle.wal_reader.specs.declared.standing.Comes.{Comes}
 use Rattle.wal_reader.specs.declared.standing.Comes.TheVariants as coming
 use Rattle.wal_reader.specs.declared.standing.Step.{Step}
 use Rattle.wal_reader.specs.declared.standing.Step.TheVariants as steps
-use Rattle.listing_filter.specs.declared.Filter.{Filter}
-use Rattle.listing_filter.specs.declared.listed.Listed.{Listed}
-use Rattle.listing_filter.specs.Keeping.{is_reached, keeps}
+use Rattle.waldump_filter.specs.declared.Filter.{Filter}
+use Rattle.waldump_filter.specs.declared.listed.Listed.{Listed}
+use Rattle.waldump_filter.specs.Keeping.{is_reached, keeps}
 use Rattle.waldump_text.specs.Listing.{line_text, listed_in, listed_of}
 use Rattle.waldump_text.proofs.ListingLaws.{IsWithin, Prints, Prints-kept, Prints-passed_over}
 use Rattle.waldump_text.proofs.SinkLaws.{with_behind-nil}

@@ -6,14 +6,14 @@ use Rattle.std.proofs.lemmas.List.Sums.{sum_by-cons}
 use Rattle.wal_types.specs.declared.record.Block.{Block}
 use Rattle.wal_types.specs.declared.record.Record.{Record}
 use Rattle.wal_types.specs.declared.record.Xid.{Xid}
-use Rattle.record_spelling.specs.Spelling.{image_bytes}
-use Rattle.record_decode.specs.declared.head.BlockHead.{BlockHead}
-use Rattle.record_decode.specs.declared.head.ImageHead.{ImageHead}
-use Rattle.record_decode.specs.declared.fault.RecErr.{RecErr}
-use Rattle.record_decode.specs.Reading.{HeadersRead, block_of, blocks_read, image_len, image_read, payload_len, record_of}
-use Rattle.listing_filter.specs.declared.Filter.{Filter}
-use Rattle.listing_filter.specs.declared.listed.Listed.{Listed}
-use Rattle.listing_filter.specs.Keeping.{asks_for_block, has_page_image, is_none_or, keeps, meets_block, meets_place, meets_rules}
+use Rattle.wal_spelling.specs.Spelling.{image_bytes}
+use Rattle.wal_record.specs.declared.head.BlockHead.{BlockHead}
+use Rattle.wal_record.specs.declared.head.ImageHead.{ImageHead}
+use Rattle.wal_record.specs.declared.fault.RecErr.{RecErr}
+use Rattle.wal_record.specs.Reading.{HeadersRead, block_of, blocks_read, image_len, image_read, payload_len, record_of}
+use Rattle.waldump_filter.specs.declared.Filter.{Filter}
+use Rattle.waldump_filter.specs.declared.listed.Listed.{Listed}
+use Rattle.waldump_filter.specs.Keeping.{asks_for_block, has_page_image, is_none_or, keeps, meets_block, meets_place, meets_rules}
 use Rattle.waldump_text.specs.Sifting.{held_of, images_by_heads, listed_with, meets_by_heads}
 use Rattle.waldump_text.specs.Sums.{images_len}
 use Rattle.waldump_text.specs.declared.steps.ListedHead.{ListedHead}

@@ -1,6 +1,6 @@
 -- A record that was read has a line.
 use Rattle.std.proofs.Common.{arith}
-use Rattle.record_decode.proofs.SpelledBlocks.{forks_spelled, images_spelled}
+use Rattle.wal_record.proofs.SpelledBlocks.{forks_spelled, images_spelled}
 use Rattle.wal_reader.specs.declared.found.FoundRecord.{FoundRecord}
 use Rattle.wal_reader.specs.Spelled.{IsSpelled}
 use Rattle.waldump_text.specs.Listing.{IsListable, listed_of}

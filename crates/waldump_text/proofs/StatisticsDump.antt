@@ -8,7 +8,7 @@ use Rattle.segment_disk.specs.Tape.{Tape}
 use Rattle.wal_reader.specs.declared.found.FoundRecord.{FoundRecord}
 use Rattle.wal_reader.specs.declared.standing.ReadErr.{ReadErr}
 use Rattle.wal_reader.specs.declared.standing.ReadErr.TheVariants.{Memory, Disk, Stopped}
-use Rattle.listing_filter.specs.declared.Filter.{Filter}
+use Rattle.waldump_filter.specs.declared.Filter.{Filter}
 use Rattle.waldump_text.specs.Counting.{IsTally}
 use Rattle.waldump_text.specs.Dump.{IsDump}
 use Rattle.waldump_text.specs.Listing.{listed_by, listed_of, listing, listing_in_reading}

@@ -1,6 +1,6 @@
 -- The lines of managers, one after another.
 use Rattle.std.proofs.Common.{◌≡◌, ℕ, zero, suc, ◌+◌, ◌-◌, ◌<◌, ◌≤◌, List, [], ◌++◌, refl, ap, ◌∙◌, append_assoc, arith}
-use Rattle.listing_filter.specs.declared.listed.Listed.{Listed}
+use Rattle.waldump_filter.specs.declared.listed.Listed.{Listed}
 use Rattle.waldump_text.specs.Statistics.{manager_line, manager_lines, stats_text, total_line}
 use Rattle.waldump_text.specs.Sums.{of_manager, sums_of}
 use Rattle.waldump_text.specs.Tally.{Tallies, own_sums, tally_text}

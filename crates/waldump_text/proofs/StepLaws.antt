@@ -10,7 +10,7 @@ use Rattle.wal_reader.specs.declared.standing.Comes.{Comes}
 use Rattle.wal_reader.specs.declared.standing.Comes.TheVariants as coming
 use Rattle.wal_reader.specs.declared.standing.Step.{Step}
 use Rattle.wal_reader.specs.declared.standing.Step.TheVariants as steps
-use Rattle.listing_filter.specs.declared.listed.Listed.{Listed}
+use Rattle.waldump_filter.specs.declared.listed.Listed.{Listed}
 use Rattle.waldump_text.specs.Listing.{listed_in, listed_of}
 use Rattle.waldump_text.specs.Sifting.{listed_with}
 use Rattle.waldump_text.specs.declared.steps.ListedHead.{ListedHead}

@@ -4,8 +4,8 @@ use Rattle.std.proofs.lemmas.Bool.{cases_order, eq-eqb, ne_eqb}
 use Rattle.std.proofs.lemmas.List.{append-nil, get_or-set_other, get_or-set_same, length-append, length-replicate, length-set}
 use Rattle.std.proofs.lemmas.List.Elements.{filter-append}
 use Rattle.std.proofs.lemmas.List.Sums.{sum_by-append}
-use Rattle.listing_filter.specs.declared.listed.Listed.{Listed}
-use Rattle.record_spelling.specs.Record.{is_free_manager}
+use Rattle.waldump_filter.specs.declared.listed.Listed.{Listed}
+use Rattle.wal_spelling.specs.Record.{is_free_manager}
 use Rattle.waldump_text.specs.Sums.{images_len, no_sums, of_manager, sums_of}
 use Rattle.waldump_text.specs.Tally.{SumsFit, TallyFits, Tallies, own_sums}
 use Rattle.waldump_text.specs.declared.sums.Sums.{Sums}

@@ -8,7 +8,7 @@ use Rattle.wal_reader.specs.declared.found.Stopped.{Stopped as LogStop}
 use Rattle.wal_reader.specs.declared.standing.ReadErr.{ReadErr}
 use Rattle.wal_reader.specs.declared.standing.ReadErr.TheVariants as reading
 use Rattle.wal_reader.specs.Standings.{HasReadCause}
-use Rattle.listing_filter.specs.declared.Filter.{Filter}
+use Rattle.waldump_filter.specs.declared.Filter.{Filter}
 use Rattle.waldump_text.specs.Dump.{DecodesOnDisk, IsAllRead}
 use Rattle.waldump_text.specs.Listing.{IsLimitListed, listed_by, listed_of}
 use Rattle.waldump_text.specs.Tally.{Tallies}

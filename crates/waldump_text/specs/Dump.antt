@@ -11,7 +11,7 @@ use Rattle.wal_reader.specs.declared.found.Answer.TheVariants as answers
 use Rattle.wal_reader.specs.declared.found.Stopped.{Stopped as LogStop}
 use Rattle.wal_reader.specs.declared.standing.ReadErr.TheVariants as reading
 use Rattle.wal_reader.specs.Standings.{HasReadCause}
-use Rattle.listing_filter.specs.declared.Filter.{Filter}
+use Rattle.waldump_filter.specs.declared.Filter.{Filter}
 use Rattle.waldump_text.specs.Listing.{IsLimitListed, listed_by, listing, listing_in_reading}
 use Rattle.waldump_text.specs.declared.dumping.DumpErr.{DumpErr}
 use Rattle.waldump_text.specs.declared.dumping.DumpErr.TheVariants.{Read, Sink}

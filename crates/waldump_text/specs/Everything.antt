@@ -5,7 +5,7 @@ use Rattle.wal_reader.specs.Decodes.{Decodes}
 use Rattle.wal_reader.specs.Pages.{Pages}
 use Rattle.wal_reader.specs.declared.found.FoundRecord.{FoundRecord}
 use Rattle.wal_reader.specs.declared.found.Answer.{Answer}
-use Rattle.listing_filter.specs.Keeping.{everything_from}
+use Rattle.waldump_filter.specs.Keeping.{everything_from}
 use Rattle.waldump_text.specs.Listing.{IsLimitListed, line_texts, listed_by, listing}
 
 -- by the filter that keeps everything from an address on, all that pages decode to from there on is

@@ -10,17 +10,17 @@ use Rattle.wal_types.specs.declared.record.Image.{Image}
 use Rattle.wal_types.specs.declared.record.Record.{Record}
 use Rattle.wal_types.specs.declared.record.Rel.{Rel}
 use Rattle.waldump_text.specs.TimeText.{time_text}
-use Rattle.record_spelling.specs.Record.{is_free_manager}
+use Rattle.wal_spelling.specs.Record.{is_free_manager}
 use Rattle.wal_reader.specs.declared.found.FoundRecord.{FoundRecord}
 use Rattle.wal_reader.specs.declared.standing.Step.{Step}
 use Rattle.wal_reader.specs.declared.standing.Step.TheVariants as steps
-use Rattle.listing_filter.specs.declared.Filter.{Filter}
-use Rattle.listing_filter.specs.declared.listed.Listed.{Listed}
-use Rattle.listing_filter.specs.Keeping.{keeps}
+use Rattle.waldump_filter.specs.declared.Filter.{Filter}
+use Rattle.waldump_filter.specs.declared.listed.Listed.{Listed}
+use Rattle.waldump_filter.specs.Keeping.{keeps}
 use Rattle.waldump_text.specs.Put.{joined, padded_left, padded_right}
 use Rattle.waldump_text.specs.Sums.{images_len}
 use Rattle.waldump_text.specs.Statistics.{stats_text}
-use Rattle.listing_filter.specs.Names.{fork_names}
+use Rattle.waldump_filter.specs.Names.{fork_names}
 use Rattle.waldump_text.specs.Names.{manager_name, record_word, hexadecimal}
 
 -- the main data in hexadecimal, or `-` for none

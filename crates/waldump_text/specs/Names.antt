@@ -1,7 +1,7 @@
 -- The names that the listing has for managers and records (PostgreSQL's rmgrlist.h and xactdesc.c).
 use Rattle.std.specs.Prelude.{ℕ, ◌+◌, ◌/◌, ◌%◌, List, [], ◌∷◌, ◌++◌, codes, length, slice_index_or, ◌==◌, nat_lt, if◌then◌else◌}
 use Rattle.waldump_text.specs.Digits.{digit_at}
-use Rattle.listing_filter.specs.Names.{manager_names}
+use Rattle.waldump_filter.specs.Names.{manager_names}
 use Rattle.waldump_text.specs.declared.names.ManagerName.{ManagerName}
 use Rattle.waldump_text.specs.declared.names.ManagerName.TheVariants.{Own, Custom}
 use Rattle.waldump_text.specs.declared.names.RecordWord.{RecordWord}

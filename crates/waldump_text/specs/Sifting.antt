@@ -3,13 +3,13 @@ use Rattle.std.specs.Prelude.{ℕ, Bool, ◌&&◌, ◌||◌, not, is_some, List,
 use Rattle.std.specs.Int.{w32}
 use Rattle.std.specs.List.{list_any, sum_by}
 use Rattle.wal_types.specs.declared.record.Record.{Record}
-use Rattle.record_spelling.specs.Layout.{manager_offset, xid_offset}
-use Rattle.record_spelling.specs.Numbers.{number_at}
-use Rattle.record_decode.specs.declared.head.BlockHead.{BlockHead}
-use Rattle.record_decode.specs.Reading.{image_len}
-use Rattle.listing_filter.specs.declared.Filter.{Filter}
-use Rattle.listing_filter.specs.declared.listed.Listed.{Listed}
-use Rattle.listing_filter.specs.Keeping.{asks_for_block, meets_header, meets_place}
+use Rattle.wal_spelling.specs.Layout.{manager_offset, xid_offset}
+use Rattle.wal_spelling.specs.Numbers.{number_at}
+use Rattle.wal_record.specs.declared.head.BlockHead.{BlockHead}
+use Rattle.wal_record.specs.Reading.{image_len}
+use Rattle.waldump_filter.specs.declared.Filter.{Filter}
+use Rattle.waldump_filter.specs.declared.listed.Listed.{Listed}
+use Rattle.waldump_filter.specs.Keeping.{asks_for_block, meets_header, meets_place}
 use Rattle.waldump_text.specs.declared.steps.ListedHead.{ListedHead}
 
 -- whether a record meets all rules beside the start, by its bytes and the heads of its blocks

@@ -1,7 +1,7 @@
 -- The statistics of records: a line for each manager that wrote one, and a line for all.
 use Rattle.std.specs.Prelude.{ℕ, zero, suc, ◌+◌, ◌-◌, List, [], ◌∷◌, ◌++◌, codes, ◌==◌, if◌then◌else◌}
 use Rattle.std.specs.Fmt.{decimal}
-use Rattle.listing_filter.specs.declared.listed.Listed.{Listed}
+use Rattle.waldump_filter.specs.declared.listed.Listed.{Listed}
 use Rattle.waldump_text.specs.Names.{manager_name}
 use Rattle.waldump_text.specs.Put.{joined, padded_right}
 use Rattle.waldump_text.specs.Sums.{of_manager, sums_of}

@@ -1,8 +1,8 @@
 -- What records add up to.
 use Rattle.std.specs.Prelude.{ℕ, List, filter, length, sum_by, ◌==◌}
 use Rattle.wal_types.specs.declared.record.Block.{Block}
-use Rattle.record_spelling.specs.Spelling.{image_bytes}
-use Rattle.listing_filter.specs.declared.listed.Listed.{Listed}
+use Rattle.wal_spelling.specs.Spelling.{image_bytes}
+use Rattle.waldump_filter.specs.declared.listed.Listed.{Listed}
 use Rattle.waldump_text.specs.declared.sums.Sums.{Sums}
 
 -- how many bytes the images of blocks have together

@@ -1,7 +1,7 @@
 -- A tally of records, manager by manager.
 use Rattle.std.specs.Prelude.{◌≡◌, ℕ, ◌*◌, ◌<◌, ◌≤◌, ◌^◌, IsTrue, not, List, length, slice_index_or}
-use Rattle.listing_filter.specs.declared.listed.Listed.{Listed}
-use Rattle.record_spelling.specs.Record.{is_free_manager}
+use Rattle.waldump_filter.specs.declared.listed.Listed.{Listed}
+use Rattle.wal_spelling.specs.Record.{is_free_manager}
 use Rattle.waldump_text.specs.Statistics.{lines_of_sums}
 use Rattle.waldump_text.specs.Sums.{no_sums, of_manager, sums_of}
 use Rattle.waldump_text.specs.declared.sums.Sums.{Sums}

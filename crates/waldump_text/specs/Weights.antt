@@ -1,8 +1,8 @@
 -- What a record adds to statistics.
 use Rattle.std.specs.Prelude.{◌≡◌, true, false, Option, Some, None}
-use Rattle.listing_filter.specs.declared.Filter.{Filter}
-use Rattle.listing_filter.specs.declared.listed.Listed.{Listed}
-use Rattle.listing_filter.specs.Keeping.{keeps}
+use Rattle.waldump_filter.specs.declared.Filter.{Filter}
+use Rattle.waldump_filter.specs.declared.listed.Listed.{Listed}
+use Rattle.waldump_filter.specs.Keeping.{keeps}
 use Rattle.waldump_text.specs.Sums.{images_len}
 use Rattle.waldump_text.specs.declared.weighing.Weight.{Weight}
 

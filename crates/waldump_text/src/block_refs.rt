@@ -1,7 +1,7 @@
 //! The block references of a line (PostgreSQL's xlogdesc.c, XLogRecGetBlockRefInfo).
 
 ghost use Rattle.std.specs.Prelude.{◌≡◌, ◌+◌, ◌^◌, ◌<◌, ◌≤◌, ◌++◌, length, All};
-ghost use Rattle.record_spelling.specs.Spelling.{image_bytes};
+ghost use Rattle.wal_spelling.specs.Spelling.{image_bytes};
 ghost use Rattle.waldump_text.specs.Put.{PutsBut, joined};
 ghost use Rattle.waldump_text.specs.Listing.{block_pieces, blocks_text, fork_text, image_text, relation_text};
 ghost use Rattle.waldump_text.specs.Sums.{images_len};
@@ -9,9 +9,9 @@ ghost use Rattle.waldump_text.specs.declared.line_buffer.TheConstants.{ROOM};
 
 use crate::line_buffer::LineBuffer;
 use crate::putting::SinkFault;
-use listing_filter::fork_name;
 use segment_disk::Sink;
 use wal_types::{Block, Image, Rel};
+use waldump_filter::fork_name;
 
 /// How many bytes a block's text has, at most.
 const BLOCK_ROOM: usize = 128;

@@ -15,12 +15,12 @@ use crate::statistics::put_tally;
 use crate::steps::head_of;
 use crate::sums::Tally;
 use byte_position::Geometry;
-use listing_filter::{Filter, Listed};
 use segment_disk::{Disk, Sink};
 use std::alloc::Global;
 use std::marker::Brand;
 use thiserror::Error;
 use wal_reader::{ReadErr, Reader};
+use waldump_filter::{Filter, Listed};
 
 /// Why a log was not listed to a clean end.
 #[derive(Clone, Copy, Debug, PartialEq, Eq, Error)]
@@ -98,8 +98,6 @@ fn dump_lines<D: Disk, O: Sink, B: ByFilter>(
     ensures cause { HasDumpCause (D.faults disk.old) (D.faults disk.new) (O.faults out.old)
         (O.faults out.new) result }
 {
-    // That a log decodes to something rests on a valid size.
-    let _size = geometry.segment_size();
     let mut reader = Reader::new(geometry, filter.start, filter.end);
     let mut buffer = LineBuffer::new();
     let mut sifted = Sifted::<B>::new(alloc, filter);
@@ -132,8 +130,6 @@ fn dump_statistics<D: Disk, O: Sink>(
     ensures cause { HasDumpCause (D.faults disk.old) (D.faults disk.new) (O.faults out.old)
         (O.faults out.new) result }
 {
-    // That a log decodes to something rests on a valid size.
-    let _size = geometry.segment_size();
     let tally = tally_log::<D, Brand>(alloc, disk, geometry, filter)?;
     put_statistics(filter.quiet, &tally, out)?;
     Ok(tally.all.records)

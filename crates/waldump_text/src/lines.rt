@@ -10,9 +10,9 @@ use crate::line_buffer::LineBuffer;
 use crate::names::{manager_name, record_word};
 use crate::putting::SinkFault;
 use crate::times::time_text;
-use listing_filter::Listed;
 use segment_disk::Sink;
 use wal_types::Record;
+use waldump_filter::Listed;
 
 /// Puts a record's line into a sink (PostgreSQL's pg_waldump.c, XLogDumpDisplayRecord): in one call
 /// where the sink takes it and it has at most 4096 bytes. It takes no memory.

@@ -1,8 +1,8 @@
 ghost use Rattle.std.specs.Prelude.{◌≡◌, ◌<◌, ◌≤◌, IsTrue, length, not};
-ghost use Rattle.record_spelling.specs.Record.{is_free_manager};
+ghost use Rattle.wal_spelling.specs.Record.{is_free_manager};
 ghost use Rattle.waldump_text.specs.Names.{manager_name, own_word, record_word, unknown_word, lower_digit, name_text, word_text};
 
-use listing_filter::own_manager_name;
+use waldump_filter::own_manager_name;
 
 /// The name of a resource manager.
 #[derive(Clone, Copy, Debug)]

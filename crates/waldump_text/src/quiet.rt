@@ -5,18 +5,18 @@ ghost use Rattle.std.specs.Prelude.{◌≡◌, ℕ, List, Option, Ok, IfOk, IfSo
 ghost use Rattle.segment_disk.specs.Tape.{IsUncalled};
 ghost use Rattle.wal_types.specs.declared.record.Record.{Record};
 ghost use Rattle.wal_reader.specs.Filled.{step_with};
-ghost use Rattle.listing_filter.specs.declared.listed.Listed.{Listed};
-ghost use Rattle.listing_filter.specs.Keeping.{keeps};
+ghost use Rattle.waldump_filter.specs.declared.listed.Listed.{Listed};
+ghost use Rattle.waldump_filter.specs.Keeping.{keeps};
 ghost use Rattle.waldump_text.specs.Dump.{HasDumpCause, IsDump};
 ghost use Rattle.waldump_text.specs.Listing.{listed_in};
 
 use crate::dumping::DumpErr;
 use byte_position::Geometry;
-use listing_filter::Filter;
-use record_decode::Unkept;
 use segment_disk::Disk;
 use std::alloc::Global;
 use wal_reader::{Comes, Reader};
+use wal_record::Unkept;
+use waldump_filter::Filter;
 
 /// Counts the records that a filter lists which prints nothing and keeps all from its start on.
 pub(crate) fn count_records<D: Disk>(
@@ -35,8 +35,6 @@ pub(crate) fn count_records<D: Disk>(
     ensures cause { (sink : ℕ) → HasDumpCause (D.faults disk.old) (D.faults disk.new) sink sink
         result }
 {
-    // That a log decodes to something rests on a valid size.
-    let _size = geometry.segment_size();
     let mut reader = Reader::new(geometry, filter.start, filter.end);
     let mut unkept = Unkept::new();
     let mut count = 0;

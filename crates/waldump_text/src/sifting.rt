@@ -2,21 +2,20 @@
 //! before anything of it is copied. A record that the filter's rules refuse is read and checked as
 //! any other, and not kept.
 
-ghost use Rattle.std.specs.Prelude.{◌≡◌, ◌+◌, ◌≤◌, IsTrue, false, is_some, length};
-ghost use Rattle.std.specs.Int.{w32};
+ghost use Rattle.std.specs.Prelude.{◌≡◌, ◌≤◌, IsTrue, false, is_some, length};
 ghost use Rattle.std.specs.List.{list_any};
-ghost use Rattle.record_spelling.specs.Numbers.{number_at};
-ghost use Rattle.listing_filter.specs.declared.Filter.{Filter};
-ghost use Rattle.listing_filter.specs.Keeping.{everything_from, has_rules, keeps, meets_place, meets_rules};
+ghost use Rattle.waldump_filter.specs.declared.Filter.{Filter};
+ghost use Rattle.waldump_filter.specs.Keeping.{everything_from, has_rules, keeps, meets_place, meets_rules};
 ghost use Rattle.waldump_text.specs.Sifting.{held_of, listed_with, meets_by_heads};
 
 use crate::steps::{ListedHead, blank};
-use listing_filter::{Filter, Listed};
-use record_decode::{BlockHead, Headers, KeepsRecord, RecErr, Unkept};
-use record_spelling::layout::{RMID_AT, XID_AT};
 use std::alloc::Global;
 use std::marker::{Brand, PhantomData};
+use wal_record::{BlockHead, Headers, KeepsRecord, RecErr, Unkept};
+use wal_spelling::layout::{RMID_AT, XID_AT};
+use wal_spelling::numbers::u32_at;
 use wal_types::Xid;
+use waldump_filter::{Filter, Listed};
 
 /// The filter by which records are sifted, which a call picks for the proof alone.
 pub(crate) trait ByFilter {
@@ -25,13 +24,6 @@ pub(crate) trait ByFilter {
 
 impl ByFilter for Brand {
     ghost filter = { everything_from (record { 0 = 0 }) };
-}
-
-fn u32_at(bytes: &[u8], at: usize) -> u32
-    requires { at + 4 ≤ length bytes.now }
-    ensures { result ≡ number_at w32 bytes.now at }
-{
-    u32::from_le_bytes([bytes[at], bytes[at + 1], bytes[at + 2], bytes[at + 3]])
 }
 
 /// Whether a record meets a filter's rules, by its bytes and the heads of its blocks. `asks` tells

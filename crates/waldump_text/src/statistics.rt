@@ -1,7 +1,7 @@
 //! The statistics of a listing, in a layout of this project's own.
 
 ghost use Rattle.std.specs.Prelude.{◌≡◌, ◌+◌, ◌<◌, ◌≤◌, ◌++◌, IsTrue, not, length, All};
-ghost use Rattle.record_spelling.specs.Record.{is_free_manager};
+ghost use Rattle.wal_spelling.specs.Record.{is_free_manager};
 ghost use Rattle.waldump_text.specs.Listing.{IsListable};
 ghost use Rattle.waldump_text.specs.Put.{Puts, joined};
 ghost use Rattle.waldump_text.specs.Statistics.{manager_line, stats_text, sums_pieces, total_line};
@@ -12,8 +12,8 @@ use crate::line_buffer::LineBuffer;
 use crate::names::manager_name;
 use crate::putting::SinkFault;
 use crate::sums::{Sums, Tally, weight_of};
-use listing_filter::Listed;
 use segment_disk::Sink;
+use waldump_filter::Listed;
 
 /// Puts the statistics of records into a sink: a line for each manager that wrote one, by rising
 /// number, and a line for all. It takes no memory.

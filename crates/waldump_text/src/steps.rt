@@ -4,10 +4,10 @@ ghost use Rattle.wal_reader.specs.Filled.{step_with};
 ghost use Rattle.waldump_text.specs.Listing.{listed_in};
 ghost use Rattle.waldump_text.specs.Sifting.{listed_with};
 
-use listing_filter::Listed;
 use std::alloc::Global;
 use wal_reader::Comes;
 use wal_types::{Lsn, Record};
+use waldump_filter::Listed;
 
 /// What a reader's step says of a record that is to be listed.
 #[derive(Clone, Copy)]

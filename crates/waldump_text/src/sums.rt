@@ -1,5 +1,5 @@
 ghost use Rattle.std.specs.Prelude.{◌≡◌, ℕ, List, [], ◌∷◌, ◌++◌, ◌+◌, ◌^◌, ◌<◌, ◌≤◌};
-ghost use Rattle.listing_filter.specs.declared.listed.Listed.{Listed};
+ghost use Rattle.waldump_filter.specs.declared.listed.Listed.{Listed};
 ghost use Rattle.waldump_text.specs.Listing.{IsListable};
 ghost use Rattle.waldump_text.specs.Sums.{images_len};
 ghost use Rattle.waldump_text.specs.Tally.{SumsFit, TallyFits, Tallies};
@@ -7,8 +7,8 @@ ghost use Rattle.waldump_text.specs.Weights.{Weighs};
 
 use crate::block_refs::images_len;
 use crate::weighing::Weight;
-use listing_filter::Listed;
 use wal_types::Block;
+use waldump_filter::Listed;
 
 /// What records add up to: how many they are, the bytes of their images, and all their bytes. No
 /// count of records that fits makes the others too large for their type.

@@ -2,20 +2,20 @@
 //! its bytes, by its header and the heads of its blocks. Nothing of the record is kept.
 
 ghost use Rattle.std.specs.Prelude.{◌≡◌, ◌<◌, ◌^◌};
-ghost use Rattle.record_decode.specs.Reading.{image_len};
-ghost use Rattle.listing_filter.specs.Keeping.{has_rules, meets_rules};
+ghost use Rattle.wal_record.specs.Reading.{image_len};
+ghost use Rattle.waldump_filter.specs.Keeping.{has_rules, meets_rules};
 ghost use Rattle.waldump_text.specs.Sums.{images_len};
 ghost use Rattle.waldump_text.specs.Sifting.{images_by_heads, listed_with};
 ghost use Rattle.waldump_text.specs.Weights.{TellsWeight};
 
 use crate::sifting::{ByFilter, meets};
 use crate::steps::ListedHead;
-use listing_filter::Filter;
-use record_decode::{BlockHead, Headers, ImageHead, KeepsRecord, RecErr, Unkept};
-use record_spelling::layout::RMID_AT;
 use std::alloc::Global;
 use std::marker::PhantomData;
+use wal_record::{BlockHead, Headers, ImageHead, KeepsRecord, RecErr, Unkept};
+use wal_spelling::layout::RMID_AT;
 use wal_types::Xid;
+use waldump_filter::Filter;
 
 /// What a record adds to statistics.
 #[derive(Clone, Copy)]

@@ -7,11 +7,11 @@ use Rattle.byte_position.specs.Position.{end_address_of}
 use Rattle.byte_position.proofs.EndAddresses.{end_address_of-le_address_of}
 use Rattle.byte_position.proofs.Rising.{address_of-bound}
 use Rattle.machine_words.proofs.Bounds.{limit_low}
-use Rattle.wal_core.specs.Words.{Opening, initialised_word, word_of_ring, written_word, order_end}
-use Rattle.wal_core.specs.Locked.{HasTurn}
-use Rattle.wal_core.specs.Paged.{AtStage}
-use Rattle.wal_core.specs.Sound.{IsSound}
-use Rattle.wal_core.specs.Views.{Ready, Stage, confirmed_of, mapper_of, View}
+use Rattle.machine_state.specs.Words.{Opening, initialised_word, word_of_ring, written_word, order_end}
+use Rattle.machine_state.specs.Locked.{HasTurn}
+use Rattle.machine_state.specs.Paged.{AtStage}
+use Rattle.machine_state.specs.Sound.{IsSound}
+use Rattle.machine_state.specs.Views.{Ready, Stage, confirmed_of, mapper_of, View}
 use Rattle.wal_rule.specs.Stepping.{Stands}
 
 module _ (v : View) (at written : ℕ) (stands : Stands v)
@@ -23,12 +23,12 @@ module _ (v : View) (at written : ℕ) (stands : Stands v)
   sound = stands.sound
 
   abbrev end : ℕ
-  end = end_address_of (opening.setup).segment_size
+  end = end_address_of (opening.setup).seg_size
       (order_end opening sound.order)
 
   end_low : end < 2 ^ 50
   end_low =
-      let size : ℕ = (opening.setup).segment_size in
+      let size : ℕ = (opening.setup).seg_size in
       let position : ℕ = order_end opening sound.order in
       let within = (sound.reserved).within in
       omega (

@@ -7,14 +7,14 @@ use Rattle.std.proofs.lemmas.List.{drop-drop, get_or-take}
 use Rattle.std.proofs.Math.Logic.{∥∥₁_elim}
 use Rattle.std.specs.Coded.{Coded-set, coded_ℕ, le_prop, ×_prop}
 use Rattle.atomic_table.proofs.Lists.{at_map}
-use Rattle.record_spelling.specs.Spelling.{word_at}
+use Rattle.wal_spelling.specs.Spelling.{word_at}
 use Rattle.wal_page.specs.EntryWords.{address_of_word, words_owned}
 use Rattle.wal_page.specs.Placed.{PlacedState, placed_end, placed_word}
-use Rattle.wal_core.specs.declared.setup.Setup.{Setup}
-use Rattle.wal_core.specs.Words.{Opening, ends_number}
-use Rattle.wal_core.specs.Ringed.{IsOfOrder}
-use Rattle.wal_core.specs.Views.{Copy, Copying, Flight, HasAt, Landed, flight_of, View}
-use Rattle.wal_core.specs.Steps.{ring_number, ring_place, next_value, number_of_next}
+use Rattle.machine_state.specs.declared.setup.Setup.{Setup}
+use Rattle.machine_state.specs.Words.{Opening, ends_number}
+use Rattle.machine_state.specs.Ringed.{IsOfOrder}
+use Rattle.machine_state.specs.Views.{Copy, Copying, Flight, HasAt, Landed, flight_of, View}
+use Rattle.machine_state.specs.Steps.{ring_number, ring_place, next_value, number_of_next}
 use Rattle.machine_laws.proofs.RingLaws.{copy-whole, first_word-whole, last_word-ends}
 use Rattle.wal_rule.specs.declared.seated.SeatedPass.{SeatedPass}
 use Rattle.wal_rule.specs.SeatedPasses.{HasView, hand_of, setup_of, view_of}
@@ -38,19 +38,19 @@ module _ (v : View) (stands : Stands v) (c : Copy) (is : (v.working).flight ≡ 
       (stands.sound).order ((stands.sound).reserved).chained c of_order
 
   module _ (p : PlacedState) (rest : p ≡ rest_of setup c) where
-    next_is : p.next ≡ address_of_word setup.segment_size c.entry c.copied
+    next_is : p.next ≡ address_of_word setup.seg_size c.entry c.copied
     next_is = ap (λ (q : PlacedState). q.next) rest
 
     whole_next : p.next % 8 ≡ 0
     whole_next =
-        let first = first_word-whole setup.segment_size (((stands.sound).setup_is).size) c.entry
+        let first = first_word-whole setup.seg_size (((stands.sound).setup_is).size) c.entry
         whole c.copied in
         omega (arith, first, next_is)
 
     -- where the record's last word ends
-    ends-at : placed_end p ≡ address_of_word setup.segment_size c.entry
-        (words_owned setup.segment_size c.entry)
-    ends-at = ap placed_end rest ∙ sym (last_word-ends setup.segment_size
+    ends-at : placed_end p ≡ address_of_word setup.seg_size c.entry
+        (words_owned setup.seg_size c.entry)
+    ends-at = ap placed_end rest ∙ sym (last_word-ends setup.seg_size
         (((stands.sound).setup_is).size) c.entry whole)
 
     left_words : (p.next ≤ placed_end p)
@@ -62,7 +62,7 @@ module _ (v : View) (stands : Stands v) (c : Copy) (is : (v.working).flight ≡ 
         (omega (arith, last, here, within), omega (arith, last, here, within))
 
     -- a word is left where the next one lies before that
-    word_before : p.next < placed_end p → c.copied < words_owned setup.segment_size c.entry
+    word_before : p.next < placed_end p → c.copied < words_owned setup.seg_size c.entry
     word_before before =
         let last = ends-at in
         let here = next_is in
@@ -72,8 +72,8 @@ module _ (v : View) (stands : Stands v) (c : Copy) (is : (v.working).flight ≡ 
 pub rest_further : (setup : Setup) (c : Copy) (n : ℕ) (p : PlacedState) → p ≡ rest_of setup c
     → record p { next = p.next + 8 * n } ≡ rest_of setup (record c { copied = c.copied + n })
 rest_further setup c n p rest =
-    let step : address_of_word setup.segment_size c.entry c.copied + 8 * n
-    ≡ address_of_word setup.segment_size c.entry (c.copied + n) = omega arith in
+    let step : address_of_word setup.seg_size c.entry c.copied + 8 * n
+    ≡ address_of_word setup.seg_size c.entry (c.copied + n) = omega arith in
     ap (λ (r : PlacedState). record r { next = r.next + 8 * n }) rest
     ∙ ap (λ (k : ℕ). record (rest_of setup c) { next = k }) step
 
@@ -132,11 +132,11 @@ module _ {D : Type 0} (p : SeatedPass D) (placed : PlacedState)
       (λ (s : Stands v). left_words v s copy rest.1 placed own_rest)
 
   word-left : placed.next < placed_end placed
-      → copy.copied < words_owned ((v.opening).setup).segment_size copy.entry
+      → copy.copied < words_owned ((v.opening).setup).seg_size copy.entry
   word-left before = ∥∥₁_elim (p.seated).stands le_prop
       (λ (s : Stands v). word_before v s copy rest.1 placed own_rest before)
 
-  next_own : placed.next ≡ address_of_word ((v.opening).setup).segment_size copy.entry copy.copied
+  next_own : placed.next ≡ address_of_word ((v.opening).setup).seg_size copy.entry copy.copied
   next_own = ap (λ (q : PlacedState). q.next) own_rest
 
   -- the next word is stored

@@ -1,3 +1,12 @@
+pub mod HandLaws
+pub mod CountBounds
+pub mod Calls
+pub mod CallLists
+pub mod PutCalls
+pub mod PageBytes
+pub mod PageLaws
+pub mod PageNumbers
+pub mod OutLaws
 pub mod Steps
 pub mod Bounds
 pub mod CopyLaws

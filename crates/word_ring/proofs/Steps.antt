@@ -8,10 +8,10 @@ use Rattle.wal_rule.specs.declared.writer.LogWriter.{LogWriter}
 use Rattle.wal_rule.specs.SeatedPasses.{HasView, Steps, hand_of, setup_of, view_of}
 use Rattle.wal_rule.specs.Stepping.{Meets}
 use Rattle.wal_rule.specs.Tables.{setup_of_table}
-use Rattle.wal_core.specs.Views.{Away, Published, Ready, Stage, Taken, Zeroing, View}
-use Rattle.wal_core.specs.Steps.{buffer_of, clear_end, page_mapped, publish_end, publish_initialised_end, ring_number, take_mapping_turn, view_behind, word_of_step, words_zeroed, zero_ring_word}
-use Rattle.wal_core.specs.Words.{Opening}
-use Rattle.wal_core.specs.declared.setup.Setup.{Setup}
+use Rattle.machine_state.specs.Views.{Away, Published, Ready, Stage, Taken, Zeroing, View}
+use Rattle.machine_state.specs.Steps.{buffer_of, clear_end, page_mapped, publish_end, publish_initialised_end, ring_number, take_mapping_turn, view_behind, word_of_step, words_zeroed, zero_ring_word}
+use Rattle.machine_state.specs.Words.{Opening}
+use Rattle.machine_state.specs.declared.setup.Setup.{Setup}
 use Rattle.word_ring.specs.Ring.{confirmed_view}
 use Rattle.word_ring.specs.Mapped.{IsOldPageUnwritten, LooksAt, MapsAhead, MapsMany, MapsOn, MapsPages, further_view, looked_view, staged_view}
 

@@ -1,11 +1,11 @@
 -- Words of a record are copied to a page: what a pass's view is behind so many of them.
 use Rattle.std.specs.Prelude.{◌≡◌, ℕ, ◌+◌, ◌-◌, ◌*◌, ◌/◌, min}
-use Rattle.record_spelling.specs.Spelling.{assembled}
+use Rattle.wal_spelling.specs.Spelling.{assembled}
 use Rattle.wal_page.specs.EntryWords.{address_of_word}
 use Rattle.wal_page.specs.Placed.{PlacedState, placed_end}
-use Rattle.wal_core.specs.declared.setup.Setup.{Setup}
-use Rattle.wal_core.specs.Steps.{ring_number, ring_place}
-use Rattle.wal_core.specs.Views.{Copy, Copying, Flight, Landed, View}
+use Rattle.machine_state.specs.declared.setup.Setup.{Setup}
+use Rattle.machine_state.specs.Steps.{ring_number, ring_place}
+use Rattle.machine_state.specs.Views.{Copy, Copying, Flight, Landed, View}
 
 -- its copy is so many words further on; all else is as it was
 abbrev pub further : ℕ → Flight → Flight
@@ -19,12 +19,12 @@ copied_view count v =
 -- a record at its place gives the words that are left of a copy, from its next one on
 abbrev pub rest_of : Setup → Copy → PlacedState
 rest_of setup c = record {
-  size = setup.segment_size;
+  size = setup.seg_size;
   sysid = setup.sysid;
   body = assembled (c.entry).value;
   start = (c.entry).start;
   prev = c.prev;
-  next = address_of_word setup.segment_size c.entry c.copied;
+  next = address_of_word setup.seg_size c.entry c.copied;
 }
 
 -- a pass copies an entry, of which this record at its place gives the words that are left

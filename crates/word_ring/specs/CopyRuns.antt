@@ -2,8 +2,8 @@
 use Rattle.std.specs.Prelude.{◌≡◌, ◌≢◌, ℕ, ◌+◌, ◌*◌, ◌/◌, ◌%◌, ◌<◌, ◌≤◌, List, [], min, slice_index, slice_index_or}
 use Rattle.std.specs.Int.{w64, from_le_bytes}
 use Rattle.wal_page.specs.Placed.{PlacedState, placed_end}
-use Rattle.wal_core.specs.Steps.{load_buffer_end, store_ring_word, MayStep, value_behind, word_of_step}
-use Rattle.wal_core.specs.Views.{View}
+use Rattle.machine_state.specs.Steps.{load_buffer_end, store_ring_word, MayStep, value_behind, word_of_step}
+use Rattle.machine_state.specs.Views.{View}
 use Rattle.wal_rule.specs.declared.seated.SeatedPass.{SeatedPass}
 use Rattle.wal_rule.specs.SeatedPasses.{HasView, setup_of, view_of}
 use Rattle.wal_rule.specs.Stepping.{Meets}

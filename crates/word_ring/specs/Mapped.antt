@@ -1,10 +1,10 @@
 -- A try to map the next page, or several: what it leaves of its pass's view, and when it maps none.
 use Rattle.std.specs.Prelude.{◌≡◌, ◌≢◌, ◌⊎◌, ℕ, ◌+◌, ◌*◌, ◌<◌, ◌≤◌, zero, suc}
 use mathlib.Core.Option.{none}
-use Rattle.wal_core.specs.declared.setup.Setup.{Setup}
-use Rattle.wal_core.specs.Views.{Stage, View}
-use Rattle.wal_core.specs.Views as stages
-use Rattle.wal_core.specs.Steps.{load_initialised_end, load_written, take_mapping_turn, view_behind}
+use Rattle.machine_state.specs.declared.setup.Setup.{Setup}
+use Rattle.machine_state.specs.Views.{Stage, View}
+use Rattle.machine_state.specs.Views as stages
+use Rattle.machine_state.specs.Steps.{load_initialised_end, load_written, take_mapping_turn, view_behind}
 use Rattle.wal_rule.specs.Stepping.{Meets}
 use Rattle.word_ring.specs.Ring.{confirmed_view, end_of_page}
 use Rattle.word_ring.specs.declared.mapping.MapTry.{MapTry}

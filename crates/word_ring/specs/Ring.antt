@@ -1,6 +1,6 @@
 -- Whether a page is in its buffer, and what a pass's view is that met a page's end.
 use Rattle.std.specs.Prelude.{◌≡◌, ◌≢◌, ℕ, ◌+◌, ◌*◌, max}
-use Rattle.wal_core.specs.Views.{View}
+use Rattle.machine_state.specs.Views.{View}
 use Rattle.word_ring.specs.declared.confirming.Presence.{Presence}
 use Rattle.word_ring.specs.declared.confirming.Presence.TheVariants.{Present, Other}
 

@@ -4,7 +4,7 @@
 // store there the words that its record owns on the page, without a further look: while one of them
 // is to be copied, the log is not written up to the page's end, so the page is not replaced.
 ghost use Rattle.std.specs.Prelude.{ℕ, ◌%◌, ◌<◌, ◌^◌};
-ghost use Rattle.wal_core.specs.Steps.{load_buffer_end};
+ghost use Rattle.machine_state.specs.Steps.{load_buffer_end};
 ghost use Rattle.wal_rule.specs.SeatedPasses.{HasView, setup_of, view_of};
 ghost use Rattle.wal_rule.specs.Stepping.{Meets};
 ghost use Rattle.word_ring.specs.Ring.{Confirms, confirmed_view};

@@ -6,7 +6,7 @@
 // progress that may be told under the lock. A word that was stored is the log's: this copy does not
 // come back to it, and no other record owns it.
 ghost use Rattle.std.specs.Prelude.{◌≡◌, ◌+◌, ◌-◌, ◌*◌, ◌<◌, ◌≤◌, ◌^◌, length, min};
-ghost use Rattle.record_spelling.specs.Spelling.{word_at};
+ghost use Rattle.wal_spelling.specs.Spelling.{word_at};
 ghost use Rattle.wal_page.specs.Placed.{LieTogether, placed_end};
 ghost use Rattle.wal_rule.specs.SeatedPasses.{HasView, StaysSeated, setup_of, view_of};
 ghost use Rattle.word_ring.specs.Copied.{CopiesPage, IsPlaceOf, IsRestOf, copied_view, left_on_page, page_end_at};
@@ -15,10 +15,10 @@ ghost use Rattle.word_ring.specs.CopyRuns.{CopiesPresent, HasCopied, MayCopy, Ma
 use byte_position::{PAGE_SIZE, PAGE_WORDS, WORD};
 use machine_words::LogShape;
 use machine_words::layout::BUFFER_ENDS;
-use record_spelling::last_word;
 use segment_disk::Disk;
 use wal_page::Placed;
 use wal_rule::{LogTable, SeatedPass};
+use wal_spelling::last_word;
 
 // How many words of those that lie not together are made at once, before they are stored.
 const RUN: usize = 64;

@@ -8,9 +8,9 @@
 // log a header's words are those of the record that reaches the page first, and to write is the
 // caller's matter.
 ghost use Rattle.std.specs.Prelude.{◌≡◌, ◌≢◌, ℕ, ◌+◌, ◌*◌, ◌<◌, ◌≤◌, ◌^◌};
-ghost use Rattle.wal_core.specs.Paged.{IsOpen};
-ghost use Rattle.wal_core.specs.Steps.{buffer_of, ring_number, take_mapping_turn};
-ghost use Rattle.wal_core.specs.Views.{Away, Ready, Taken, View, Zeroing};
+ghost use Rattle.machine_state.specs.Paged.{IsOpen};
+ghost use Rattle.machine_state.specs.Steps.{buffer_of, ring_number, take_mapping_turn};
+ghost use Rattle.machine_state.specs.Views.{Away, Ready, Taken, View, Zeroing};
 ghost use Rattle.wal_rule.specs.SeatedPasses.{HasView, StaysSeated, setup_of, view_of};
 ghost use Rattle.wal_rule.specs.Stepping.{Meets};
 ghost use Rattle.word_ring.specs.Mapped.{LooksAt, MapsAhead, MapsMany, MapsOn, TriesMapping, further_view, looked_view, staged_view};

@@ -22,7 +22,7 @@ use crate::memory::reading::read_back;
 use crate::memory::record::CallRecord;
 use crate::memory::schedule::FailingCalls;
 use crate::memory::segments::SegmentList;
-use byte_position::Geometry;
+use byte_position::{Geometry, Page};
 use std::alloc::Global;
 
 /// A disk in memory, which keeps a record of its counted calls.
@@ -106,8 +106,8 @@ impl MemDisk {
         self.crash_with_room(alloc, moment, pick, self.calls.limit)
     }
 
-    /// The same with room for this many counted calls. Who only reads what is left asks for none,
-    /// and takes no memory for any.
+    /// The disk that `crash` makes, with room for so many counted calls as are asked for. Who only
+    /// reads what is left asks for none, and takes no memory for any.
     pub fn crash_with_room(
         &self,
         alloc: Global,
@@ -226,7 +226,7 @@ impl Disk for MemDisk {
         geometry: Geometry,
         segment: u64,
         page: u32,
-        bytes: &[u8; 8192],
+        bytes: &Page,
     ) -> Result<(), Failed>
         ensures answers { Answers tape_of moment_of self.old self.new
             (write_call geometry segment page bytes.now) result }
@@ -259,7 +259,7 @@ impl Disk for MemDisk {
         _geometry: Geometry,
         segment: u64,
         page: u32,
-        bytes: &mut [u8; 8192],
+        bytes: &mut Page,
     ) -> Result<bool, Failed>
         ensures reads { IfOk result (λ there. IfSome (tape_of self.old)
             (λ t. IsPageRead (page_of_segment (state_now t segment) page) there bytes.new)) }

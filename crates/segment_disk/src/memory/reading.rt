@@ -6,6 +6,7 @@ ghost use Rattle.segment_disk.specs.First.{first_state};
 
 use crate::disk::{Call, CallKind, PageBytes};
 use crate::memory::first::{FirstSegment, find_first};
+use byte_position::Page;
 
 /// Reads a page of a segment as these calls leave it, and answers whether the segment has it.
 pub fn read_back<'a>(
@@ -13,7 +14,7 @@ pub fn read_back<'a>(
     calls: &'a [Call],
     segment: u64,
     page: usize,
-    bytes: &mut [u8; 8192],
+    bytes: &mut Page,
 ) -> bool
     ensures reads { IsPageRead
         (page_of_segment (after_calls (first_state first.now) calls.now segment) page) result

@@ -37,7 +37,7 @@ impl CallRecord {
         })
     }
 
-    /// The same where none is to fail.
+    /// Takes room for as many calls as the limit says, of which none is to fail.
     pub fn unfailing(alloc: Global, limit: usize) -> Result<CallRecord, Memory>
         ensures made { IfOk result (λ r. r.made.items ≡ []) }
         ensures limit { IfOk result (λ r. r.limit ≡ limit) }

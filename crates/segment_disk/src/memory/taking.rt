@@ -6,15 +6,10 @@ ghost use Rattle.segment_disk.specs.Picks.{writes_to};
 
 use crate::disk::{Call, CallKind, PageBytes};
 use crate::memory::pick::Pick;
+use byte_position::Page;
 
 /// Puts those words of a written page into another that a pick takes of the write of this number.
-fn take_words(
-    bytes: &mut [u8; 8192],
-    written: &[u8; 8192],
-    pick: &Pick,
-    rest: &[u32],
-    number: usize,
-)
+fn take_words(bytes: &mut Page, written: &Page, pick: &Pick, rest: &[u32], number: usize)
     ensures { AreTaken (takes_write pick.now rest.now number) bytes.old written.now bytes.new }
 {
     for word in 0..1024 {
@@ -57,7 +52,7 @@ pub fn take_writes(
     page: usize,
     pick: &Pick,
     rest: &[u32],
-    bytes: &mut [u8; 8192],
+    bytes: &mut Page,
 ) -> usize
     ensures count { result ≡ length (writes_to (writes_of calls.now segment) page) }
     ensures words { HoldTaken pick.now rest.now (writes_to (writes_of calls.now segment) page)

@@ -16,7 +16,7 @@ ghost use Rattle.wal_stream.specs.Standby.{AgreeUpto, AnswersFrame, Brings, Diff
 use super::Standby;
 use crate::answers::{Accepted, StandbyErr};
 use crate::framing::FramedPage;
-use byte_position::{Geometry, PAGE_SIZE, WORD};
+use byte_position::{Geometry, PAGE_SIZE, Page, WORD};
 use flush_core::Writer;
 use segment_disk::Disk;
 use wal_types::Lsn;
@@ -30,7 +30,7 @@ impl<D: Disk> Standby<D> {
         cap: u32,
         end: Lsn,
         made: u64,
-        page: Box<[u8; 8192]>,
+        page: Box<Page>,
     ) -> Standby<D>
         ensures disk { standby_disk result ≡ disk }
         ensures end { standby_end result ≡ end.0 }
@@ -133,7 +133,7 @@ impl<D: Disk> Standby<D> {
 }
 
 // Looks at a page, which has 8,192 bytes by its type: whoever hands it on knows that then.
-fn look_at(page: &[u8; 8192])
+fn look_at(page: &Page)
     ensures { IsPage page.now }
 {
     let _first = page[..8].first();
@@ -147,7 +147,7 @@ fn is_among(last: u32, segment: u64) -> bool
 }
 
 // Where the first word stands, below an address, in which two pages of a number differ.
-fn first_difference(end: Lsn, page: u64, one: &[u8; 8192], other: &[u8; 8192]) -> Option<Lsn>
+fn first_difference(end: Lsn, page: u64, one: &Page, other: &Page) -> Option<Lsn>
     requires { page ≡ end.0 / 8192 }
     ensures differs { IfSome result (λ at. DifferFirstAt end.0 page one.now other.now at.0) }
     ensures agree { IfNone result (AgreeUpto end.0 page one.now other.now) }
@@ -162,7 +162,7 @@ fn first_difference(end: Lsn, page: u64, one: &[u8; 8192], other: &[u8; 8192]) -
     None
 }
 
-fn word_at(page: &[u8; 8192], word: usize) -> &[u8; 8]
+fn word_at(page: &Page, word: usize) -> &[u8; 8]
     requires { word < 1024 }
     ensures { result.now ≡ word_of page.now word }
 {

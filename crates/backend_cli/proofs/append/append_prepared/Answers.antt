@@ -1,8 +1,8 @@
 -- The log is reopened, and the lines are played behind that.
 use Rattle.std.proofs.Common.{◌∙◌, [], ap, length, refl, subst, sym}
-use Rattle.wal_core.specs.Words.{Opening}
-use Rattle.wal_core.specs.Sound.{IsSetup}
-use Rattle.wal_core.specs.declared.setup.Setup.{Setup}
+use Rattle.machine_state.specs.Words.{Opening}
+use Rattle.machine_state.specs.Sound.{IsSetup}
+use Rattle.machine_state.specs.declared.setup.Setup.{Setup}
 use Rattle.wal_log.specs.Reopening.{IsReopened, TellsReopenFault}
 use Rattle.backend_cli.specs.Appending.{AppendHolds}
 use Rattle.backend_cli.specs.Outside.{outside_of}

@@ -1,5 +1,5 @@
 use Rattle.std.proofs.Common.{refl}
-use Rattle.wal_script.specs.Generated.{generated_script}
+use Rattle.run_script.specs.Generated.{generated_script}
 use Rattle.backend_cli.proofs.generate.run_generated.Goals as goal
 
 pub returns-in-Ok-clause-holds : goal.returns-in-Ok-clause-holds

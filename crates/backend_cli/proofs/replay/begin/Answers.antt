@@ -1,9 +1,9 @@
 -- A log can have the setup, and has more passes than there are backends. No line inserts a switch.
 use Rattle.std.proofs.Common.{◌≡◌, ◌+◌, ◌<◌, All, List, length, map, ap, subst, sym, ◌∙◌, arith}
-use Rattle.machine_core.specs.Lines.{InsertsNoSwitch}
-use Rattle.machine_core.proofs.NoSwitches.{scripts_no_switch}
+use Rattle.wal_core.specs.Lines.{InsertsNoSwitch}
+use Rattle.wal_core.proofs.NoSwitches.{scripts_no_switch}
 use Rattle.machine_turns.specs.declared.script.PlainLine.{PlainLine as MachineLine}
-use Rattle.wal_core.specs.declared.setup.Setup.{Setup}
+use Rattle.machine_state.specs.declared.setup.Setup.{Setup}
 use Rattle.backend_cli.specs.Replaying.{asks_of, replay_setup}
 use Rattle.backend_cli.proofs.ReplayLaws.{begun_as}
 use Rattle.backend_cli.proofs.ReplayScripts.{as_many_scripts, scripts_for}

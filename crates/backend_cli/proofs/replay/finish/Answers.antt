@@ -1,9 +1,9 @@
 -- Behind all turns the core plays the machine of the replay, and what its crash leaves is listed.
 use Rattle.std.proofs.Common.{ℕ, List, inr, sym, ap, subst, ◌∙◌}
 use Rattle.segment_disk.specs.First.{first_state}
-use Rattle.wal_script.specs.declared.item.Item.{Item}
-use Rattle.wal_script.specs.Turns.{backends_in_turn}
-use Rattle.wal_turns.specs.Turned.{machine_behind}
+use Rattle.run_script.specs.declared.item.Item.{Item}
+use Rattle.run_script.specs.Turns.{backends_in_turn}
+use Rattle.machine_turns.specs.Turned.{machine_behind}
 use Rattle.backend_cli.specs.ReplayBegun.{PlaysBackends}
 use Rattle.backend_cli.specs.Replaying.{outcome_with}
 use Rattle.backend_cli.proofs.MachineWriter.{crashed_as}

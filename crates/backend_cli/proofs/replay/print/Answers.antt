@@ -1,7 +1,7 @@
 -- The lines of the backends are put, and behind them the listing.
 use Rattle.std.proofs.Common.{ℕ, ap, ◌∙◌}
 use Rattle.std.proofs.lemmas.Result.{err_from_is_err_and}
-use Rattle.listing_filter.specs.Keeping.{everything_from}
+use Rattle.waldump_filter.specs.Keeping.{everything_from}
 use Rattle.segment_disk.specs.First.{first_state}
 use Rattle.segment_disk.specs.MemDisk.{tape_of}
 use Rattle.backend_cli.specs.Replaying.{backend_lines}

@@ -1,6 +1,6 @@
 use Rattle.std.proofs.Common.{drop}
 use Rattle.waldump_text.specs.Put.{HasPut}
-use Rattle.wal_turns.specs.Doing.{Machine}
+use Rattle.machine_turns.specs.Doing.{Machine}
 use Rattle.backend_cli.specs.ReplayBegun.{PlaysBackends}
 use Rattle.backend_cli.specs.Replaying.{backend_lines}
 use Rattle.backend_cli.proofs.replay.put_backends.Given as goal

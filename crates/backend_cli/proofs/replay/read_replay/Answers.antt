@@ -1,8 +1,8 @@
 -- What was read is the script, and its refusal is what it means.
 use Rattle.std.proofs.Common.{subst}
 use Rattle.std.proofs.lemmas.Result.{err_from_is_err_and}
-use Rattle.wal_script.specs.Reading.{RefusesScript}
-use Rattle.wal_script.specs.Replay.{replay_meaning}
+use Rattle.run_script.specs.Reading.{RefusesScript}
+use Rattle.run_script.specs.Replay.{replay_meaning}
 use Rattle.backend_cli.proofs.ScriptReading.{ends_unparsed}
 use Rattle.backend_cli.proofs.replay.read_replay.Goals as goal
 

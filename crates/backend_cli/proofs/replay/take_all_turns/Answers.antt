@@ -1,10 +1,10 @@
 use Rattle.std.proofs.Common.{◌≡◌, ◌≤◌, List, length, sym, subst, ap, ◌∙◌}
 use Rattle.std.proofs.lemmas.List.{drop_all}
-use Rattle.wal_script.specs.declared.item.Item.{Item}
-use Rattle.wal_script.specs.Turns.{backends_in_turn}
-use Rattle.wal_turns.specs.Turned.{machine_behind}
-use Rattle.machine_core.specs.Cores.{core_of}
-use Rattle.machine_core.specs.Playing.{PlaysMachine}
+use Rattle.run_script.specs.declared.item.Item.{Item}
+use Rattle.run_script.specs.Turns.{backends_in_turn}
+use Rattle.machine_turns.specs.Turned.{machine_behind}
+use Rattle.wal_core.specs.Cores.{core_of}
+use Rattle.wal_core.specs.Playing.{PlaysMachine}
 use Rattle.backend_cli.proofs.TurnLaws.{next_item}
 use Rattle.backend_cli.proofs.replay.take_all_turns.Goals as goal
 

@@ -1,9 +1,9 @@
 use Rattle.std.proofs.Common.{◌≡◌, drop}
-use Rattle.wal_script.specs.Turns.{backends_in_turn}
-use Rattle.wal_turns.specs.Doing.{Machine}
-use Rattle.wal_turns.specs.Turned.{machine_behind}
-use Rattle.machine_core.specs.Cores.{IsPlayed, core_of}
-use Rattle.machine_core.specs.Playing.{PlaysMachine}
+use Rattle.run_script.specs.Turns.{backends_in_turn}
+use Rattle.machine_turns.specs.Doing.{Machine}
+use Rattle.machine_turns.specs.Turned.{machine_behind}
+use Rattle.wal_core.specs.Cores.{IsPlayed, core_of}
+use Rattle.wal_core.specs.Playing.{PlaysMachine}
 use Rattle.backend_cli.proofs.replay.take_all_turns.Given as goal
 
 -- the turns of the items so far were had: behind those of the items that are left is the end

@@ -1,7 +1,7 @@
 use Rattle.std.proofs.Common.{◌≡◌, ℕ, suc, ◌+◌, replicate, subst, ap, ◌∙◌, arith}
-use Rattle.wal_turns.specs.Turned.{machine_behind}
-use Rattle.machine_core.specs.Cores.{core_of}
-use Rattle.machine_core.specs.Playing.{PlaysMachine}
+use Rattle.machine_turns.specs.Turned.{machine_behind}
+use Rattle.wal_core.specs.Cores.{core_of}
+use Rattle.wal_core.specs.Playing.{PlaysMachine}
 use Rattle.backend_cli.proofs.TurnLaws.{one_more}
 use Rattle.backend_cli.proofs.replay.take_turns.Goals as goal
 

@@ -1,8 +1,8 @@
 use Rattle.std.proofs.Common.{replicate}
-use Rattle.wal_turns.specs.Doing.{Machine}
-use Rattle.wal_turns.specs.Turned.{machine_behind}
-use Rattle.machine_core.specs.Cores.{IsPlayed, core_of}
-use Rattle.machine_core.specs.Playing.{PlaysMachine}
+use Rattle.machine_turns.specs.Doing.{Machine}
+use Rattle.machine_turns.specs.Turned.{machine_behind}
+use Rattle.wal_core.specs.Cores.{IsPlayed, core_of}
+use Rattle.wal_core.specs.Playing.{PlaysMachine}
 use Rattle.backend_cli.proofs.replay.take_turns.Given as goal
 
 -- so many turns were had

@@ -1,7 +1,7 @@
 -- The count so far is that of the backends gone over, and no more than that of all.
 use Rattle.std.proofs.Common.{refl, ap, ◌∙◌, arith}
-use Rattle.told_lines.specs.Counts.{all_commits_of, commits_of}
-use Rattle.backend_lanes.specs.Backends.{lists_of}
+use Rattle.run_laws.specs.Counts.{all_commits_of, commits_of}
+use Rattle.run_backends.specs.Backends.{lists_of}
 use Rattle.backend_cli.proofs.AllCounts.{all_commits-le, count_more, count_more-le}
 use Rattle.backend_cli.proofs.run.all_commits_in.Goals as goal
 

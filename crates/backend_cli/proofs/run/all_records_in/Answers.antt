@@ -1,7 +1,7 @@
 -- The count so far is that of the backends gone over, and no more than that of all.
 use Rattle.std.proofs.Common.{refl, ap, ◌∙◌, arith}
 use Rattle.run_laws.specs.Counted.{all_reserved_count}
-use Rattle.told_lines.specs.Counts.{reserved_count}
+use Rattle.run_laws.specs.Counts.{reserved_count}
 use Rattle.backend_cli.proofs.AllCounts.{count_more, count_more-le}
 use Rattle.backend_cli.proofs.run.all_records_in.Goals as goal
 

@@ -1,9 +1,9 @@
 -- What was read is the script, and its refusal is what it means.
 use Rattle.std.proofs.Common.{subst}
 use Rattle.std.proofs.lemmas.Result.{err_from_is_err_and}
-use Rattle.wal_script.specs.Run.{run_meaning}
-use Rattle.wal_script.specs.Reading.{RefusesScript}
-use Rattle.wal_script.specs.RunReading.{DoesRun}
+use Rattle.run_script.specs.Run.{run_meaning}
+use Rattle.run_script.specs.Reading.{RefusesScript}
+use Rattle.run_script.specs.RunReading.{DoesRun}
 use Rattle.backend_cli.proofs.ScriptReading.{ends_unparsed}
 use Rattle.backend_cli.proofs.run.backends_of.Goals as goal
 

@@ -1,9 +1,9 @@
 -- An answer is counted where it says that a commit is durable.
 use Rattle.std.proofs.Common.{◌∙◌, ap, arith, if◌then◌else◌, sym, take}
 use Rattle.std.proofs.lemmas.List.{length-take}
-use Rattle.told_lines.specs.Counts.{is_hard}
-use Rattle.told_lines.proofs.AnswerCounts.{commits_of-le}
-use Rattle.told_lines.proofs.AnswerLoops.{commits_of_step}
+use Rattle.run_laws.specs.Counts.{is_hard}
+use Rattle.run_laws.proofs.AnswerCounts.{commits_of-le}
+use Rattle.run_laws.proofs.AnswerLoops.{commits_of_step}
 use Rattle.backend_cli.proofs.run.commits_in.Goals.{then-is_hard, else-is_hard}
 use Rattle.backend_cli.proofs.run.commits_in.Goals as goal
 

@@ -1,5 +1,5 @@
 use Rattle.std.proofs.Common.{◌≡◌, take}
-use Rattle.told_lines.specs.Counts.{commits_of}
+use Rattle.run_laws.specs.Counts.{commits_of}
 use Rattle.backend_cli.proofs.run.commits_in.Given as goal
 
 abbrev pub invariant-loop-answer : goal.invariant-loop-answer

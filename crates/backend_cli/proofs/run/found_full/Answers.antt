@@ -1,9 +1,9 @@
 use Rattle.std.proofs.Common.{◌≡◌, true, rules, tests}
 use Rattle.std.proofs.lemmas.Iterator.{cases_from_any, YieldsList-from_slice}
 use Rattle.std.specs.Prelude.{◌↔◌, IsTrue}
-use Rattle.told_lines.specs.Told.{IsFullAnswer, SomeAnswer, SomeTold}
-use Rattle.backend_lanes.specs.Backends.{lists_of}
-use Rattle.backend_lanes.specs.declared.backend.AnsweredLines.{AnsweredLines}
+use Rattle.run_laws.specs.Told.{IsFullAnswer, SomeAnswer, SomeTold}
+use Rattle.run_backends.specs.Backends.{lists_of}
+use Rattle.run_backends.specs.declared.backend.AnsweredLines.{AnsweredLines}
 use Rattle.backend_cli.proofs.AnySome.{some_from_any}
 use Rattle.backend_cli.proofs.run.found_full.Goals as goal
 

@@ -1,6 +1,6 @@
 use Rattle.std.proofs.Common.{rules, tests}
 use Rattle.std.proofs.lemmas.Iterator.{cases_from_any, YieldsList-from_slice}
-use Rattle.told_lines.specs.Told.{IsFullAnswer, SomeAnswer}
+use Rattle.run_laws.specs.Told.{IsFullAnswer, SomeAnswer}
 use Rattle.backend_cli.proofs.AnySome.{some_from_any}
 use Rattle.backend_cli.proofs.run.has_found_full.Goals as goal
 

@@ -2,8 +2,8 @@
 use Rattle.std.proofs.Common.{◌<◌, ◌^◌, ◌∙◌, Vec, ap, arith, refl}
 use Rattle.std.specs.Prelude.{vec_capacity}
 use Rattle.std.specs.declared.alloc.Global.{Global}
-use Rattle.told_lines.specs.declared.told.Told.{Told}
-use Rattle.wal_core.specs.declared.setup.Setup.{Setup}
+use Rattle.run_laws.specs.declared.told.Told.{Told}
+use Rattle.machine_state.specs.declared.setup.Setup.{Setup}
 use Rattle.wal_log.specs.Logs.{setup_of_log}
 use Rattle.backend_cli.proofs.RunBackends.{all_answered, as_many_prepared, as_many_scripts, as_many_told}
 use Rattle.backend_cli.proofs.RunLaws.{ends_behind, few_reserved}
@@ -45,7 +45,7 @@ pub conclude-requires-clause-ends : goal.conclude-requires-clause-ends
 conclude-requires-clause-ends g c =
     let ready = c.requires.prepared in
     let played = c.play_backends-played.ensures.played ready.0 (ready.1).lines in
-    let size_is = ap (λ (s : Setup). s.segment_size) c.requires.setup in
+    let size_is = ap (λ (s : Setup). s.seg_size) c.requires.setup in
     let narrow : (setup_of_log c.args.opened.log).sysid < 2 ^ 64 =
     omega (arith, ap (λ (s : Setup). s.sysid) c.requires.setup) in (
       _,
@@ -78,7 +78,7 @@ conclude-requires-clause-room g c =
 pub returns : goal.returns
 returns g c = λ script ready.
     let played = c.play_backends-played.ensures.played script ready.lines in
-    let size_is = ap (λ (s : Setup). s.segment_size) c.requires.setup in
+    let size_is = ap (λ (s : Setup). s.seg_size) c.requires.setup in
     let narrow : (setup_of_log c.args.opened.log).sysid < 2 ^ 64 =
     omega (arith, ap (λ (s : Setup). s.sysid) c.requires.setup) in
     record {

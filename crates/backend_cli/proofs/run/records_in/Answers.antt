@@ -2,10 +2,10 @@
 use Rattle.std.proofs.Common.{take, ap, sym, ◌∙◌, arith}
 use Rattle.std.proofs.lemmas.List.{length-take}
 use Rattle.std.specs.Option.{is_some}
-use Rattle.told_lines.specs.declared.told.Told.{Told}
-use Rattle.told_lines.specs.Told.{reserved_by}
-use Rattle.told_lines.proofs.AnswerCounts.{reserved_count-le}
-use Rattle.told_lines.proofs.AnswerLoops.{reserved_count_more, reserved_count_same}
+use Rattle.run_laws.specs.declared.told.Told.{Told}
+use Rattle.run_laws.specs.Told.{reserved_by}
+use Rattle.run_laws.proofs.AnswerCounts.{reserved_count-le}
+use Rattle.run_laws.proofs.AnswerLoops.{reserved_count_more, reserved_count_same}
 use Rattle.backend_cli.proofs.run.records_in.Goals.{then-is_some, else-is_some}
 use Rattle.backend_cli.proofs.run.records_in.Goals as goal
 

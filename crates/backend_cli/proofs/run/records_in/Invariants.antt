@@ -1,5 +1,5 @@
 use Rattle.std.proofs.Common.{◌≡◌, take}
-use Rattle.told_lines.specs.Counts.{reserved_count}
+use Rattle.run_laws.specs.Counts.{reserved_count}
 use Rattle.backend_cli.proofs.run.records_in.Given as goal
 
 abbrev pub invariant-loop-answer : goal.invariant-loop-answer

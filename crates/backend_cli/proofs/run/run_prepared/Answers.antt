@@ -1,7 +1,7 @@
 -- The log is opened, and the lines are played behind that.
 use Rattle.std.proofs.Common.{◌≡◌, ◌∙◌, [], ap, refl, subst, sym}
-use Rattle.wal_core.specs.Words.{Opening}
-use Rattle.wal_core.specs.declared.setup.Setup.{Setup}
+use Rattle.machine_state.specs.Words.{Opening}
+use Rattle.machine_state.specs.declared.setup.Setup.{Setup}
 use Rattle.waldump_text.proofs.SinkLaws.{with_behind-nil}
 use Rattle.backend_cli.specs.Outside.{outside_of}
 use Rattle.backend_cli.specs.Run.{PlayHolds}
@@ -23,7 +23,7 @@ play_opened-requires-clause-end g c = λ κs lives.
     begun_end g.D.Disk.tape g.D.Disk.moment g.D.Disk.faults c.run_setup-setup.result c.args.disk
     c.in-Ok.log c.in-Ok.first c.in-Ok.ensures.opened c.run_setup-setup.ensures.can_be
     c.args.options.now.geometry
-    (ap (λ (s : Setup). s.segment_size) c.run_setup-setup.ensures.of_room) c.segment_size.result
+    (ap (λ (s : Setup). s.seg_size) c.run_setup-setup.ensures.of_room) c.segment_size.result
     c.segment_size.ensures.value
 
 pub play_opened-requires-clause-counted : goal.play_opened-requires-clause-counted

@@ -1,6 +1,6 @@
 use Rattle.std.proofs.Common.{◌≡◌, ℕ, sym, ap, subst, arith}
-use Rattle.wal_core.specs.Steps.{advance, MayStep}
-use Rattle.wal_core.specs.Views.{View}
+use Rattle.machine_state.specs.Steps.{advance, MayStep}
+use Rattle.machine_state.specs.Views.{View}
 use Rattle.insert_locks.proofs.Runs.{HasToldBelow, none_told, run_has, told_all, told_next}
 use Rattle.insert_locks.proofs.holding.tell_below.Goals as goal
 

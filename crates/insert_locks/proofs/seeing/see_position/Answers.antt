@@ -1,7 +1,7 @@
 use Rattle.std.proofs.Common.{◌≡◌, ◌%◌, ◌≤◌, ap, ◌∙◌, subst}
-use Rattle.wal_core.specs.Moves.{unlocked}
-use Rattle.wal_core.specs.Views.{View}
-use Rattle.wal_core.specs.Words.{Opening, end_form}
+use Rattle.machine_state.specs.Moves.{unlocked}
+use Rattle.machine_state.specs.Views.{View}
+use Rattle.machine_state.specs.Words.{Opening, end_form}
 use Rattle.wal_rule.specs.SeatedPasses.{hand_of, view_of}
 use Rattle.insert_locks.proofs.Begun.{end_is_whole, start_is_met}
 use Rattle.insert_locks.proofs.Sees.{seen_is}
@@ -21,7 +21,7 @@ pub returns-clause-begun : goal.returns-clause-begun
 returns-clause-begun g c =
     let old = c.args.seated.now in
     let met = c.load_position.result in
-    subst (λ (o : Opening). (o.setup).segment_size ≤ end_form o.setup (unlocked met))
+    subst (λ (o : Opening). (o.setup).seg_size ≤ end_form o.setup (unlocked met))
     old.seated.own (start_is_met (view_of old) met c.load_position.ensures.met)
 
 pub returns-clause-whole : goal.returns-clause-whole

@@ -1,6 +1,6 @@
 use Rattle.std.proofs.Common.{◌≢◌, ℕ, ◌+◌, ◌%◌, ◌<◌, List, length, slice_index, slice_set, ◌∙◌, ap, subst, arith, below_more, get_or-set_other, get_or-set_same}
-use Rattle.wal_core.specs.Steps.{take_lock}
-use Rattle.wal_core.specs.Views.{View}
+use Rattle.machine_state.specs.Steps.{take_lock}
+use Rattle.machine_state.specs.Views.{View}
 use Rattle.wal_rule.specs.SeatedPasses.{view_of}
 use Rattle.wal_rule.specs.Stepping.{Meets}
 use Rattle.insert_locks.specs.Taking.{HaveMetHeld}

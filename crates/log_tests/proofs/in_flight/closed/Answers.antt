@@ -1,7 +1,7 @@
 use Rattle.std.proofs.Common.{[], sym, subst}
 use Rattle.machine_laws.specs.ClosedLogs.{HasAllNumbers}
-use Rattle.wal_core.specs.Moves.{after_join}
-use Rattle.wal_core.specs.Views.{View}
+use Rattle.machine_state.specs.Moves.{after_join}
+use Rattle.machine_state.specs.Views.{View}
 use Rattle.wal_rule.specs.Passes.{view_of_pass}
 use Rattle.wal_log.specs.Logs.{setup_of_log}
 use Rattle.log_tests.proofs.in_flight.closed.Goals as goal

@@ -1,4 +1,4 @@
-use Rattle.wal_core.specs.Views.{View}
+use Rattle.machine_state.specs.Views.{View}
 use Rattle.wal_rule.specs.Passes.{view_of_pass}
 use Rattle.wal_log.specs.Flights.{view_of_flight}
 use Rattle.wal_log.proofs.Keeping.{further_pass}

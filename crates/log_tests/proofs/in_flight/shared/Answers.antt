@@ -1,7 +1,7 @@
 use Rattle.std.proofs.Common.{[], ◌∷◌, ap, ◌∙◌, sym, subst}
 use Rattle.machine_laws.specs.ClosedLogs.{HasAllNumbers}
-use Rattle.wal_core.specs.Moves.{after_split, split_off}
-use Rattle.wal_core.specs.Views.{View}
+use Rattle.machine_state.specs.Moves.{after_split, split_off}
+use Rattle.machine_state.specs.Views.{View}
 use Rattle.wal_rule.specs.Passes.{view_of_pass}
 use Rattle.wal_log.specs.Logs.{opening_of_log, setup_of_log}
 use Rattle.wal_log.specs.Sharing.{ShareNumbers}

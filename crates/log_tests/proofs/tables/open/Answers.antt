@@ -2,12 +2,12 @@
 use Rattle.std.proofs.Common.{◌≡◌, ◌∙◌, ap, sym, subst, refl, arith}
 use Rattle.segment_disk.specs.declared.memory.disk.MemDisk.{MemDisk}
 use Rattle.wal_page.specs.LogPlace.{new_place}
-use Rattle.wal_core.specs.Words.{Opening}
-use Rattle.wal_core.specs.declared.setup.Setup.{Setup}
-use Rattle.wal_core.specs.Views.{Plain}
-use Rattle.wal_core.proofs.NothingFound.{nothing_opens}
-use Rattle.wal_core.specs.Opened.{AreFirstWords, IsFirstWriter}
-use Rattle.wal_core.specs.Sound.{IsSetup}
+use Rattle.machine_state.specs.Words.{Opening}
+use Rattle.machine_state.specs.declared.setup.Setup.{Setup}
+use Rattle.machine_state.specs.Views.{Plain}
+use Rattle.machine_state.proofs.NothingFound.{nothing_opens}
+use Rattle.machine_state.specs.Opened.{AreFirstWords, IsFirstWriter}
+use Rattle.machine_state.specs.Sound.{IsSetup}
 use Rattle.wal_rule.specs.Founded.{founded_opening}
 use Rattle.log_tests.proofs.tables.open.Goals as goal
 
@@ -27,7 +27,7 @@ open-requires-clause-openable c =
       passes_low = omega arith;
       passes_high = omega arith;
     }))
-    (subst (λ (o : Opening). o.place ≡ new_place (o.setup).segment_size)
+    (subst (λ (o : Opening). o.place ≡ new_place (o.setup).seg_size)
     (sym c.of-founding.ensures.opening) refl)
     (omega (arith, ap (λ (o : Opening). o.made) c.of-founding.ensures.opening))
 
@@ -45,13 +45,13 @@ open-requires-clause-words c =
 pub open-requires-clause-writer : goal.open-requires-clause-writer
 open-requires-clause-writer c =
     let opening = c.of-founding.ensures.opening in
-    let size = ap (λ (s : Setup). s.segment_size) (sym c.in_ok-shape.ensures)
+    let size = ap (λ (s : Setup). s.seg_size) (sym c.in_ok-shape.ensures)
     ∙ sym c.geometry.ensures in
     record {
       first = first_of _ _ _ opening (c.new-writer.ensures.first _ size);
       disk = c.of-founding.ensures.disk ∙ sym c.new-writer.ensures.disk;
       size = c.new-writer.ensures.size ∙ sym size
-          ∙ sym (ap (λ (o : Opening). (o.setup).segment_size) opening);
+          ∙ sym (ap (λ (o : Opening). (o.setup).seg_size) opening);
       failed = ap (λ (o : Opening). o.faults) opening
           ∙ ap (λ (d : MemDisk). d.calls.faults) (sym c.new-writer.ensures.disk);
     }

@@ -7,33 +7,33 @@ use Rattle.segment_disk.specs.Tape.{Tape}
 use Rattle.flush_core.specs.declared.planning.SettlePlan.{SettlePlan}
 use Rattle.flush_core.specs.Planned.{IsPlanOf, call_count}
 use Rattle.wal_page.specs.LogPlace.{LogPlace, new_place}
-use Rattle.wal_core.specs.Words.{Opening, found_end}
-use Rattle.wal_core.specs.declared.setup.Setup.{Setup}
-use Rattle.wal_core.proofs.NothingFound.{nothing_ends, nothing_opens}
-use Rattle.wal_core.specs.Opened.{AreFirstWords}
-use Rattle.wal_core.specs.Sound.{IsSetup}
+use Rattle.machine_state.specs.Words.{Opening, found_end}
+use Rattle.machine_state.specs.declared.setup.Setup.{Setup}
+use Rattle.machine_state.proofs.NothingFound.{nothing_ends, nothing_opens}
+use Rattle.machine_state.specs.Opened.{AreFirstWords}
+use Rattle.machine_state.specs.Sound.{IsSetup}
 use Rattle.wal_rule.specs.Founded.{found_log_opening, founded_opening}
 use Rattle.wal_rule.specs.Slotted.{resting_plain}
 use Rattle.log_tests.proofs.tables.resume.Goals as goal
 
 -- a log of this size in which nothing was found ends where it starts
-ends_at : (o : Opening) (size : ℕ) → IsSegmentSize size → (o.setup).segment_size ≡ size
-    → o.place ≡ new_place (o.setup).segment_size → found_end o ≡ size
+ends_at : (o : Opening) (size : ℕ) → IsSegmentSize size → (o.setup).seg_size ≡ size
+    → o.place ≡ new_place (o.setup).seg_size → found_end o ≡ size
 ends_at o size valid same fresh =
     nothing_ends o (subst (λ (n : ℕ). IsSegmentSize n) (sym same) valid) fresh ∙ same
 
 -- .. and it goes on where a new one begins, by its setup or by its own
 new_as : (o : Opening) (setup : Setup) (place : LogPlace) (made moment faults : ℕ)
     → o ≡ found_log_opening setup place made moment faults
-    → place ≡ new_place setup.segment_size → o.place ≡ new_place setup.segment_size
+    → place ≡ new_place setup.seg_size → o.place ≡ new_place setup.seg_size
 new_as o setup place made moment faults is fresh = ap (λ (p : Opening). p.place) is ∙ fresh
 
 new_there : (o : Opening) (setup : Setup) (place : LogPlace) (made moment faults : ℕ)
     → o ≡ found_log_opening setup place made moment faults
-    → place ≡ new_place setup.segment_size → o.place ≡ new_place (o.setup).segment_size
+    → place ≡ new_place setup.seg_size → o.place ≡ new_place (o.setup).seg_size
 new_there o setup place made moment faults is fresh =
     new_as o setup place made moment faults is fresh
-    ∙ sym (ap (λ (p : Opening). new_place (p.setup).segment_size) is)
+    ∙ sym (ap (λ (p : Opening). new_place (p.setup).seg_size) is)
 
 plan_of : (size end made other_size other_end count : ℕ) (t other : Option Tape)
     (plan : SettlePlan) → size ≡ other_size → end ≡ other_end → made ≡ count → t ≡ other
@@ -88,9 +88,9 @@ resume-requires-clause-words c =
 pub resume-requires-clause-writer : goal.resume-requires-clause-writer
 resume-requires-clause-writer c =
     let opening = c.of_found-founding.ensures.opening in
-    let size = ap (λ (s : Setup). s.segment_size) (sym c.in_ok-shape.ensures)
+    let size = ap (λ (s : Setup). s.seg_size) (sym c.in_ok-shape.ensures)
     ∙ sym c.geometry-2.ensures in
-    let same_size = ap (λ (o : Opening). (o.setup).segment_size) opening in
+    let same_size = ap (λ (o : Opening). (o.setup).seg_size) opening in
     let disk = c.of_found-founding.ensures.disk in
     let end = ends_at (founded_opening c.of_found-founding.result) _ refl same_size
     (new_there _ _ _ _ _ _ opening c.first_place.ensures) in
@@ -107,9 +107,9 @@ pub resume-requires-clause-plan : goal.resume-requires-clause-plan
 resume-requires-clause-plan c =
     let opening = c.of_found-founding.ensures.opening in
     let planned = c.in_ok-plan.ensures in
-    let size = ap (λ (s : Setup). s.segment_size) (sym c.in_ok-shape.ensures)
+    let size = ap (λ (s : Setup). s.seg_size) (sym c.in_ok-shape.ensures)
     ∙ sym c.geometry.ensures in
-    let same_size = ap (λ (o : Opening). (o.setup).segment_size) opening in
+    let same_size = ap (λ (o : Opening). (o.setup).seg_size) opening in
     let end = ends_at (founded_opening c.of_found-founding.result) _ refl same_size
     (new_there _ _ _ _ _ _ opening c.first_place.ensures) in
     plan_of _ _ _ _ _ _ _ _ _ (same_size ∙ size) end

@@ -2,7 +2,7 @@ use Rattle.std.proofs.Common.{ℕ, List, arith, map, subst, sym}
 use Rattle.std.proofs.lemmas.List.{nil_from_length}
 use Rattle.std.proofs.lemmas.List.Elements.{All-head, All-tail}
 use Rattle.wal_rule.specs.Passes.{view_of_pass}
-use Rattle.wal_core.specs.Views.{View}
+use Rattle.machine_state.specs.Views.{View}
 use Rattle.wal_log.specs.Logs.{setup_of_log}
 use Rattle.wal_log.specs.Sharing.{ShareNumbers}
 use Rattle.log_workers.specs.Workers.{AreWorkersOf, IsWorkerOf, view_of_worker}

@@ -1,6 +1,6 @@
 use Rattle.std.specs.Prelude.{map}
-use Rattle.wal_core.specs.Words.{down_word, flushed_word, moment_word}
-use Rattle.wal_core.specs.Views.{receipts_of}
+use Rattle.machine_state.specs.Words.{down_word, flushed_word, moment_word}
+use Rattle.machine_state.specs.Views.{receipts_of}
 use Rattle.machine_laws.proofs.CrashLaws.{crashes_leave_the_log, down_tells}
 use Rattle.machine_laws.proofs.durable_states.sound_logs_show_what_crashes_leave.Goals as goal
 

@@ -1,6 +1,6 @@
 use Rattle.std.proofs.Common.{sym, subst, set}
-use Rattle.wal_core.specs.Views.{Receipts}
-use Rattle.wal_core.specs.Durable.{DurabilityHolds}
+use Rattle.machine_state.specs.Views.{Receipts}
+use Rattle.machine_state.specs.Durable.{DurabilityHolds}
 use Rattle.machine_laws.proofs.DurableViewSteps.{load_down_keeps, load_flushed_keeps, load_moment_keeps, load_word_keeps, load_written_keeps, same}
 use Rattle.machine_laws.proofs.durable_steps.loads_keep_durability.Goals as goal
 

@@ -21,7 +21,7 @@ returns-clause-flushed c = λ first o order flushed moment down home writer part
       positions.flushed_low,
       positions.written_low,
     ) in
-    let whole = segment_size_in_pages (o.setup).segment_size setup.size in
+    let whole = segment_size_in_pages (o.setup).seg_size setup.size in
     let some_flushed : 1 ≤ flushed = omega (arith, positions.begun, whole.0, whole.1) in
     store_flushed_keeps o order flushed moment down home writer parts h id v here turn writers has
     at met some_flushed low may

@@ -1,4 +1,4 @@
-use Rattle.wal_core.proofs.NothingFound.{nothing_ends, nothing_opens}
+use Rattle.machine_state.proofs.NothingFound.{nothing_ends, nothing_opens}
 use Rattle.machine_laws.proofs.OpeningLaws.{logs_begin, suited_begins}
 use Rattle.machine_laws.proofs.opening.logs_begin_sound.Goals as goal
 

@@ -1,5 +1,5 @@
 use Rattle.std.proofs.Common.{refl}
-use Rattle.wal_core.specs.Views.{Ready, Zeroing, Published}
+use Rattle.machine_state.specs.Views.{Ready, Zeroing, Published}
 use Rattle.machine_laws.proofs.PageLaws as law
 use Rattle.machine_laws.proofs.pages.mapping_keeps_pages.Goals as goal
 

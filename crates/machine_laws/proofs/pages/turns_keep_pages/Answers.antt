@@ -1,5 +1,5 @@
 use Rattle.std.proofs.Common.{refl}
-use Rattle.wal_core.specs.Views.{Away}
+use Rattle.machine_state.specs.Views.{Away}
 use Rattle.machine_laws.proofs.PageLaws as law
 use Rattle.machine_laws.proofs.pages.turns_keep_pages.Goals as goal
 

@@ -1,5 +1,5 @@
 use Rattle.std.proofs.Common.{refl}
-use Rattle.wal_core.specs.Moves.{looked, ready}
+use Rattle.machine_state.specs.Moves.{looked, ready}
 use Rattle.machine_laws.proofs.MappingLaws.{mapping_goes_on, mapping_moved, looked_keeps, ready_keeps}
 use Rattle.machine_laws.proofs.turns.the_mapping_turn_has_the_stage_of_its_holder.Goals as goal
 

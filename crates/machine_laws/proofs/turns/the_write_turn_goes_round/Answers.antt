@@ -1,4 +1,4 @@
-use Rattle.wal_core.specs.Views.{Turned}
+use Rattle.machine_state.specs.Views.{Turned}
 use Rattle.machine_laws.proofs.WritingLaws.{at_hold, writing_asked, writing_released}
 use Rattle.machine_laws.proofs.turns.the_write_turn_goes_round.Goals as goal
 

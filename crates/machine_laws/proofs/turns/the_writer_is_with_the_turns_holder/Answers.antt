@@ -1,4 +1,4 @@
-use Rattle.wal_core.specs.Views.{Turned, Out}
+use Rattle.machine_state.specs.Views.{Turned, Out}
 use Rattle.machine_laws.proofs.WritingLaws.{at_hold, writing_slot_out, writing_slot_in, writing_changed}
 use Rattle.machine_laws.proofs.turns.the_writer_is_with_the_turns_holder.Goals as goal
 

@@ -1,6 +1,6 @@
 use Rattle.std.proofs.Common.{All, sym, subst}
 use Rattle.std.proofs.lemmas.List.Elements.{All-push}
-use Rattle.machine_core.specs.Lines.{InsertsNoSwitch}
+use Rattle.wal_core.specs.Lines.{InsertsNoSwitch}
 use Rattle.machine_tests.proofs.lines.scripts_of.Goals as goal
 
 pub loop-plan-preserved : goal.loop-plan-preserved

@@ -1,6 +1,6 @@
 -- The words below the next one are copied; no other word changed.
 use Rattle.std.proofs.Common.{◌≡◌, ℕ, ◌+◌, ◌<◌, ◌≤◌, List, length, slice_index}
-use Rattle.record_spelling.specs.Spelling.{word_at}
+use Rattle.wal_spelling.specs.Spelling.{word_at}
 use Rattle.machine_words.proofs.first.copy_words.Given as goal
 
 -- after some turns: `old` are the words before, `new` those now

@@ -1,7 +1,7 @@
 -- The buffers below the next one hold their pages; no other word changed.
 use Rattle.std.proofs.Common.{◌≡◌, ℕ, ◌+◌, ◌<◌, ◌≤◌, List, length, slice_index}
-use Rattle.wal_core.specs.Words.{ends_number}
-use Rattle.wal_core.specs.Paged.{HoldsPage}
+use Rattle.machine_state.specs.Words.{ends_number}
+use Rattle.machine_state.specs.Paged.{HoldsPage}
 use Rattle.machine_words.proofs.first.hold_pages.Given as goal
 
 -- after some turns: `old` are the words before, `new` those now

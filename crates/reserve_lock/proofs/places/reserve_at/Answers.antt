@@ -1,5 +1,5 @@
 use Rattle.std.proofs.Common.{ℕ, ap, arith}
-use Rattle.wal_core.specs.Words.{Opening}
+use Rattle.machine_state.specs.Words.{Opening}
 use Rattle.wal_rule.specs.SeatedPasses.{view_of}
 use Rattle.reserve_lock.proofs.Steps.{known_in}
 use Rattle.reserve_lock.proofs.Placing.{has_entry, may_reserve, may_store_prev}

@@ -1,7 +1,7 @@
 use Rattle.std.proofs.Common.{ℕ, refl, sym, ap, ◌∙◌, arith}
 use Rattle.wal_page.specs.Order.{assembled_room_at}
 use Rattle.wal_page.proofs.PaddingLaws.{le-assembled_room_at}
-use Rattle.wal_core.specs.Words.{log_limit}
+use Rattle.machine_state.specs.Words.{log_limit}
 use Rattle.wal_rule.specs.SeatedPasses.{setup_of, view_of}
 use Rattle.reserve_lock.proofs.Records.{read_same, read_under, record_read}
 use Rattle.reserve_lock.proofs.reserving.reserve_locked.Goals as goal
@@ -14,14 +14,14 @@ pub reserve_at-prev-requires-clause-kind : goal.reserve_at-prev-requires-clause-
 reserve_at-prev-requires-clause-kind g c = (
   record_read c.args.body.now,
   read_under c.args.body.now c.requires.known (view_of c.args.seated.now).working.locks
-      c.requires.all,
+      c.requires.holds.all,
   read_same c.args.body.now c.requires.known,
   refl,
 )
 
 pub end_behind-requires-clause-some : goal.end_behind-requires-clause-some
 end_behind-requires-clause-some g c =
-    let bound = (le-assembled_room_at (setup_of c.args.seated.now).segment_size c.args.locked.at
+    let bound = (le-assembled_room_at (setup_of c.args.seated.now).seg_size c.args.locked.at
     c.args.body.now).0 in
     omega (arith, bound, c.requires.room)
 
@@ -29,7 +29,7 @@ pub reserved-requires-clause-room : goal.reserved-requires-clause-room
 reserved-requires-clause-room g c =
     c.requires.room
     ∙ ap (λ (n : ℕ). assembled_room_at n c.args.locked.at c.args.body.now)
-    (sym c.requires.geometry)
+    (sym c.requires.locked.geometry)
 
 pub returns-clause-reserved : goal.returns-clause-reserved
 returns-clause-reserved g c =
@@ -40,8 +40,8 @@ returns-clause-reserved g c =
         at = c.args.locked.at;
         prev = c.reserve_at-prev.result;
         reserved = entry;
-        behind_seen = c.requires.seen;
-        within = omega (arith, limit, c.requires.room, short, c.requires.within);
+        behind_seen = c.requires.locked.seen;
+        within = omega (arith, limit, c.requires.room, short, c.requires.locked.within);
         placed_is = (cc);
         start_is = (cc);
       },

@@ -1,4 +1,4 @@
-use Rattle.wal_core.specs.Steps.{give_position_back, store_position}
+use Rattle.machine_state.specs.Steps.{give_position_back, store_position}
 use Rattle.wal_rule.specs.SeatedPasses.{view_of}
 use Rattle.reserve_lock.proofs.Records.{record_read}
 use Rattle.reserve_lock.proofs.reserving.reserve_locked.Given as goal

@@ -1,5 +1,5 @@
 use Rattle.std.proofs.Common.{Err, [], ◌∷◌, refl, sym, ap, ◌∙◌, subst, arith}
-use Rattle.wal_core.specs.Views.{View}
+use Rattle.machine_state.specs.Views.{View}
 use Rattle.wal_rule.specs.SeatedPasses.{setup_of, view_of}
 use Rattle.reserve_lock.specs.Reserved.{TellsWhy}
 use Rattle.reserve_lock.specs.declared.reserving.ReserveErr.{ReserveErr}

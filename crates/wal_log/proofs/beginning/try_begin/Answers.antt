@@ -1,7 +1,7 @@
 use Rattle.std.proofs.Common.{ℕ, Err, sym, ap, ◌∙◌, subst}
 use Rattle.std.proofs.lemmas.Result.{err_from_is_err_and}
-use Rattle.wal_core.specs.Steps.{IsResting}
-use Rattle.wal_core.specs.Views.{View}
+use Rattle.machine_state.specs.Steps.{IsResting}
+use Rattle.machine_state.specs.Views.{View}
 use Rattle.wal_rule.specs.SeatedPasses.{setup_of, view_of}
 use Rattle.insert_locks.specs.Taking.{AreHeldWords}
 use Rattle.wal_log.specs.Beginning.{try_err_known_down}

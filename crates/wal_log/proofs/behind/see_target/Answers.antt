@@ -1,6 +1,6 @@
 use Rattle.std.proofs.Common.{◌≡◌, ℕ, ◌-◌, ◌%◌, ◌<◌, ◌≤◌, ap, sym, ◌∙◌, arith}
-use Rattle.wal_core.specs.declared.setup.Setup.{Setup}
-use Rattle.wal_core.specs.Words.{end_form}
+use Rattle.machine_state.specs.declared.setup.Setup.{Setup}
+use Rattle.machine_state.specs.Words.{end_form}
 use Rattle.wal_rule.specs.SeatedPasses.{setup_of, view_of}
 use Rattle.wal_log.specs.Behind.{SeesTarget}
 use Rattle.wal_log.proofs.BehindLaws.{page_from_end, sees_by_page}
@@ -28,9 +28,9 @@ module _ (g : Over) (c : After-see_reserved-end g) where
       ∙ c.load_flushed-flushed.ensures.steps.same_table) ∙ sym (own_setup old) in
       let end = c.see_reserved-end.ensures.end
       ∙ ap (λ (s : Setup). end_form s seen) same in
-      let size = ap (λ (s : Setup). s.segment_size) same in
+      let size = ap (λ (s : Setup). s.seg_size) same in
       let first = c.see_reserved-end.ensures.begun in
-      let begun : (view_of old).opening.setup.segment_size
+      let begun : (view_of old).opening.setup.seg_size
       ≤ end_form (view_of old).opening.setup seen = omega (arith, end, size, first) in
       sees_by_page c.load_flushed-flushed.result c.load_async-async_met.result seen (view_of old)
       (view_of c.load_flushed-flushed.new.self) (view_of loaded)

@@ -1,8 +1,8 @@
 use Rattle.std.specs.Prelude.{Err}
 use Rattle.std.proofs.Common.{ℕ, ap, sym, ◌∙◌, subst, arith}
 use Rattle.byte_position.specs.Geometry.{IsSegmentSize}
-use Rattle.wal_core.specs.declared.setup.Setup.{Setup}
-use Rattle.wal_core.specs.Views.{View}
+use Rattle.machine_state.specs.declared.setup.Setup.{Setup}
+use Rattle.machine_state.specs.Views.{View}
 use Rattle.wal_rule.specs.SeatedPasses.{view_of}
 use Rattle.wal_log.specs.declared.flushing.FlushErr.TheVariants.{Down}
 use Rattle.wal_log.specs.Standing.{ComesToRest}
@@ -106,7 +106,7 @@ returns-in-Err-clause-catches g c =
       refuses_behind old down sight c.load_down-faults.result c.see_target-flushed.result.0
           c.see_target-flushed.result.1 by_down met c.if-faults-ne0.false sees
           (view_of c.flush_on.new.seated)
-          (subst (λ (s : Setup). IsSegmentSize s.segment_size) (sym (own_setup c.args.seated.now))
+          (subst (λ (s : Setup). IsSegmentSize s.seg_size) (sym (own_setup c.args.seated.now))
           (valid_size c.args.seated.now))
           (seen_so g at).keeps (omega (arith, c.if-target-flushed.false)) c.in-Err.e told.1,
     )

@@ -4,7 +4,7 @@ use Rattle.std.proofs.lemmas.Result.{err_from_is_err_and}
 use Rattle.wal_types.specs.declared.answers.Cause.TheVariants as causes
 use Rattle.wal_types.specs.declared.answers.Refused.{Refused}
 use Rattle.wal_types.specs.declared.lsn.Lsn.{Lsn}
-use Rattle.wal_core.specs.declared.setup.Setup.{Setup}
+use Rattle.machine_state.specs.declared.setup.Setup.{Setup}
 use Rattle.wal_rule.specs.SeatedPasses.{setup_of, view_of}
 use Rattle.wal_log.specs.Committing.{RefusesCommit}
 use Rattle.wal_log.proofs.CommitLaws.{end_is_reserved, known_again, never_both, sealed_is, set_none, started}

@@ -1,8 +1,8 @@
 use Rattle.std.proofs.Common.{◌/◌, ap, inl, inr, sym, subst, arith}
 use Rattle.wal_page.specs.Placed.{PlacedState}
-use Rattle.wal_core.specs.declared.setup.Setup.{Setup}
-use Rattle.wal_core.specs.Moves.{with_told}
-use Rattle.wal_core.specs.Views.{View}
+use Rattle.machine_state.specs.declared.setup.Setup.{Setup}
+use Rattle.machine_state.specs.Moves.{with_told}
+use Rattle.machine_state.specs.Views.{View}
 use Rattle.wal_rule.specs.SeatedPasses.{view_of}
 use Rattle.wal_log.specs.Copying.{TellsAbsent}
 use Rattle.wal_log.proofs.CopyLaws.{copied_on}

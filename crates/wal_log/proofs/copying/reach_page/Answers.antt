@@ -1,7 +1,7 @@
 use Rattle.std.proofs.Common.{ℕ, max, inl, inr, refl, sym, ap, ◌∙◌, subst, arith}
-use Rattle.wal_core.specs.declared.setup.Setup.{Setup}
-use Rattle.wal_core.specs.Steps.{take_mapping_turn}
-use Rattle.wal_core.specs.Views.{View}
+use Rattle.machine_state.specs.declared.setup.Setup.{Setup}
+use Rattle.machine_state.specs.Steps.{take_mapping_turn}
+use Rattle.machine_state.specs.Views.{View}
 use Rattle.wal_rule.specs.SeatedPasses.{setup_of, view_of}
 use Rattle.wal_rule.specs.Stepping.{Meets}
 use Rattle.word_ring.specs.Mapped.{looked_view}

@@ -1,5 +1,5 @@
 use Rattle.std.proofs.Common.{ap}
-use Rattle.wal_core.specs.Views.{View}
+use Rattle.machine_state.specs.Views.{View}
 use Rattle.wal_rule.specs.SeatedPasses.{view_of}
 use Rattle.wal_log.proofs.Keeping.{down_met_keeps, none_loaded}
 use Rattle.wal_log.proofs.Seated.{seat_stays, view_is}

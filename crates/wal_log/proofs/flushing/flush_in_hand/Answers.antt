@@ -1,12 +1,12 @@
 use Rattle.std.proofs.Common.{◌≡◌, ℕ, ap, ◌∙◌, subst, sym, arith}
 use Rattle.std.proofs.lemmas.Result.{err_from_is_err_and}
 use Rattle.flush_core.specs.Calls.{waiting_calls}
-use Rattle.wal_core.specs.Views.{Plain}
-use Rattle.wal_core.specs.declared.setup.Setup.{Setup}
+use Rattle.machine_state.specs.Views.{Plain}
+use Rattle.machine_state.specs.declared.setup.Setup.{Setup}
 use Rattle.wal_rule.specs.SeatedPasses.{setup_of, view_of}
-use Rattle.page_writing.specs.InHand.{writer_in}
-use Rattle.page_writing.specs.MadeCalls.{HasBrokenOff, HasCalled, calls_to_flush}
-use Rattle.page_writing.proofs.HandLaws.{same_setup}
+use Rattle.word_ring.specs.InHand.{writer_in}
+use Rattle.word_ring.specs.MadeCalls.{HasBrokenOff, HasCalled, calls_to_flush}
+use Rattle.word_ring.proofs.HandLaws.{same_setup}
 use Rattle.wal_log.proofs.AddingNothing.{adds_on, hand_changed}
 use Rattle.wal_log.proofs.FlushLaws.{told_behind}
 use Rattle.wal_log.proofs.Keeping.{changes_up}
@@ -29,16 +29,16 @@ returns-in_err-write_pages-clause-calls g c =
     let breaks = c.in_err-write_pages.ensures.calls in
     rw (p.1) (
       breaks.bytes,
-      flush_breaks (setup_of a).segment_size c.args.known (writer_in (view_of a)) breaks.bytes
+      flush_breaks (setup_of a).seg_size c.args.known (writer_in (view_of a)) breaks.bytes
           (writer_in (view_of c.write_pages.new.seated)) breaks.broken,
     )
 
 -- ---- all was written
 
 module _ (g : Over) (c : After-sync_written g) where
-  same_size : (setup_of c.write_pages.new.seated).segment_size
-      ≡ (setup_of c.args.seated.now).segment_size
-  same_size = ap (λ (t : Setup). t.segment_size) (same_setup c.args.seated.now
+  same_size : (setup_of c.write_pages.new.seated).seg_size
+      ≡ (setup_of c.args.seated.now).seg_size
+  same_size = ap (λ (t : Setup). t.seg_size) (same_setup c.args.seated.now
       c.write_pages.new.seated c.write_pages.ensures.adds_nothing.works.same_table)
 
 -- ---- the sync failed
@@ -71,7 +71,7 @@ returns-in_err-sync_written-clause-calls g c =
     (goal.at.returns-in_err-sync_written-clause-calls g c).After-sync_written in
     rw (p.1) (
       wrote.bytes,
-      flush_fails (setup_of a).segment_size c.args.known (writer_in (view_of a)) w synced wrote
+      flush_fails (setup_of a).seg_size c.args.known (writer_in (view_of a)) w synced wrote
           (subst (λ (n : ℕ). HasBrokenOff (waiting_calls n w.waiting) w synced) size
           c.in_err-sync_written.ensures.ends.called),
     )
@@ -105,10 +105,10 @@ returns-clause-calls g c =
     let wrote = c.in_ok-write_pages.ensures.calls in
     let size = same_size g (goal.at.returns-clause-calls g c).After-sync_written in (
       wrote.bytes,
-      subst (λ (x : Plain). HasCalled (calls_to_flush (setup_of a).segment_size c.args.known
+      subst (λ (x : Plain). HasCalled (calls_to_flush (setup_of a).seg_size c.args.known
           wrote.bytes (writer_in (view_of a))) (writer_in (view_of a)) x)
           (sym c.store_hard.ensures.writer)
-          (flush_ends (setup_of a).segment_size c.args.known (writer_in (view_of a)) w synced wrote
+          (flush_ends (setup_of a).seg_size c.args.known (writer_in (view_of a)) w synced wrote
           (subst (λ (n : ℕ). HasCalled (waiting_calls n w.waiting) w synced) size
           c.in_ok-sync_written.ensures.ends.called)),
     )

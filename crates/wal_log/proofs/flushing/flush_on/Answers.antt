@@ -1,7 +1,7 @@
 use Rattle.std.specs.Prelude.{Ok, Err}
 use Rattle.std.proofs.Common.{inl, inr, refl, sym, ap, ◌∙◌, subst}
 use Rattle.byte_position.specs.Geometry.{IsSegmentSize}
-use Rattle.wal_core.specs.declared.setup.Setup.{Setup}
+use Rattle.machine_state.specs.declared.setup.Setup.{Setup}
 use Rattle.wal_rule.specs.SeatedPasses.{view_of}
 use Rattle.wal_log.specs.declared.flushing.FlushErr.{FlushErr}
 use Rattle.wal_log.specs.declared.flushing.TryFlushErr.TheVariants.{Fault, Unreserved}
@@ -27,8 +27,8 @@ loop-init g c = record {
 }
 
 size_so : (g : Over) (c : After-try_flush g)
-    → IsSegmentSize (view_of c.loop.seated).opening.setup.segment_size
-size_so g c = subst (λ (s : Setup). IsSegmentSize s.segment_size) (sym (own_setup c.loop.seated))
+    → IsSegmentSize (view_of c.loop.seated).opening.setup.seg_size
+size_so g c = subst (λ (s : Setup). IsSegmentSize s.seg_size) (sym (own_setup c.loop.seated))
     (valid_size c.loop.seated)
 
 rests : (g : Over) (c : After-try_flush g) → ComesToRest c.args.seated.now c.try_flush.new.seated
@@ -112,7 +112,7 @@ loop-preserved-in-Err-Behind g c =
       judged = judged_again c.args.upto.0 c.args.seated.now c.loop.seated
           (view_of c.try_flush.new.seated) c.try_flush.new.seated c.loop.invariant.judged
           (rw c.in-Err-Behind.field-0-is at c.in-Err-Behind.ensures.unreserved) why.0.1
-          (subst (λ (s : Setup). IsSegmentSize s.segment_size)
+          (subst (λ (s : Setup). IsSegmentSize s.seg_size)
           (sym (own_setup c.try_flush.new.seated)) (valid_size c.try_flush.new.seated))
           (same_pass (view_of c.try_flush.new.seated));
     }
@@ -143,7 +143,7 @@ loop-preserved g c =
           (view_of c.try_flush.new.seated) c.gather.new.seated
           c.loop.invariant.judged
           (rw c.in-Err-Turn.field-0-is at c.in-Err-Turn.ensures.unreserved) why.0.2
-          (subst (λ (s : Setup). IsSegmentSize s.segment_size)
+          (subst (λ (s : Setup). IsSegmentSize s.seg_size)
           (sym (own_setup c.try_flush.new.seated)) (valid_size c.try_flush.new.seated))
           (further_pass (view_of c.try_flush.new.seated) (view_of c.await_flush.new.seated)
           (view_of c.gather.new.seated) c.await_flush.ensures.stays.work.pass

@@ -1,5 +1,5 @@
 use Rattle.std.proofs.Common.{ap, refl, ◌∙◌}
-use Rattle.wal_core.specs.Views.{Idle}
+use Rattle.machine_state.specs.Views.{Idle}
 use Rattle.wal_rule.specs.SeatedPasses.{view_of}
 use Rattle.wal_log.specs.Standing.{AddsNothing}
 use Rattle.wal_log.proofs.AddingNothing.{as_before, held_else, went_down, works_on}

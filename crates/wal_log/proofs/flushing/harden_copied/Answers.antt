@@ -2,9 +2,9 @@ use Rattle.std.proofs.Common.{◌≡◌, ℕ, ◌≤◌, sym, subst, ◌∙◌, 
 use Rattle.std.proofs.lemmas.Result.{err_from_is_err_and}
 use Rattle.byte_position.specs.Geometry.{IsSegmentSize}
 use Rattle.byte_position.proofs.EndAddresses.{end_address_of-mono}
-use Rattle.wal_core.specs.declared.setup.Setup.{Setup}
-use Rattle.wal_core.specs.Words.{end_form}
-use Rattle.wal_core.specs.Views.{View}
+use Rattle.machine_state.specs.declared.setup.Setup.{Setup}
+use Rattle.machine_state.specs.Words.{end_form}
+use Rattle.machine_state.specs.Views.{View}
 use Rattle.wal_rule.specs.SeatedPasses.{setup_of, view_of}
 use Rattle.insert_locks.specs.declared.watching.Watched.{Watched}
 use Rattle.wal_log.specs.Flushing.{HasPassedLocks}
@@ -22,8 +22,8 @@ module _ (g : Over) (c : After-watch g) where
   abbrev old : View
   old = view_of c.args.seated.now
 
-  size : IsSegmentSize old.opening.setup.segment_size
-  size = subst (λ (s : Setup). IsSegmentSize s.segment_size) (sym (own_setup c.args.seated.now))
+  size : IsSegmentSize old.opening.setup.seg_size
+  size = subst (λ (s : Setup). IsSegmentSize s.seg_size) (sym (own_setup c.args.seated.now))
       (valid_size c.args.seated.now)
 
   reserved : c.args.upto.0 ≤ end_form old.opening.setup old.reserving.seen
@@ -142,7 +142,7 @@ harden_in_turn-requires-clause-reserved g c =
     let works = (tried g path.After-take_ready
     (all_seen g path.After-watch c.in-Finished.upto c.in-Finished.is)).works in
     let setup : Setup = setup_of c.args.seated.now in
-    let higher = end_address_of-mono setup.segment_size (valid_size c.args.seated.now)
+    let higher = end_address_of-mono setup.seg_size (valid_size c.args.seated.now)
     (view_of c.args.seated.now).reserving.seen (view_of c.take_ready.new.seated).reserving.seen
     works.work.pass.rises in
     let before = c.requires.reserved in

@@ -1,12 +1,12 @@
 use Rattle.std.proofs.Common.{◌≡◌, ◌≤◌, inl, inr, sym, ap, subst, ◌∙◌, arith}
 use Rattle.std.proofs.lemmas.Result.{err_from_is_err_and}
 use Rattle.byte_position.specs.Geometry.{IsSegmentSize}
-use Rattle.wal_core.specs.Moves.{with_hold}
-use Rattle.wal_core.specs.Views.{Hold, Idle, View}
-use Rattle.wal_core.specs.Words.{end_form}
-use Rattle.wal_core.specs.declared.setup.Setup.{Setup}
+use Rattle.machine_state.specs.Moves.{with_hold}
+use Rattle.machine_state.specs.Views.{Hold, Idle, View}
+use Rattle.machine_state.specs.Words.{end_form}
+use Rattle.machine_state.specs.declared.setup.Setup.{Setup}
 use Rattle.wal_rule.specs.SeatedPasses.{view_of}
-use Rattle.page_writing.specs.InHand.{IsReady, lent_in}
+use Rattle.word_ring.specs.InHand.{IsReady, lent_in}
 use Rattle.wal_log.specs.Standing.{AddsNothing, WorksOn}
 use Rattle.wal_log.proofs.AddingNothing.{held_else, works_on}
 use Rattle.wal_log.proofs.FlushLaws.{fails_flush, told_behind, told_still}
@@ -23,8 +23,8 @@ module _ (g : Over) (c : After-told_already g) where
   abbrev old : View
   old = view_of c.args.seated.now
 
-  size : IsSegmentSize old.opening.setup.segment_size
-  size = subst (λ (s : Setup). IsSegmentSize s.segment_size) (sym (own_setup c.args.seated.now))
+  size : IsSegmentSize old.opening.setup.seg_size
+  size = subst (λ (s : Setup). IsSegmentSize s.seg_size) (sym (own_setup c.args.seated.now))
       (valid_size c.args.seated.now)
 
   reserved : c.args.upto.0 ≤ end_form old.opening.setup old.reserving.seen

@@ -1,10 +1,10 @@
 use Rattle.std.proofs.Common.{◌≡◌, ◌≤◌, ℕ, refl, sym, ap, subst, ◌∙◌, arith}
 use mathlib.Core.Option.{none}
-use Rattle.wal_core.specs.Steps.{store_moment, view_behind, MayStep}
-use Rattle.wal_core.specs.Views.{Out, View}
+use Rattle.machine_state.specs.Steps.{store_moment, view_behind, MayStep}
+use Rattle.machine_state.specs.Views.{Out, View}
 use Rattle.wal_rule.specs.SeatedPasses.{StaysSeated, view_of}
-use Rattle.page_writing.specs.InHand.{lent_in, writer_in}
-use Rattle.page_writing.proofs.HandLaws.{HasLent}
+use Rattle.word_ring.specs.InHand.{lent_in, writer_in}
+use Rattle.word_ring.proofs.HandLaws.{HasLent}
 use Rattle.wal_log.specs.Hands.{IsLatestPromise}
 use Rattle.wal_log.proofs.FlushLaws.{hard_lent, hard_told, may_store_moment, may_tell, promises_are_low, since_opening, stores_moment, told_is, told_view, told_work}
 use Rattle.wal_log.proofs.InHandLaws.{hand_stays}

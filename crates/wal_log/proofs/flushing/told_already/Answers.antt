@@ -1,8 +1,8 @@
 use Rattle.std.proofs.Common.{◌≡◌, ℕ, ◌<◌, sym, ap, ◌∙◌, subst}
 use Rattle.std.proofs.lemmas.Map.Keys.{ge_from_not_lt}
 use mathlib.Core.Option.{none}
-use Rattle.wal_core.specs.Steps.{load_moment, view_behind}
-use Rattle.wal_core.specs.Views.{View}
+use Rattle.machine_state.specs.Steps.{load_moment, view_behind}
+use Rattle.machine_state.specs.Views.{View}
 use Rattle.wal_rule.specs.SeatedPasses.{view_of}
 use Rattle.wal_rule.specs.Stepping.{Meets}
 use Rattle.wal_log.specs.Downs.{KnowsNoFault}

@@ -1,8 +1,8 @@
 use Rattle.std.specs.Prelude.{Err}
 use Rattle.std.proofs.Common.{ℕ, ap, inl, subst, sym, ◌∙◌}
-use Rattle.wal_core.specs.Steps.{IsResting, load_down, view_behind}
+use Rattle.machine_state.specs.Steps.{IsResting, load_down, view_behind}
 use mathlib.Core.Option.{none}
-use Rattle.wal_core.specs.Views.{View}
+use Rattle.machine_state.specs.Views.{View}
 use Rattle.wal_rule.specs.SeatedPasses.{view_of}
 use Rattle.wal_rule.specs.Stepping.{Meets}
 use Rattle.wal_log.specs.declared.fault.Fault.TheVariants.{Down}

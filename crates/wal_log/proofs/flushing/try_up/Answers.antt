@@ -2,9 +2,9 @@ use Rattle.std.proofs.Common.{◌≡◌, ◌<◌, ◌≤◌, ap, sym, subst, inl
 use Rattle.std.proofs.lemmas.Map.Keys.{ge_from_not_lt}
 use Rattle.byte_position.specs.Geometry.{IsSegmentSize}
 use Rattle.byte_position.proofs.EndAddresses.{end_address_of-mono}
-use Rattle.wal_core.specs.declared.setup.Setup.{Setup}
-use Rattle.wal_core.specs.Words.{end_form}
-use Rattle.wal_core.specs.Views.{View}
+use Rattle.machine_state.specs.declared.setup.Setup.{Setup}
+use Rattle.machine_state.specs.Words.{end_form}
+use Rattle.machine_state.specs.Views.{View}
 use Rattle.insert_locks.specs.Watching.{SeesPosition, with_sight}
 use Rattle.wal_rule.specs.SeatedPasses.{setup_of, view_of}
 use Rattle.wal_log.specs.Flushing.{SeesReserved, view_looked}
@@ -35,10 +35,10 @@ returns-then-lt-clause-tries g c =
     let setup : Setup = setup_of c.args.seated.now in
     let less = lt_from_is_lt c.see_end.result c.args.upto.0 (sym c.lt.ensures ∙ c.if-lt.true) in
     let end : c.see_end.result ≡ end_form setup end_seen = omega (arith, sees.end_is, less) in
-    let begun : setup.segment_size ≤ c.see_end.result =
+    let begun : setup.seg_size ≤ c.see_end.result =
     omega (arith, end, c.see_end.ensures.begun) in
     let own = subst (λ (s : Setup). (c.see_end.result ≡ end_form s end_seen)
-    × (s.segment_size ≤ c.see_end.result)) (sym (own_setup c.args.seated.now)) (end, begun) in
+    × (s.seg_size ≤ c.see_end.result)) (sym (own_setup c.args.seated.now)) (end, begun) in
     let leaves = (seen g at).leaves in (
       record {
         end_is = own.0;
@@ -113,7 +113,7 @@ harden_copied-requires-clause-reserved g c =
     let path = goal.at.harden_copied-requires-clause-reserved g c in
     let at = path.After-told_already in
     let setup : Setup = setup_of c.args.seated.now in
-    let higher = end_address_of-mono setup.segment_size (valid_size c.args.seated.now)
+    let higher = end_address_of-mono setup.seg_size (valid_size c.args.seated.now)
     (view_of c.see_end.new.seated).reserving.seen (view_of c.told_already.new.seated).reserving.seen
     c.told_already.ensures.stays.work.pass.rises in
     let below = ge_from_not_lt c.see_end.result c.args.upto.0
@@ -215,14 +215,14 @@ returns-clause-reserved g c =
     let sees = sees_reserved g path.After-see_end below in
     let mid = c.told_already.new.seated in
     let keeps = (before g path.After-told_already (seen g path.After-see_end)).work.pass in
-    let higher = end_address_of-mono (setup_of c.args.seated.now).segment_size
+    let higher = end_address_of-mono (setup_of c.args.seated.now).seg_size
     (valid_size c.args.seated.now) (view_of c.see_end.new.seated).reserving.seen
     (view_of mid).reserving.seen c.told_already.ensures.stays.work.pass.rises in
     let is = c.see_end.ensures.sees.end_is in
     let same : (view_of mid).opening.setup ≡ setup_of c.args.seated.now =
     ap (λ o. o.setup) keeps.opening ∙ own_setup c.args.seated.now in
     sees_whether c.args.upto.0 (view_of mid) (view_of c.harden_copied.new.seated)
-    (subst (λ (s : Setup). IsSegmentSize s.segment_size) (sym same)
+    (subst (λ (s : Setup). IsSegmentSize s.seg_size) (sym same)
     (valid_size c.args.seated.now))
     (subst (λ (s : Setup). c.args.upto.0 ≤ end_form s (view_of mid).reserving.seen) (sym same)
     (omega (arith, higher, below, is)))

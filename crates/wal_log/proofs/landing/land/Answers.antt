@@ -3,7 +3,7 @@ use mathlib.Core.Option.{some}
 use Rattle.wal_page.specs.EntryWords.{words_owned}
 use Rattle.wal_page.specs.Order.{Entry}
 use Rattle.wal_page.specs.Placed.{placed_end}
-use Rattle.wal_core.specs.Views.{View}
+use Rattle.machine_state.specs.Views.{View}
 use Rattle.wal_rule.specs.SeatedPasses.{setup_of, view_of}
 use Rattle.insert_locks.specs.Holding.{locks_of}
 use Rattle.wal_log.specs.Standing.{KeepsPass, entry_in_flight}
@@ -21,7 +21,7 @@ module _ (g : Over) (c : After-copy_whole g) where
   -- behind the last word all are copied
   all_copied : c.copy_whole.new.placed.next ≡ placed_end c.args.placed.now
       → c.copy_whole.ensures.copies.under.copy.copied
-      ≡ words_owned (view_of c.copy_whole.new.seated).opening.setup.segment_size
+      ≡ words_owned (view_of c.copy_whole.new.seated).opening.setup.seg_size
       c.copy_whole.ensures.copies.under.copy.entry
   all_copied = alone_whole c.copy_whole.new.seated (locks_of c.args.held)
       c.copy_whole.new.placed c.copy_whole.ensures.copies c.args.placed.now

@@ -1,6 +1,6 @@
 use Rattle.std.proofs.Common.{ℕ, ◌<◌, ◌≤◌, List, Contains, inl, inr, sym, ◌∙◌, subst}
 use Rattle.machine_laws.specs.SharedOrders.{HasNumber}
-use Rattle.wal_core.specs.Views.{Joined, View}
+use Rattle.machine_state.specs.Views.{Joined, View}
 use Rattle.wal_log.specs.Standing.{KeepsPass}
 use Rattle.wal_log.proofs.numbers.calls_keep_numbers.Goals as goal
 

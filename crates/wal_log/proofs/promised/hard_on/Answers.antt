@@ -1,6 +1,6 @@
 use Rattle.std.proofs.Common.{◌≡◌, ap, ◌∙◌, subst, arith}
-use Rattle.wal_core.specs.Steps.{load_moment}
-use Rattle.wal_core.specs.Views.{View}
+use Rattle.machine_state.specs.Steps.{load_moment}
+use Rattle.machine_state.specs.Views.{View}
 use Rattle.wal_rule.specs.Stepping.{Meets}
 use Rattle.wal_rule.specs.SeatedPasses.{view_of}
 use Rattle.wal_log.specs.PassLogs.{log_of_pass}

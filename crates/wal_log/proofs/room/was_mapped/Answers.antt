@@ -1,5 +1,5 @@
 use Rattle.std.proofs.Common.{ℕ, ◌%◌, refl, sym, subst, arith}
-use Rattle.wal_core.specs.Steps.{load_buffer_end}
+use Rattle.machine_state.specs.Steps.{load_buffer_end}
 use Rattle.wal_rule.specs.SeatedPasses.{setup_of, view_of}
 use Rattle.wal_rule.specs.Stepping.{Meets}
 use Rattle.wal_log.proofs.PageLaws.{met_maps}

@@ -1,8 +1,8 @@
 use Rattle.std.proofs.Common.{⊎_elim, inl, inr, arith}
 use Rattle.std.proofs.lemmas.List.Quantifiers.{Any-push}
 use Rattle.machine_laws.specs.SharedOrders.{HasNumber}
-use Rattle.wal_core.specs.Views.{View}
-use Rattle.wal_core.specs.Moves.{split_off}
+use Rattle.machine_state.specs.Views.{View}
+use Rattle.machine_state.specs.Moves.{split_off}
 use Rattle.wal_log.proofs.Having.{first_or_others, kept_have, more_have, none_has}
 use Rattle.wal_log.proofs.shared_numbers.passes_share_numbers.Goals as goal
 

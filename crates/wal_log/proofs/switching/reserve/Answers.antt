@@ -2,7 +2,7 @@ use Rattle.std.specs.Prelude.{Ok, Err}
 use Rattle.std.proofs.Common.{subst}
 use Rattle.std.proofs.lemmas.Result.{err_from_is_err_and}
 use Rattle.std.specs.Prelude.{Result}
-use Rattle.wal_core.specs.declared.setup.Setup.{Setup}
+use Rattle.machine_state.specs.declared.setup.Setup.{Setup}
 use Rattle.wal_rule.specs.SeatedPasses.{setup_of, view_of}
 use Rattle.reserve_lock.specs.Reserved.{every_lock}
 use Rattle.reserve_lock.specs.declared.switching.SwitchTry.{SwitchTry}

@@ -1,6 +1,6 @@
 use Rattle.std.proofs.Common.{Err, None, [], ap, ◌∙◌, subst}
 use Rattle.std.proofs.lemmas.Result.{err_from_is_err_and}
-use Rattle.wal_core.specs.declared.setup.Setup.{Setup}
+use Rattle.machine_state.specs.declared.setup.Setup.{Setup}
 use Rattle.wal_rule.specs.SeatedPasses.{setup_of, view_of}
 use Rattle.reserve_lock.specs.Reserved.{every_lock}
 use Rattle.wal_log.specs.declared.switching.SwitchErr.{SwitchErr}

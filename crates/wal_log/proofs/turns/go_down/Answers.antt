@@ -1,8 +1,8 @@
 use Rattle.std.proofs.Common.{◌≡◌, ◌≢◌, sym, ap, ◌∙◌}
-use Rattle.wal_core.specs.Moves.{with_hold}
-use Rattle.wal_core.specs.Views.{Hold, Idle, View}
+use Rattle.machine_state.specs.Moves.{with_hold}
+use Rattle.machine_state.specs.Views.{Hold, Idle, View}
 use Rattle.wal_rule.specs.SeatedPasses.{view_of}
-use Rattle.page_writing.specs.InHand.{lent_in}
+use Rattle.word_ring.specs.InHand.{lent_in}
 use Rattle.wal_log.proofs.InHandLaws.{fault_is_some, hand_stays, may_put_down, may_set_down}
 use Rattle.wal_log.proofs.Plain.{down_set_is}
 use Rattle.wal_log.proofs.Seated.{seat_stays, view_is}

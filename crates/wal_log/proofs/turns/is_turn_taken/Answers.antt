@@ -1,7 +1,7 @@
 use Rattle.std.proofs.Common.{ℕ, sym, ap, ◌∙◌, subst}
-use Rattle.wal_core.specs.Moves.{with_hold}
-use Rattle.wal_core.specs.Steps.{take_write_turn}
-use Rattle.wal_core.specs.Views.{Hold, Idle, View}
+use Rattle.machine_state.specs.Moves.{with_hold}
+use Rattle.machine_state.specs.Steps.{take_write_turn}
+use Rattle.machine_state.specs.Views.{Hold, Idle, View}
 use Rattle.wal_rule.specs.SeatedPasses.{view_of}
 use Rattle.wal_rule.specs.Stepping.{Meets}
 use Rattle.wal_log.proofs.Plain.{turn_had}

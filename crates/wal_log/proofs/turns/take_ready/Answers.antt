@@ -1,16 +1,16 @@
 use Rattle.std.proofs.Common.{◌≡◌, ◌≢◌, [], ℕ, sym, ap, ◌∙◌, subst}
 use Rattle.std.specs.Prelude.{Some}
 use mathlib.Core.Option.{none, some}
-use Rattle.wal_core.specs.Moves.{after_slot_out, copied_below, fault_number}
-use Rattle.wal_core.specs.Steps.{load_down, take_write_turn}
-use Rattle.wal_core.specs.Views.{Watching, Turned, Idle, Plain, View}
+use Rattle.machine_state.specs.Moves.{after_slot_out, copied_below, fault_number}
+use Rattle.machine_state.specs.Steps.{load_down, take_write_turn}
+use Rattle.machine_state.specs.Views.{Watching, Turned, Idle, Plain, View}
 use Rattle.wal_rule.specs.declared.seated.SeatedPass.{SeatedPass}
 use Rattle.wal_rule.specs.Downs.{KnowsDown}
 use Rattle.wal_rule.specs.SeatedPasses.{Steps, hand_of, view_of}
 use Rattle.wal_rule.specs.Slotted.{as_machine_has, slot_plain}
 use Rattle.wal_rule.specs.Stepping.{Meets}
-use Rattle.page_writing.specs.InHand.{HasHand, known_copied, writer_in}
-use Rattle.page_writing.proofs.HandLaws.{same_hand}
+use Rattle.word_ring.specs.InHand.{HasHand, known_copied, writer_in}
+use Rattle.word_ring.proofs.HandLaws.{same_hand}
 use Rattle.wal_log.specs.Downs.{KnowsNoFault}
 use Rattle.wal_log.specs.PassLogs.{log_of_pass}
 use Rattle.wal_log.specs.Standing.{AddsNothing}

@@ -1,8 +1,8 @@
 use Rattle.std.proofs.Common.{◌≡◌, refl, ap, ◌∙◌}
-use Rattle.wal_core.specs.Views.{View}
+use Rattle.machine_state.specs.Views.{View}
 use Rattle.wal_rule.specs.SeatedPasses.{view_of}
-use Rattle.page_writing.specs.InHand.{IsReady, lent_in, writer_in}
-use Rattle.page_writing.proofs.HandLaws.{same_ready}
+use Rattle.word_ring.specs.InHand.{IsReady, lent_in, writer_in}
+use Rattle.word_ring.proofs.HandLaws.{same_ready}
 use Rattle.wal_log.specs.Writing.{stored_view}
 use Rattle.wal_log.proofs.InHandLaws.{hand_stays, may_store}
 use Rattle.wal_log.proofs.Plain.{written_stored}

@@ -4,14 +4,14 @@ use Rattle.insert_locks.specs.Holding.{HasTold, MayTell, locks_of}
 use Rattle.wal_log.proofs.NextWord.{may_tell, told_low}
 use Rattle.wal_log.proofs.writing.tell_progress.Goals as goal
 
-pub tell-requires-clause-low : goal.tell-requires-clause-low
-tell-requires-clause-low g c =
+pub advance-requires-clause-low : goal.advance-requires-clause-low
+advance-requires-clause-low g c =
     let low = told_low c.args.seated.now (locks_of c.args.held) c.args.placed.now
     c.requires.copies in
     omega (arith, low, c.next_lsn-next.ensures)
 
-pub tell-requires-clause-may : goal.tell-requires-clause-may
-tell-requires-clause-may g c = subst
+pub advance-requires-clause-may : goal.advance-requires-clause-may
+advance-requires-clause-may g c = subst
     (λ (upto : ℕ). MayTell (locks_of c.args.held) upto (view_of c.args.seated.now))
     (sym c.next_lsn-next.ensures)
     (may_tell c.args.seated.now (locks_of c.args.held) c.args.placed.now c.requires.copies)
@@ -19,5 +19,5 @@ tell-requires-clause-may g c = subst
 pub returns : goal.returns
 returns g c = record {
   told = subst (λ (upto : ℕ). HasTold (locks_of c.args.held) upto c.args.seated.now
-      c.tell.new.seated) c.next_lsn-next.ensures c.tell.ensures.told;
+      c.advance.new.seated) c.next_lsn-next.ensures c.advance.ensures.told;
 }

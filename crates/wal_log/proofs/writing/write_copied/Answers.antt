@@ -1,6 +1,6 @@
 use Rattle.std.proofs.Common.{◌≡◌, ℕ, sym, ap, ◌∙◌}
 use Rattle.std.proofs.lemmas.Result.{err_from_is_err_and}
-use Rattle.wal_core.specs.Views.{Idle, View}
+use Rattle.machine_state.specs.Views.{Idle, View}
 use Rattle.wal_rule.specs.SeatedPasses.{view_of}
 use Rattle.insert_locks.specs.declared.watching.Watched.{Watched}
 use Rattle.wal_log.specs.Downs.{KnowsNoFault}

@@ -1,10 +1,10 @@
 use Rattle.std.proofs.Common.{◌≤◌, ℕ, ◌*◌, ap, subst, sym, arith}
 use Rattle.std.proofs.lemmas.Result.{err_from_is_err_and}
-use Rattle.wal_core.specs.declared.setup.Setup.{Setup}
+use Rattle.machine_state.specs.declared.setup.Setup.{Setup}
 use Rattle.wal_rule.specs.SeatedPasses.{setup_of, view_of}
-use Rattle.page_writing.specs.InHand.{writer_in}
-use Rattle.page_writing.specs.MadeCalls.{HasBrokenOff, calls_to_put_page}
-use Rattle.page_writing.proofs.HandLaws.{same_setup}
+use Rattle.word_ring.specs.InHand.{writer_in}
+use Rattle.word_ring.specs.MadeCalls.{HasBrokenOff, calls_to_put_page}
+use Rattle.word_ring.proofs.HandLaws.{same_setup}
 use Rattle.wal_log.proofs.AddingNothing.{adds_on, hand_changed}
 use Rattle.wal_log.proofs.Keeping.{changes_up}
 use Rattle.wal_log.proofs.WriteLaws.{all_stored, store_adds, store_keeps, store_same, written_first, written_next}
@@ -70,11 +70,11 @@ loop-page-preserved g c =
     let below = c.loop-page-test.true in
     let end = c.div_ceil-page-end.ensures in
     written_next g.D.Disk.tape g.D.Disk.moment g.D.Disk.faults
-    (setup_of c.loop-page.seated).segment_size c.args.known c.loop-page.page
+    (setup_of c.loop-page.seated).seg_size c.args.known c.loop-page.page
     c.write_next.new.bytes c.args.seated.now
     c.loop-page.seated c.write_next.new.seated c.store_written.new.seated c.loop-page.invariant
     (omega (arith, below, end)) c.in_ok-write_next.ensures.ends.changes
-    (ap (λ (t : Setup). t.segment_size) (same_setup c.args.seated.now c.loop-page.seated
+    (ap (λ (t : Setup). t.seg_size) (same_setup c.args.seated.now c.loop-page.seated
     c.loop-page.invariant.adds.works.same_table)) c.in_ok-write_next.ensures.ends.called
     c.in_ok-write_next.ensures.ends.told c.store_written.ensures.ready c.store_written.ensures.view
 
@@ -95,7 +95,7 @@ returns-then-known-written-clause-calls g c =
     let b = c.store_written-written.new.seated in
     let over = c.if-known-written.true in
     let is = c.store_written-written.ensures.written in
-    none_written (setup_of a).segment_size c.args.known (writer_in (view_of a))
+    none_written (setup_of a).seg_size c.args.known (writer_in (view_of a))
     (writer_in (view_of b)) (omega (arith, over, is))
     (store_same g.D.Disk.tape g.D.Disk.moment g.D.Disk.faults a b
     c.store_written-written.ensures.ready c.store_written-written.ensures.view)
@@ -108,11 +108,11 @@ returns-in_err-write_next-clause-calls g c =
     let put = c.write_next.new.seated in
     let below = c.loop-page-test.true in
     let end = c.div_ceil-page-end.ensures in
-    let own = ap (λ (t : Setup). t.segment_size) (same_setup a now
+    let own = ap (λ (t : Setup). t.seg_size) (same_setup a now
     c.loop-page.invariant.adds.works.same_table) in
     let p = err_from_is_err_and c.from_residual.result c.from_residual.ensures.1 in
     rw (p.1)
-    (breaks_writing (setup_of a).segment_size c.args.known (writer_in (view_of a)) w
+    (breaks_writing (setup_of a).seg_size c.args.known (writer_in (view_of a)) w
     c.loop-page.page c.loop-page.invariant.left c.loop-page.invariant.put
     c.write_next.new.bytes (writer_in (view_of put)) (omega (arith, below, end))
     (subst (λ (n : ℕ). HasBrokenOff (calls_to_put_page n c.args.known c.loop-page.page
@@ -125,7 +125,7 @@ returns-clause-calls g c =
     let over = c.loop-page-test.false in
     let end = c.div_ceil-page-end.ensures in
     let known_behind : c.args.known ≤ c.loop-page.page * 8192 = omega (arith, over, end) in
-    all_written (setup_of a).segment_size c.args.known (writer_in (view_of a))
+    all_written (setup_of a).seg_size c.args.known (writer_in (view_of a))
     (writer_in (view_of c.loop-page.seated)) c.loop-page.page c.loop-page.invariant.left
     c.loop-page.invariant.put c.loop-page.invariant.behind known_behind
     (c.loop-page.invariant.waits known_behind)

@@ -1,10 +1,10 @@
 use Rattle.std.proofs.Common.{rules, ◌≡◌, ◌<◌, ◌^◌, sym, ap, ◌∙◌, subst}
 use Rattle.wal_page.specs.Order.{finish_of, start_of}
 use Rattle.wal_log_laws.specs.Surviving.{Survives}
-use Rattle.wal_core.specs.declared.setup.Setup.{Setup}
-use Rattle.wal_core.specs.Words.{Opening}
+use Rattle.machine_state.specs.declared.setup.Setup.{Setup}
+use Rattle.machine_state.specs.Words.{Opening}
 use Rattle.wal_rule.specs.Passes.{view_of_pass}
-use Rattle.wal_core.specs.Views.{View}
+use Rattle.machine_state.specs.Views.{View}
 use Rattle.machine_laws.specs.ClosedLogs.{HasAllNumbers}
 use Rattle.wal_log.specs.Committing.{IsSealed}
 use Rattle.wal_log.specs.Logs.{opening_of_log, setup_of_log}
@@ -36,8 +36,8 @@ returns g c = λ t told.
     c.in-Ok-commit.sealed s (c.logs_are_never_lost.ensures.own new) in (
       leaves.0,
       s.entry,
-      subst (λ (x : Setup). Survives x.segment_size leaves.0 t c.in-Ok-commit.sealed.moment s.entry)
+      subst (λ (x : Setup). Survives x.seg_size leaves.0 t c.in-Ok-commit.sealed.moment s.entry)
           setup_is lives,
-      s.start_is ∙ ap (λ (x : Setup). start_of x.segment_size s.entry) setup_is,
-      s.end_is ∙ ap (λ (x : Setup). finish_of x.segment_size s.entry) setup_is,
+      s.start_is ∙ ap (λ (x : Setup). start_of x.seg_size s.entry) setup_is,
+      s.end_is ∙ ap (λ (x : Setup). finish_of x.seg_size s.entry) setup_is,
     )

@@ -2,7 +2,7 @@ use Rattle.std.proofs.Common.{◌≡◌, ◌+◌, ◌-◌, ◌*◌, ◌%◌, ◌
 use Rattle.std.proofs.lemmas.Bool.{or_left, eq-eqb, cond-true, lt-ltb}
 use Rattle.byte_position.specs.Geometry.{IsSegmentSize}
 use Rattle.byte_position.specs.Position.{is_in_header, position_of}
-use Rattle.record_spelling.specs.Spelling.{assembled_room, assembled_size, word_at}
+use Rattle.wal_spelling.specs.Spelling.{assembled_room, assembled_size, word_at}
 use Rattle.wal_page.specs.Page.{page_header}
 use Rattle.wal_page.specs.Placed.{Owns, PlacedState, header_word, still_to_come}
 use Rattle.wal_page.proofs.PlacedSteps.{own_room-within, page-bound, page_position-whole, still_to_come-passed}

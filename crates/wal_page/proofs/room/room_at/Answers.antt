@@ -1,6 +1,6 @@
 use Rattle.std.proofs.Common.{◌≡◌, ◌+◌, ◌-◌, sym, ap, ◌∙◌, arith, rules}
 use Rattle.byte_position.specs.Geometry.{IsSegmentSize}
-use Rattle.record_spelling.specs.Spelling.{assembled_size}
+use Rattle.wal_spelling.specs.Spelling.{assembled_size}
 use Rattle.wal_page.specs.Order.{next_segment}
 use Rattle.wal_page.proofs.PaddingLaws.{position_behind_switch}
 use Rattle.wal_page.proofs.room.room_at.Goals as goal

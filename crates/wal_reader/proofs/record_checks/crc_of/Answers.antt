@@ -3,7 +3,7 @@ use Rattle.std.specs.Int.{w32, w64, from_le_bytes, to_le_bytes}
 use Rattle.std.proofs.Math.Seq.{take-add}
 use Rattle.std.proofs.lemmas.List.{append_assoc, length-drop, length-take-le, take_rest}
 use Rattle.wal_crc32c.specs.Crc32c.{crc32c}
-use Rattle.record_spelling.proofs.Bytes.{IsBytes, IsBytes-drop, IsBytes-take, wide32, wide64}
+use Rattle.wal_spelling.proofs.Bytes.{IsBytes, IsBytes-drop, IsBytes-take, wide32, wide64}
 use Rattle.wal_reader.proofs.record_checks.crc_of.Goals as goal
 
 -- a header's first 20 bytes, the start of the record before and what stands round it as numbers

@@ -5,7 +5,7 @@ use Rattle.byte_position.specs.Position.{address_of}
 use Rattle.byte_position.proofs.Rising.{address_of-mono}
 use Rattle.std.specs.Int.{w32}
 use Rattle.std.proofs.lemmas.Result.{IfOk-weaker, err_from_is_err_and}
-use Rattle.record_spelling.specs.Numbers.{number_at}
+use Rattle.wal_spelling.specs.Numbers.{number_at}
 use Rattle.wal_types.specs.declared.lsn.Lsn.{Lsn}
 use Rattle.wal_reader.specs.declared.found.FoundRecord.{FoundRecord}
 use Rattle.wal_reader.specs.declared.read_failure.ReadFailure.{ReadFailure}

@@ -20,7 +20,7 @@ use Rattle.wal_redo.proofs.redoing.redo.Goals.{In-End, In-Record}
 pub records-init : goal.records-init
 records-init g c =
     let state : reader_state c.new-reader.result ≡ unread_from c.args.geometry c.args.start.0 = c.new-reader.ensures.state in
-    let valid = rw c.segment_size-size.ensures.value at c.segment_size-size.ensures.valid in
+    let valid = c.new-reader.ensures.valid in
     record {
       sized = ap (λ (s : ReaderState). s.size) state;
       redoes = RedoesLog-none c.args.geometry c.args.start.0 valid _ (g.D.Disk.tape c.args.disk.now) c.new-reader.result state c.new-reader.ensures.knows;
@@ -35,7 +35,7 @@ records-init g c =
 
 pub returns-in_err-value-clause-redone : goal.returns-in_err-value-clause-redone
 returns-in_err-value-clause-redone g c =
-    let valid = rw c.segment_size-size.ensures.value at c.segment_size-size.ensures.valid in
+    let valid = c.new-reader.ensures.valid in
     let p = err_from_is_err_and c.from_residual.result c.from_residual.ensures.1 in
     let before = c.records.invariant in
     let steps = subst (λ (tape : Option Tape). Steps tape c.records.reader c.next.new.self (Err c.in_err-value.field-0.0)) before.tape c.in_err-value.ensures.gives in
@@ -43,7 +43,7 @@ returns-in_err-value-clause-redone g c =
 
 pub returns-in_err-value-clause-called : goal.returns-in_err-value-clause-called
 returns-in_err-value-clause-called g c =
-    let valid = rw c.segment_size-size.ensures.value at c.segment_size-size.ensures.valid in
+    let valid = c.new-reader.ensures.valid in
     let p = err_from_is_err_and c.from_residual.result c.from_residual.ensures.1 in
     let before = c.records.invariant in
     let steps = subst (λ (tape : Option Tape). Steps tape c.records.reader c.next.new.self (Err c.in_err-value.field-0.0)) before.tape c.in_err-value.ensures.gives in
@@ -57,13 +57,13 @@ steps_end g c =
 
 pub returns-in-End-clause-redone : goal.returns-in-End-clause-redone
 returns-in-End-clause-redone g c =
-    let valid = rw c.segment_size-size.ensures.value at c.segment_size-size.ensures.valid in
+    let valid = c.new-reader.ensures.valid in
     let before = c.records.invariant in
     redo_ended c.args.geometry c.args.start.0 valid c.records.reader before.sized _ _ c.records.count _ c.next.new.self c.in-End.at before.redoes (steps_end g (goal.at.returns-in-End-clause-redone g c).In-End)
 
 pub returns-in-End-clause-called : goal.returns-in-End-clause-called
 returns-in-End-clause-called g c =
-    let valid = rw c.segment_size-size.ensures.value at c.segment_size-size.ensures.valid in
+    let valid = c.new-reader.ensures.valid in
     let before = c.records.invariant in
     calls_ended c.args.geometry c.args.start.0 valid c.records.reader before.sized _ _ c.records.count _ c.next.new.self c.in-End.at before.calls (steps_end g (goal.at.returns-in-End-clause-called g c).In-End)
 
@@ -93,7 +93,7 @@ put_images-requires g c =
 
 pub returns-in_err-count-in-Record-clause-redone : goal.returns-in_err-count-in-Record-clause-redone
 returns-in_err-count-in-Record-clause-redone g c =
-    let valid = rw c.segment_size-size.ensures.value at c.segment_size-size.ensures.valid in
+    let valid = c.new-reader.ensures.valid in
     let step = (goal.at.returns-in_err-count-in-Record-clause-redone g c).In-Record in
     let p = err_from_is_err_and c.from_residual-in_err-count-in-Record.result c.from_residual-in_err-count-in-Record.ensures.1 in
     let before = c.records.invariant in
@@ -103,7 +103,7 @@ returns-in_err-count-in-Record-clause-redone g c =
 
 pub returns-in_err-count-in-Record-clause-called : goal.returns-in_err-count-in-Record-clause-called
 returns-in_err-count-in-Record-clause-called g c =
-    let valid = rw c.segment_size-size.ensures.value at c.segment_size-size.ensures.valid in
+    let valid = c.new-reader.ensures.valid in
     let step = (goal.at.returns-in_err-count-in-Record-clause-called g c).In-Record in
     let p = err_from_is_err_and c.from_residual-in_err-count-in-Record.result c.from_residual-in_err-count-in-Record.ensures.1 in
     let before = c.records.invariant in
@@ -113,7 +113,7 @@ returns-in_err-count-in-Record-clause-called g c =
 
 pub records-preserved : goal.records-preserved
 records-preserved g c =
-    let valid = rw c.segment_size-size.ensures.value at c.segment_size-size.ensures.valid in
+    let valid = c.new-reader.ensures.valid in
     let step = (goal.at.records-preserved g c).In-Record in
     let before = c.records.invariant in
     let read = c.in_ok-value.ensures in

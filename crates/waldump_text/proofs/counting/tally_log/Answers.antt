@@ -2,12 +2,12 @@ use Rattle.std.proofs.Common.{◌≡◌, Bool, true, false, Option, Some, None, 
 use Rattle.std.proofs.lemmas.Result.{err_from_is_err_and}
 use Rattle.segment_disk.specs.Tape.{Tape}
 use Rattle.std.specs.Prelude.{IfOk}
-use Rattle.listing_filter.specs.Keeping.{is_reached, keeps}
+use Rattle.waldump_filter.specs.Keeping.{is_reached, keeps}
 use Rattle.wal_reader.specs.LogReader.{LeavesReader, ReaderState, reader_state}
 use Rattle.wal_reader.specs.Spelled.{GivesSpelled}
 use Rattle.wal_reader.specs.Standings.{HasReadCause, given_as}
-use Rattle.listing_filter.specs.declared.Filter.{Filter}
-use Rattle.listing_filter.specs.declared.listed.Listed.{Listed}
+use Rattle.waldump_filter.specs.declared.Filter.{Filter}
+use Rattle.waldump_filter.specs.declared.listed.Listed.{Listed}
 use Rattle.waldump_text.specs.Listing.{IsListable, listed_of}
 use Rattle.waldump_text.specs.Sifting.{listed_with}
 use Rattle.waldump_text.specs.Weights.{TellsWeight, Weighs}
@@ -62,7 +62,7 @@ add-requires-clause-weighs g c =
 
 pub records-preserved-in-Some-weight : goal.records-preserved-in-Some-weight
 records-preserved-in-Some-weight g c =
-    let valid = rw c.segment_size-size.ensures.value at c.segment_size-size.ensures.valid in
+    let valid = c.new-reader.ensures.valid in
     let step = (goal.at.records-preserved-in-Some-weight g c).In-Some in
     let before = c.records.invariant in
     let read = c.in_ok-step.ensures in
@@ -87,7 +87,7 @@ records-preserved-in-Some-weight g c =
 
 pub records-preserved : goal.records-preserved
 records-preserved g c =
-    let valid = rw c.segment_size-size.ensures.value at c.segment_size-size.ensures.valid in
+    let valid = c.new-reader.ensures.valid in
     let step = (goal.at.records-preserved g c).In-Some in
     let before = c.records.invariant in
     let read = c.in_ok-step.ensures in
@@ -109,7 +109,7 @@ records-preserved g c =
 
 pub returns-in_err-step-clause-tallied : goal.returns-in_err-step-clause-tallied
 returns-in_err-step-clause-tallied g c =
-    let valid = rw c.segment_size-size.ensures.value at c.segment_size-size.ensures.valid in
+    let valid = c.new-reader.ensures.valid in
     let p = err_from_is_err_and c.from_residual.result c.from_residual.ensures.1 in
     let before = c.records.invariant in
     let steps = subst (λ (tape : Option Tape). Steps tape c.records.reader c.next_into.new.self (Err c.in_err-step.field-0.0)) before.tape c.in_err-step.ensures.gives in
@@ -118,7 +118,7 @@ returns-in_err-step-clause-tallied g c =
 
 pub returns-in_default-clause-tallied : goal.returns-in_default-clause-tallied
 returns-in_default-clause-tallied g c =
-    let valid = rw c.segment_size-size.ensures.value at c.segment_size-size.ensures.valid in
+    let valid = c.new-reader.ensures.valid in
     let before = c.records.invariant in
     let read = c.next_into.new.value.unkept.spelled in
     let ends = gives_end read c.in_ok-step.step c.head_of.result c.in_default.not-Some (c.head_of.ensures read) in
@@ -128,7 +128,7 @@ returns-in_default-clause-tallied g c =
 
 pub returns-clause-tallied : goal.returns-clause-tallied
 returns-clause-tallied g c =
-    let valid = rw c.segment_size-size.ensures.value at c.segment_size-size.ensures.valid in
+    let valid = c.new-reader.ensures.valid in
     let before = c.records.invariant in
     let reached : is_reached c.args.filter.now.limit c.records.tally.all.records ≡ true = cc in
     tally_reached c.args.geometry c.args.filter.now valid c.records.reader before.sized c.records.tally before.within _ before.tallied reached

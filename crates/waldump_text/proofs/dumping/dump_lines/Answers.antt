@@ -3,13 +3,13 @@ use Rattle.std.proofs.lemmas.Result.{err_from_is_err_and}
 use Rattle.segment_disk.specs.Stream.{with_behind}
 use Rattle.segment_disk.specs.Tape.{Tape}
 use Rattle.std.specs.Prelude.{IfOk}
-use Rattle.listing_filter.specs.Keeping.{is_reached, keeps}
+use Rattle.waldump_filter.specs.Keeping.{is_reached, keeps}
 use Rattle.wal_reader.specs.LogReader.{LeavesReader, ReaderState, left_of, reader_state}
 use Rattle.wal_reader.specs.Spelled.{GivesSpelled}
 use Rattle.wal_reader.specs.Standings.{HasReadCause, given_as}
 use Rattle.wal_types.specs.declared.record.Record.{Record}
-use Rattle.listing_filter.specs.declared.Filter.{Filter}
-use Rattle.listing_filter.specs.declared.listed.Listed.{Listed}
+use Rattle.waldump_filter.specs.declared.Filter.{Filter}
+use Rattle.waldump_filter.specs.declared.listed.Listed.{Listed}
 use Rattle.wal_reader.specs.declared.standing.ReadErr.{ReadErr}
 use Rattle.wal_reader.specs.declared.standing.Step.{Step}
 use Rattle.wal_reader.specs.declared.standing.Step.TheVariants.{End}
@@ -26,7 +26,7 @@ pub records-init : goal.records-init
 records-init g c =
     let state : reader_state c.new-reader.result ≡ unread c.args.geometry c.args.filter.now = c.new-reader.ensures.state in
     let plain = c.requires.plain in
-    let valid = rw c.segment_size-size.ensures.value at c.segment_size-size.ensures.valid in
+    let valid = c.new-reader.ensures.valid in
     record {
       sized = ap (λ (s : ReaderState). s.size) state;
       lists = ListsLog-none c.args.geometry c.args.filter.now valid plain _ (g.D.Disk.tape c.args.disk.now) c.new-reader.result state c.new-reader.ensures.knows;
@@ -42,7 +42,7 @@ records-init g c =
 pub returns-in_err-step-clause-listed : goal.returns-in_err-step-clause-listed
 returns-in_err-step-clause-listed g c =
     let plain = c.requires.plain in
-    let valid = rw c.segment_size-size.ensures.value at c.segment_size-size.ensures.valid in
+    let valid = c.new-reader.ensures.valid in
     let p = err_from_is_err_and c.from_residual.result c.from_residual.ensures.1 in
     let before = c.records.invariant in
     let steps = subst (λ (tape : Option Tape). Steps tape c.records.reader c.next_into.new.self (Err c.in_err-step.field-0.0)) before.tape c.in_err-step.ensures.gives in
@@ -89,7 +89,7 @@ print-requires-clause-listable g c =
 pub returns-in_err-print-clause-listed : goal.returns-in_err-print-clause-listed
 returns-in_err-print-clause-listed g c =
     let plain = c.requires.plain in
-    let valid = rw c.segment_size-size.ensures.value at c.segment_size-size.ensures.valid in
+    let valid = c.new-reader.ensures.valid in
     let step = (goal.at.returns-in_err-print-clause-listed g c).In-Some in
     let p = err_from_is_err_and c.from_residual-in_err-print.result c.from_residual-in_err-print.ensures.1 in
     let by = c.args.filter.now in
@@ -104,7 +104,7 @@ returns-in_err-print-clause-listed g c =
 pub records-preserved-then-keeps : goal.records-preserved-then-keeps
 records-preserved-then-keeps g c =
     let plain = c.requires.plain in
-    let valid = rw c.segment_size-size.ensures.value at c.segment_size-size.ensures.valid in
+    let valid = c.new-reader.ensures.valid in
     let step = (goal.at.records-preserved-then-keeps g c).In-Some in
     let before = c.records.invariant in
     let read = c.in_ok-step.ensures in
@@ -131,7 +131,7 @@ records-preserved-then-keeps g c =
 pub records-preserved : goal.records-preserved
 records-preserved g c =
     let plain = c.requires.plain in
-    let valid = rw c.segment_size-size.ensures.value at c.segment_size-size.ensures.valid in
+    let valid = c.new-reader.ensures.valid in
     let step = (goal.at.records-preserved g c).In-Some in
     let before = c.records.invariant in
     let read = c.in_ok-step.ensures in
@@ -157,7 +157,7 @@ records-preserved g c =
 pub returns-in_default-clause-listed : goal.returns-in_default-clause-listed
 returns-in_default-clause-listed g c =
     let plain = c.requires.plain in
-    let valid = rw c.segment_size-size.ensures.value at c.segment_size-size.ensures.valid in
+    let valid = c.new-reader.ensures.valid in
     let before = c.records.invariant in
     let sifted = c.next_into.new.value in
     let read = held_of sifted.refused sifted.unkept.spelled sifted.listed.value in
@@ -169,7 +169,7 @@ returns-in_default-clause-listed g c =
 pub returns-clause-listed : goal.returns-clause-listed
 returns-clause-listed g c =
     let plain = c.requires.plain in
-    let valid = rw c.segment_size-size.ensures.value at c.segment_size-size.ensures.valid in
+    let valid = c.new-reader.ensures.valid in
     let before = c.records.invariant in
     let reached : is_reached c.args.filter.now.limit c.records.count ≡ true = cc in
     dump_reached c.args.geometry c.args.filter.now valid plain _ c.records.reader before.sized _ c.records.count before.within _ before.lists reached

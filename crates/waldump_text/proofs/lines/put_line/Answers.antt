@@ -3,7 +3,7 @@ use Rattle.std.proofs.lemmas.List.{append-nil}
 use Rattle.std.proofs.lemmas.Result.{err_from_is_err_and}
 use Rattle.waldump_text.specs.Put.{HasPut, Puts, joined}
 use Rattle.waldump_text.specs.Listing.{blocks_text, data_text, head_pieces, line_text}
-use Rattle.listing_filter.specs.declared.listed.Listed.{Listed}
+use Rattle.waldump_filter.specs.declared.listed.Listed.{Listed}
 use Rattle.waldump_text.specs.declared.putting.SinkFault.{SinkFault}
 use Rattle.waldump_text.proofs.JoinedLaws.{joined-append}
 use Rattle.waldump_text.proofs.SinkLaws.{HasPut-none, HasPut-further, HasPut-same, Puts-failed, Puts-last}

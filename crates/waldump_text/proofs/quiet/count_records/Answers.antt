@@ -1,7 +1,7 @@
 use Rattle.std.proofs.Common.{◌≡◌, ℕ, ◌+◌, ◌^◌, ◌≤◌, true, false, List, Option, None, Result, Ok, Err, ap, refl, subst, sym, ◌∙◌, arith}
 use Rattle.std.proofs.lemmas.Result.{err_from_is_err_and}
 use Rattle.segment_disk.specs.Tape.{Tape}
-use Rattle.listing_filter.specs.Keeping.{is_reached}
+use Rattle.waldump_filter.specs.Keeping.{is_reached}
 use Rattle.wal_reader.specs.LogReader.{LeavesReader, ReaderState, left_of, reader_state}
 use Rattle.wal_reader.specs.Standings.{HasReadCause, given_as}
 use Rattle.wal_reader.specs.declared.standing.ReadErr.{ReadErr}
@@ -18,7 +18,7 @@ pub records-init : goal.records-init
 records-init g c =
     let state : reader_state c.new-reader.result ≡ unread c.args.geometry c.args.filter.now = c.new-reader.ensures.state in
     let plain = c.requires.plain in
-    let valid = rw c.segment_size-size.ensures.value at c.segment_size-size.ensures.valid in
+    let valid = c.new-reader.ensures.valid in
     record {
       sized = ap (λ (s : ReaderState). s.size) state;
       lists = λ taken. ListsLog-none c.args.geometry c.args.filter.now valid plain taken (g.D.Disk.tape c.args.disk.now) c.new-reader.result state c.new-reader.ensures.knows;
@@ -32,7 +32,7 @@ records-init g c =
 pub returns-in_err-step-clause-listed : goal.returns-in_err-step-clause-listed
 returns-in_err-step-clause-listed g c = λ taken.
     let plain = c.requires.plain in
-    let valid = rw c.segment_size-size.ensures.value at c.segment_size-size.ensures.valid in
+    let valid = c.new-reader.ensures.valid in
     let p = err_from_is_err_and c.from_residual.result c.from_residual.ensures.1 in
     let before = c.records.invariant in
     let steps = subst (λ (tape : Option Tape). Steps tape c.records.reader c.next_into.new.self (Err c.in_err-step.field-0.0)) before.tape c.in_err-step.ensures.gives in
@@ -58,7 +58,7 @@ pub records-preserved : goal.records-preserved
 records-preserved g c =
     let plain = c.requires.plain in
     let quiet = c.requires.quiet in
-    let valid = rw c.segment_size-size.ensures.value at c.segment_size-size.ensures.valid in
+    let valid = c.new-reader.ensures.valid in
     let step = (goal.at.records-preserved g c).In-Some in
     let before = c.records.invariant in
     let read = c.in_ok-step.ensures in
@@ -81,7 +81,7 @@ records-preserved g c =
 pub returns-in_default-clause-listed : goal.returns-in_default-clause-listed
 returns-in_default-clause-listed g c = λ taken.
     let plain = c.requires.plain in
-    let valid = rw c.segment_size-size.ensures.value at c.segment_size-size.ensures.valid in
+    let valid = c.new-reader.ensures.valid in
     let before = c.records.invariant in
     let ends = gives_end_uncounted c.args.filter.now.start.0 c.next_into.new.value.spelled c.in_ok-step.step c.counted.result c.in_default.not-Some (c.counted.ensures.counts c.next_into.new.value.spelled) in
     let on_disk = subst (λ (step : Result Step ReadErr). Steps (g.D.Disk.tape c.records.disk) c.records.reader c.next_into.new.self step) ends.1 c.in_ok-step.ensures.gives in
@@ -91,7 +91,7 @@ returns-in_default-clause-listed g c = λ taken.
 pub returns-clause-listed : goal.returns-clause-listed
 returns-clause-listed g c = λ taken.
     let plain = c.requires.plain in
-    let valid = rw c.segment_size-size.ensures.value at c.segment_size-size.ensures.valid in
+    let valid = c.new-reader.ensures.valid in
     let before = c.records.invariant in
     let reached : is_reached c.args.filter.now.limit c.records.count ≡ true = cc in
     dump_reached c.args.geometry c.args.filter.now valid plain _ c.records.reader before.sized _ c.records.count before.within _ (before.lists taken) reached

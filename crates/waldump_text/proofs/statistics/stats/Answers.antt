@@ -1,6 +1,6 @@
 use Rattle.std.proofs.Common.{◌≡◌, ℕ, List, take, subst, arith}
 use Rattle.std.proofs.lemmas.List.{take_all}
-use Rattle.listing_filter.specs.declared.listed.Listed.{Listed}
+use Rattle.waldump_filter.specs.declared.listed.Listed.{Listed}
 use Rattle.waldump_text.specs.Put.{Puts}
 use Rattle.waldump_text.specs.Tally.{Tallies}
 use Rattle.waldump_text.proofs.StatisticsLaws.{tally_text-is_stats}

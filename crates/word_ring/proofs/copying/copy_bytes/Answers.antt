@@ -1,5 +1,5 @@
 use Rattle.std.proofs.Common.{sym, subst}
-use Rattle.record_spelling.specs.Spelling.{word_at}
+use Rattle.wal_spelling.specs.Spelling.{word_at}
 use Rattle.wal_page.specs.Placed.{PlacedState}
 use Rattle.word_ring.specs.CopyRuns.{HasCopied, MayCopy}
 use Rattle.word_ring.proofs.CopyLaws.{has_copied, words_may}

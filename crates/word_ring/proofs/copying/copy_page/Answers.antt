@@ -1,5 +1,5 @@
 use Rattle.std.proofs.Common.{subst}
-use Rattle.wal_core.specs.declared.setup.Setup.{Setup}
+use Rattle.machine_state.specs.declared.setup.Setup.{Setup}
 use Rattle.wal_rule.specs.SeatedPasses.{view_of}
 use Rattle.word_ring.specs.Copied.{IsPlaceOf, copied_view}
 use Rattle.word_ring.proofs.Steps.{view_is}

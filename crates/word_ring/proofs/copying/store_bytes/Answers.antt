@@ -1,7 +1,7 @@
 -- The words of whole chunks, and one of the bytes that are left.
 use Rattle.std.proofs.Common.{◌≡◌, ℕ, ◌+◌, ◌/◌, ◌<◌, ◌≤◌, length, take, ◌∙◌, subst, arith}
 use Rattle.std.proofs.lemmas.List.{length-take}
-use Rattle.record_spelling.specs.Spelling.{word_at}
+use Rattle.wal_spelling.specs.Spelling.{word_at}
 use Rattle.wal_rule.specs.SeatedPasses.{HasView, view_of}
 use Rattle.word_ring.specs.Copied.{copied_view}
 use Rattle.word_ring.specs.CopyRuns.{StoresNext, chunk_word}

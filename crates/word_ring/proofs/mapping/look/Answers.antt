@@ -1,7 +1,7 @@
 use Rattle.std.proofs.Common.{◌≡◌, ℕ, max, ap, ◌∙◌, subst, arith}
-use Rattle.wal_core.specs.Moves.{looked, ready}
-use Rattle.wal_core.specs.Steps.{load_written}
-use Rattle.wal_core.specs.Views.{Ready, Stage, View}
+use Rattle.machine_state.specs.Moves.{looked, ready}
+use Rattle.machine_state.specs.Steps.{load_written}
+use Rattle.machine_state.specs.Views.{Ready, Stage, View}
 use Rattle.wal_rule.specs.SeatedPasses.{view_of}
 use Rattle.wal_rule.specs.Stepping.{Meets}
 use Rattle.word_ring.proofs.Bounds.{ready_low, ready_met}

@@ -1,6 +1,6 @@
 use Rattle.std.proofs.Common.{ap, ◌∙◌, arith}
-use Rattle.wal_core.specs.declared.setup.Setup.{Setup}
-use Rattle.wal_core.specs.Views.{View}
+use Rattle.machine_state.specs.declared.setup.Setup.{Setup}
+use Rattle.machine_state.specs.Views.{View}
 use Rattle.word_ring.proofs.Steps.{ended_at_most, ended_early, mapped_more, mapped_none, same_setup, view_is}
 use Rattle.word_ring.proofs.mapping.map_on.Goals as goal
 

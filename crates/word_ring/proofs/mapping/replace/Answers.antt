@@ -1,6 +1,6 @@
 use Rattle.std.proofs.Common.{ap, ◌∙◌}
-use Rattle.wal_core.specs.Steps.{page_mapped}
-use Rattle.wal_core.specs.Views.{Published, View}
+use Rattle.machine_state.specs.Steps.{page_mapped}
+use Rattle.machine_state.specs.Views.{Published, View}
 use Rattle.word_ring.proofs.Steps.{replaced, view_is}
 use Rattle.word_ring.proofs.mapping.replace.Goals as goal
 

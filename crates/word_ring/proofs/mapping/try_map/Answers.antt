@@ -1,6 +1,6 @@
 use Rattle.std.proofs.Common.{◌≡◌, ap, ◌∙◌, subst, arith}
-use Rattle.wal_core.specs.declared.setup.Setup.{Setup}
-use Rattle.wal_core.specs.Views.{Taken, View}
+use Rattle.machine_state.specs.declared.setup.Setup.{Setup}
+use Rattle.machine_state.specs.Views.{Taken, View}
 use Rattle.wal_rule.specs.SeatedPasses.{view_of}
 use Rattle.word_ring.specs.Mapped.{LooksAt, staged_view}
 use Rattle.word_ring.proofs.Steps.{mapped, same_setup, tried, view_is}

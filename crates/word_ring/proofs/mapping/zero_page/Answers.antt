@@ -1,8 +1,8 @@
 use Rattle.std.proofs.Common.{◌≡◌, ℕ, ◌+◌, ◌*◌, ap, sym, ◌∙◌, arith}
-use Rattle.wal_core.specs.Words.{ends_number}
-use Rattle.wal_core.specs.declared.setup.Setup.{Setup}
-use Rattle.wal_core.specs.Steps.{buffer_of, ring_number}
-use Rattle.wal_core.specs.Views.{View}
+use Rattle.machine_state.specs.Words.{ends_number}
+use Rattle.machine_state.specs.declared.setup.Setup.{Setup}
+use Rattle.machine_state.specs.Steps.{buffer_of, ring_number}
+use Rattle.machine_state.specs.Views.{View}
 use Rattle.word_ring.proofs.Steps.{same_setup, same_table, view_is, zeroed_as, zeroed_none, zeroed_on}
 use Rattle.word_ring.proofs.mapping.zero_page.Goals as goal
 

@@ -1,5 +1,5 @@
 use Rattle.std.proofs.Common.{◌*◌}
-use Rattle.wal_core.specs.Views.{Zeroing}
+use Rattle.machine_state.specs.Views.{Zeroing}
 use Rattle.wal_rule.specs.SeatedPasses.{HasView, view_of}
 use Rattle.word_ring.specs.Mapped.{staged_view}
 use Rattle.word_ring.proofs.mapping.zero_page.Given as goal

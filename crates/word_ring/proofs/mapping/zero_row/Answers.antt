@@ -1,5 +1,5 @@
 use Rattle.std.proofs.Common.{◌≡◌, ◌+◌, ap, ◌∙◌, arith}
-use Rattle.wal_core.specs.Views.{View}
+use Rattle.machine_state.specs.Views.{View}
 use Rattle.word_ring.proofs.Steps.{same_table, view_is, zero_place, zeroed_as, zeroed_more, zeroed_none}
 use Rattle.word_ring.proofs.mapping.zero_row.Goals as goal
 

@@ -1,8 +1,8 @@
 use Rattle.std.proofs.Common.{◌≡◌, ◌+◌, ◌≤◌, ◌++◌, Vec, length}
 use Rattle.std.specs.Prelude.{map, vec_capacity}
 use Rattle.std.specs.declared.alloc.Global.{Global}
-use Rattle.told_lines.specs.declared.told.Told.{Told}
-use Rattle.backend_lanes.specs.Backends.{lists_of}
+use Rattle.run_laws.specs.declared.told.Told.{Told}
+use Rattle.run_backends.specs.Backends.{lists_of}
 use Rattle.backend_cli.proofs.told.ToldLists.of_backends.Given as goal
 
 -- there are the lists of the first backends, and room for one of each of the others

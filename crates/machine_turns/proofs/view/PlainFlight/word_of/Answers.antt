@@ -11,4 +11,4 @@ returns-in-Copying c =
     subst (λ (f : PlainFlight). c.word_due.result ≡ word_of_body c.args.shape.now body f) (sym at.is)
     (c.word_due.ensures ∙ ap (λ (p : PlacedState). placed_word p p.next) c.at-placed.ensures
     ∙ ap (λ (size : ℕ). entry_word size c.sysid.result body at.start at.prev at.next) c.geometry.ensures
-    ∙ ap (λ (sysid : ℕ). entry_word c.args.shape.now.segment_size sysid body at.start at.prev at.next) c.sysid.ensures)
+    ∙ ap (λ (sysid : ℕ). entry_word c.args.shape.now.seg_size sysid body at.start at.prev at.next) c.sysid.ensures)

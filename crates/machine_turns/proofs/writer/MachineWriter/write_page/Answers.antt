@@ -5,7 +5,7 @@ use Rattle.segment_disk.specs.Failing.{is_listed}
 use Rattle.segment_disk.specs.Cause.{RoseByOne}
 use Rattle.segment_disk.specs.MemDisk.{counts_next, faults_of, has_segment, limits_of, moment_of}
 use Rattle.segment_disk.specs.Tape.{write_call}
-use Rattle.wal_core.specs.Moves.{after_write}
+use Rattle.machine_state.specs.Moves.{after_write}
 use Rattle.machine_turns.specs.Writer.{next_outcome, page_at, segment_at, state_of}
 use Rattle.machine_turns.proofs.Keeping.{counts_now, done_by, fails_counted, kept_call, listed_by, made_ok, rose_from_none, same_write, segment_is_made, some_same, writer_failed}
 use Rattle.machine_turns.proofs.writer.MachineWriter.write_page.Goals as goal

@@ -1,6 +1,6 @@
 use Rattle.std.proofs.Common.{ℕ, sym, ap, ◌∙◌}
 use Rattle.byte_position.specs.Position.{end_address_of}
-use Rattle.wal_core.specs.declared.setup.Setup.{Setup}
+use Rattle.machine_state.specs.declared.setup.Setup.{Setup}
 use Rattle.wal_rule.specs.Passes.{view_of_pass}
 use Rattle.wal_rule.specs.Tables.{began_of_table}
 use Rattle.wal_log.specs.Logs.{opening_of_log, table_of}
@@ -22,6 +22,6 @@ returns g c = record {
   end_is = c.to_end_lsn.ensures
       ∙ ap (λ (n : ℕ). end_address_of n c.close-writer.result.1)
       (c.geometry-geometry.ensures
-      ∙ ap (λ (s : Setup). s.segment_size) c.args.self.table.shaped);
+      ∙ ap (λ (s : Setup). s.seg_size) c.args.self.table.shaped);
   down_is = c.fault-down.ensures;
 }

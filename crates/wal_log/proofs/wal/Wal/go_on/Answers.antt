@@ -4,11 +4,11 @@ use Rattle.flush_core.specs.Settled.{HasSettled}
 use Rattle.machine_words.specs.Numbers.{WordsState}
 use Rattle.wal_page.specs.LogPlace.{LogPlace}
 use Rattle.found_log.specs.Found.{place_of_log}
-use Rattle.wal_core.specs.declared.setup.Setup.{Setup}
-use Rattle.wal_core.specs.Opened.{AreFirstWords, IsOpenable, first_view}
-use Rattle.wal_core.specs.Steps.{IsResting}
-use Rattle.wal_core.specs.Views.{View}
-use Rattle.wal_core.specs.Words.{Opening, found_end}
+use Rattle.machine_state.specs.declared.setup.Setup.{Setup}
+use Rattle.machine_state.specs.Opened.{AreFirstWords, IsOpenable, first_view}
+use Rattle.machine_state.specs.Steps.{IsResting}
+use Rattle.machine_state.specs.Views.{View}
+use Rattle.machine_state.specs.Words.{Opening, found_end}
 use Rattle.wal_rule.specs.declared.seats.Founding.{Founding}
 use Rattle.wal_rule.specs.declared.writer.LogWriter.{LogWriter}
 use Rattle.wal_rule.specs.Founded.{disk_of_founding, found_log_opening, founded_opening}
@@ -43,7 +43,7 @@ resume-requires-clause-writer g c =
     let log = c.args.log.now in
     let end = fixed_end c.args.setup c.requires.setup log c.requires.log _ _ _ fixed in
     let made = fixed_made c.args.setup c.requires.setup log c.requires.log _ _ _ fixed in
-    let size = ap (λ (s : Setup). s.segment_size) (sym c.requires.shape) ∙ sym c.geometry.ensures in
+    let size = ap (λ (s : Setup). s.seg_size) (sym c.requires.shape) ∙ sym c.geometry.ensures in
     let disk = c.of_found-founding.ensures.disk in
     let handed : D = disk_of_founding c.of_found-founding.result in
     record {
@@ -61,7 +61,7 @@ resume-requires-clause-plan g c =
     let D : Type 0 = g.row.D.Denot in
     let fixed = opening_given _ _ _ _ _ _ _ c.of_found-founding.ensures.opening c.place_of.ensures in
     let opening = founded_opening c.of_found-founding.result in
-    subst (λ (d : D). IsPlanOf (opening.setup).segment_size (found_end opening) opening.made (g.D.Disk.tape d) c.args.plan.now) (sym c.resume-writer.ensures.disk)
+    subst (λ (d : D). IsPlanOf (opening.setup).seg_size (found_end opening) opening.made (g.D.Disk.tape d) c.args.plan.now) (sym c.resume-writer.ensures.disk)
     (fixed_plan c.args.setup c.requires.setup c.args.log.now c.requires.log _ _ _ fixed _ _ c.requires.plan)
 
 pub resume-requires-clause-moment : goal.resume-requires-clause-moment
@@ -86,7 +86,7 @@ returns-in-Ok-clause-goes_on g c =
       opening = ap (λ (f : Founding D). founded_opening f) key ∙ fixed
           ∙ ap (λ (m : ℕ). found_log_opening setup (place_of_log log) log.made m (g.D.Disk.faults c.args.disk)) (sym (ap (λ (f : Founding D). f.moment) key));
       openable = subst (λ (f : Founding D). IsOpenable (founded_opening f)) (sym key) (fixed_openable setup c.requires.setup log c.requires.log _ _ _ fixed);
-      settled = subst (λ (d : D). HasSettled setup.segment_size log.end.0 log.made (g.D.Disk.tape d) (began_of_table g.D.Disk.tape table) (g.D.Disk.moment d) (opening_of_table table).moment) disk
+      settled = subst (λ (d : D). HasSettled setup.seg_size log.end.0 log.made (g.D.Disk.tape d) (began_of_table g.D.Disk.tape table) (g.D.Disk.moment d) (opening_of_table table).moment) disk
           (fixed_settled setup c.requires.setup log c.requires.log _ _ _ fixed _ _ _ _ c.in-Ok.ensures.settled);
       count_is = refl;
       end_is = refl;
@@ -109,6 +109,6 @@ returns-clause-refused g c =
     let size = fixed_size setup c.requires.setup log c.requires.log _ _ _ fixed in
     let end = fixed_end setup c.requires.setup log c.requires.log _ _ _ fixed in
     c.resume_fault.ensures setup log c.args.disk
-    (subst (λ (d : D). TellsResumeErr g.D.Disk.tape g.D.Disk.moment g.D.Disk.faults setup.segment_size log.end.0 d error) c.resume-writer.ensures.disk
+    (subst (λ (d : D). TellsResumeErr g.D.Disk.tape g.D.Disk.moment g.D.Disk.faults setup.seg_size log.end.0 d error) c.resume-writer.ensures.disk
     (subst (λ (n : ℕ). TellsResumeErr g.D.Disk.tape g.D.Disk.moment g.D.Disk.faults n log.end.0 held error) (sym size)
-    (subst (λ (n : ℕ). TellsResumeErr g.D.Disk.tape g.D.Disk.moment g.D.Disk.faults (opening.setup).segment_size n held error) (sym end) c.in-Err.ensures.refused)))
+    (subst (λ (n : ℕ). TellsResumeErr g.D.Disk.tape g.D.Disk.moment g.D.Disk.faults (opening.setup).seg_size n held error) (sym end) c.in-Err.ensures.refused)))

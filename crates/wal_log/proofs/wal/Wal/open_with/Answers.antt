@@ -2,18 +2,18 @@ use Rattle.std.specs.Prelude.{IfSome}
 use Rattle.std.proofs.Common.{◌≡◌, ℕ, List, None, sym, ap, ◌∙◌, subst, arith}
 use Rattle.segment_disk.specs.Tape.{Tape, page_of_segment, state_now}
 use Rattle.wal_page.specs.LogPlace.{new_place}
-use Rattle.wal_core.proofs.NothingFound.{nothing_opens}
-use Rattle.wal_core.specs.Opened.{IsFirstWriter, first_view}
-use Rattle.wal_core.specs.Sound.{IsSetup}
-use Rattle.wal_core.specs.Words.{Opening}
-use Rattle.wal_core.specs.declared.setup.Setup.{Setup}
+use Rattle.machine_state.proofs.NothingFound.{nothing_opens}
+use Rattle.machine_state.specs.Opened.{IsFirstWriter, first_view}
+use Rattle.machine_state.specs.Sound.{IsSetup}
+use Rattle.machine_state.specs.Words.{Opening}
+use Rattle.machine_state.specs.declared.setup.Setup.{Setup}
 use Rattle.wal_rule.specs.declared.seats.Founding.{Founding}
 use Rattle.wal_rule.specs.declared.writer.LogWriter.{LogWriter}
 use Rattle.wal_rule.specs.Founded.{founded_opening}
 use Rattle.wal_rule.specs.Opening.{TellsOpenErr}
 use Rattle.wal_rule.specs.Passes.{view_of_pass}
-use Rattle.wal_core.specs.Steps.{IsResting}
-use Rattle.wal_core.specs.Views.{View}
+use Rattle.machine_state.specs.Steps.{IsResting}
+use Rattle.machine_state.specs.Views.{View}
 use Rattle.wal_rule.specs.Slotted.{slot_plain}
 use Rattle.wal_log.proofs.Opens.{first_rests}
 use Rattle.wal_log.proofs.wal.Wal.open_with.Goals as goal
@@ -23,7 +23,7 @@ open-requires-clause-openable g c =
     nothing_opens (founded_opening c.of-founding.result)
     (subst (λ (o : Opening). IsSetup o.setup) (sym c.of-founding.ensures.opening) c.requires.setup)
     (ap (λ (o : Opening). o.place) c.of-founding.ensures.opening
-    ∙ ap (λ (o : Opening). new_place (o.setup).segment_size) (sym c.of-founding.ensures.opening))
+    ∙ ap (λ (o : Opening). new_place (o.setup).seg_size) (sym c.of-founding.ensures.opening))
     (omega (arith, ap (λ (o : Opening). o.made) c.of-founding.ensures.opening))
 
 pub open-requires-clause-made : goal.open-requires-clause-made
@@ -33,14 +33,14 @@ pub open-requires-clause-writer : goal.open-requires-clause-writer
 open-requires-clause-writer g c =
     let disk = c.of-founding.ensures.disk ∙ sym c.new-writer.ensures.disk in
     let setup = ap (λ (o : Opening). o.setup) c.of-founding.ensures.opening in
-    let size = ap (λ (s : Setup). s.segment_size) (sym c.requires.shape) ∙ sym c.geometry.ensures in
+    let size = ap (λ (s : Setup). s.seg_size) (sym c.requires.shape) ∙ sym c.geometry.ensures in
     record {
       first = subst (λ (o : Opening). IsFirstWriter o
           (slot_plain g.D.Disk.tape g.D.Disk.moment c.new-writer.result))
           (sym c.of-founding.ensures.opening) (c.new-writer.ensures.first c.args.setup size);
       disk = disk;
       size = c.new-writer.ensures.size ∙ sym size
-          ∙ sym (ap (λ (s : Setup). s.segment_size) setup);
+          ∙ sym (ap (λ (s : Setup). s.seg_size) setup);
       failed = ap (λ (o : Opening). o.faults) c.of-founding.ensures.opening
           ∙ ap g.D.Disk.faults (sym c.new-writer.ensures.disk);
     }

@@ -1,6 +1,6 @@
 use Rattle.std.proofs.Common.{◌≡◌, ℕ}
-use Rattle.wal_core.specs.Views.{View}
-use Rattle.wal_core.specs.declared.setup.Setup.{Setup}
+use Rattle.machine_state.specs.Views.{View}
+use Rattle.machine_state.specs.declared.setup.Setup.{Setup}
 use Rattle.wal_rule.specs.Downs.{KnowsDown}
 use Rattle.wal_rule.specs.Passes.{view_of_pass}
 use Rattle.wal_rule.specs.SeatedPasses.{setup_of, view_of}

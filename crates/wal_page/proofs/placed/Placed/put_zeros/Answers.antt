@@ -1,7 +1,7 @@
 -- Behind the record's own words each word is 0, wherever it lies.
 use Rattle.std.proofs.Common.{◌+◌, ◌-◌, ◌*◌, ◌≤◌, ℕ, length, subst, sym, arith}
 use Rattle.byte_position.specs.Position.{position_of}
-use Rattle.record_spelling.specs.Spelling.{assembled_room}
+use Rattle.wal_spelling.specs.Spelling.{assembled_room}
 use Rattle.wal_page.specs.Placed.{PlacedState, placed_end}
 use Rattle.wal_page.proofs.PlacedSteps.{next-bound, stands_over_zeros, zeros_next}
 use Rattle.wal_page.proofs.placed.Placed.put_zeros.Goals as goal

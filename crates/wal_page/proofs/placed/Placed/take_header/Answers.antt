@@ -1,7 +1,7 @@
 -- The header's words are the first three of a run.
 use Rattle.std.proofs.Common.{◌≡◌, ◌+◌, ◌*◌, ◌-◌, ◌≤◌, ℕ, ap, subst, sym, ◌∙◌, arith}
 use Rattle.byte_position.specs.Position.{position_of}
-use Rattle.record_spelling.specs.Spelling.{filled, word_at}
+use Rattle.wal_spelling.specs.Spelling.{filled, word_at}
 use Rattle.wal_page.specs.Placed.{PlacedState, LieTogether, placed_end}
 use Rattle.wal_page.proofs.PlacedSteps.{next-bound}
 use Rattle.wal_page.proofs.RunSteps.{own_words_next, run_behind, stands_over_run}

@@ -1,6 +1,6 @@
 use Rattle.std.proofs.Common.{◌≡◌, ◌+◌, ◌/◌, ◌%◌, ◌<◌, true, false, ℕ, ap, sym, ◌∙◌, arith}
 use Rattle.byte_position.specs.Position.{is_in_header, position_of}
-use Rattle.record_spelling.specs.Spelling.{assembled_room, word_at}
+use Rattle.wal_spelling.specs.Spelling.{assembled_room, word_at}
 use Rattle.wal_page.specs.Page.{page_header}
 use Rattle.wal_page.proofs.PlacedSteps.{passed-whole, header_word_next, own_word_next}
 use Rattle.wal_page.proofs.placed.Placed.word_here.Goals as goal

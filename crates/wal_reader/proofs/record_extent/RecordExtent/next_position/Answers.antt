@@ -1,7 +1,7 @@
 use Rattle.std.proofs.Common.{◌≡◌, ℕ, ◌+◌, ◌-◌, ◌*◌, ◌/◌, List, get_or, refl, sym, ap, ◌∙◌}
 use Rattle.wal_types.specs.declared.record.Record.{Record}
-use Rattle.record_spelling.specs.Record.{ends_segment, is_switch}
-use Rattle.record_decode.proofs.HeaderBytes.{HasHeaderOf, header_of}
+use Rattle.wal_spelling.specs.Record.{ends_segment, is_switch}
+use Rattle.wal_record.proofs.HeaderBytes.{HasHeaderOf, header_of}
 use Rattle.wal_page.specs.Order.{next_segment}
 use Rattle.wal_reader.proofs.NextPositionLaws.{next_position-rounded, next_position-segment}
 use Rattle.wal_reader.proofs.record_extent.RecordExtent.next_position.Goals as goal

@@ -1,7 +1,7 @@
 use Rattle.std.proofs.Common.{ℕ, List, sym, subst}
 use Rattle.machine_laws.specs.ClosedLogs.{HasAllNumbers}
 use Rattle.wal_rule.specs.declared.writer.LogWriter.{LogWriter}
-use Rattle.wal_core.specs.Views.{View}
+use Rattle.machine_state.specs.Views.{View}
 use Rattle.wal_rule.specs.Tables.{opening_of_table}
 use Rattle.wal_rule.proofs.pass.Pass.close.Goals as goal
 

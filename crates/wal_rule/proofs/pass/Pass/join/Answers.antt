@@ -1,8 +1,8 @@
 use Rattle.std.proofs.Common.{◌≡◌, List, ℕ, sym, ap, ◌∙◌, subst}
 use Rattle.wal_rule.specs.declared.writer.LogWriter.{LogWriter}
 use Rattle.wal_rule.specs.Passes.{HasNumbers, view_of_pass}
-use Rattle.wal_core.specs.Views.{View}
-use Rattle.wal_core.specs.Moves.{after_join}
+use Rattle.machine_state.specs.Views.{View}
+use Rattle.machine_state.specs.Moves.{after_join}
 use Rattle.wal_rule.proofs.PassNumbers.{joined_numbers, same_numbers}
 use Rattle.wal_rule.proofs.pass.Pass.join.Goals as goal
 

@@ -1,7 +1,7 @@
 use Rattle.std.proofs.Common.{List, ℕ, ap, ◌∙◌}
 use Rattle.wal_rule.specs.declared.writer.LogWriter.{LogWriter}
-use Rattle.wal_core.specs.Views.{View}
-use Rattle.wal_core.specs.Moves.{after_split, split_off}
+use Rattle.machine_state.specs.Views.{View}
+use Rattle.machine_state.specs.Moves.{after_split, split_off}
 use Rattle.wal_rule.proofs.pass.Pass.split.Goals as goal
 
 pub split-other-requires-clause-seat : goal.split-other-requires-clause-seat

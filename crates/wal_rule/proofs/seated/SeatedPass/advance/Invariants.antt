@@ -1,4 +1,4 @@
-use Rattle.wal_core.specs.Steps.{advance}
+use Rattle.machine_state.specs.Steps.{advance}
 use Rattle.wal_rule.proofs.seated.SeatedPass.advance.Given as goal
 
 abbrev pub ghosts-stores : goal.ghosts-stores

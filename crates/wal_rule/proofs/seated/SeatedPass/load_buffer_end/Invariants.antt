@@ -1,4 +1,4 @@
-use Rattle.wal_core.specs.Steps.{load_buffer_end}
+use Rattle.machine_state.specs.Steps.{load_buffer_end}
 use Rattle.wal_rule.proofs.seated.SeatedPass.load_buffer_end.Given as goal
 
 abbrev pub ghosts-loads : goal.ghosts-loads

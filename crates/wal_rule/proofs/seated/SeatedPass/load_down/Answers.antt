@@ -1,6 +1,6 @@
 use Rattle.std.proofs.Common.{subst}
 use Rattle.segment_disk.specs.Cause.{Rose}
-use Rattle.wal_core.specs.Words.{Opening}
+use Rattle.machine_state.specs.Words.{Opening}
 use Rattle.wal_rule.proofs.MetNumbers.{down_met_known, down_met_rose}
 use Rattle.wal_rule.proofs.seated.SeatedPass.load_down.Goals as goal
 

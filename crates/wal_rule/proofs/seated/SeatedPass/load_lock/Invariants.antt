@@ -1,4 +1,4 @@
-use Rattle.wal_core.specs.Steps.{load_lock}
+use Rattle.machine_state.specs.Steps.{load_lock}
 use Rattle.wal_rule.proofs.seated.SeatedPass.load_lock.Given as goal
 
 abbrev pub ghosts-loads : goal.ghosts-loads

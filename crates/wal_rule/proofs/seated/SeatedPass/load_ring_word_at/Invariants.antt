@@ -1,4 +1,4 @@
-use Rattle.wal_core.specs.Steps.{load_ring_word}
+use Rattle.machine_state.specs.Steps.{load_ring_word}
 use Rattle.wal_rule.proofs.seated.SeatedPass.load_ring_word_at.Given as goal
 
 abbrev pub ghosts-loads_at : goal.ghosts-loads_at

@@ -1,4 +1,4 @@
-use Rattle.wal_core.specs.Steps.{lock_position}
+use Rattle.machine_state.specs.Steps.{lock_position}
 use Rattle.wal_rule.proofs.seated.SeatedPass.lock_position.Given as goal
 
 abbrev pub ghosts-exchanges : goal.ghosts-exchanges

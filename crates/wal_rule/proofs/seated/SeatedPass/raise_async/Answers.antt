@@ -1,6 +1,6 @@
 use Rattle.std.proofs.Common.{ℕ, ◌+◌, ◌*◌, ap, ◌∙◌}
-use Rattle.wal_core.specs.Words.{ends_number}
-use Rattle.wal_core.specs.declared.setup.Setup.{Setup}
+use Rattle.machine_state.specs.Words.{ends_number}
+use Rattle.machine_state.specs.declared.setup.Setup.{Setup}
 use Rattle.wal_rule.proofs.Places.{async_there}
 use Rattle.wal_rule.proofs.seated.SeatedPass.raise_async.Goals as goal
 

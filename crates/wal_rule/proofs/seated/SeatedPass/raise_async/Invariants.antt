@@ -1,4 +1,4 @@
-use Rattle.wal_core.specs.Steps.{raise_async}
+use Rattle.machine_state.specs.Steps.{raise_async}
 use Rattle.wal_rule.proofs.seated.SeatedPass.raise_async.Given as goal
 
 abbrev pub ghosts-exchanges : goal.ghosts-exchanges

@@ -1,6 +1,6 @@
 -- The view lets it release the lock that the operands name.
 use Rattle.std.proofs.Common.{ℕ, sym, ap, subst}
-use Rattle.wal_core.specs.Steps.{release, MayStep}
+use Rattle.machine_state.specs.Steps.{release, MayStep}
 use Rattle.wal_rule.specs.declared.quiet.Operands.{Operands}
 use Rattle.wal_rule.specs.SeatedPasses.{view_of}
 use Rattle.wal_rule.proofs.seated.SeatedPass.release.Goals as goal

@@ -1,4 +1,4 @@
-use Rattle.wal_core.specs.Steps.{release}
+use Rattle.machine_state.specs.Steps.{release}
 use Rattle.wal_rule.proofs.seated.SeatedPass.release.Given as goal
 
 abbrev pub ghosts-stores : goal.ghosts-stores

@@ -1,5 +1,5 @@
 use Rattle.std.proofs.Common.{arith, subst}
-use Rattle.wal_core.specs.Words.{Opening}
+use Rattle.machine_state.specs.Words.{Opening}
 use Rattle.wal_rule.specs.Ruled.{IsOutOf}
 use Rattle.wal_rule.proofs.Allowed.{goes_out}
 use Rattle.wal_rule.proofs.Live.{kept_step, live_held}

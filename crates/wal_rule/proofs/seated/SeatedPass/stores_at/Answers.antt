@@ -3,8 +3,8 @@ use mathlib.Core.Option.{none}
 use Rattle.wal_rule.proofs.Allowed.{told_stored}
 use Rattle.wal_rule.proofs.Live.{kept_step, live_held}
 use Rattle.wal_rule.specs.declared.writer.LogWriter.{LogWriter}
-use Rattle.wal_core.specs.Views.{View}
-use Rattle.wal_core.specs.Steps.{view_behind}
+use Rattle.machine_state.specs.Views.{View}
+use Rattle.machine_state.specs.Steps.{view_behind}
 use Rattle.wal_rule.proofs.SeatedSteps.{numbered_behind, seated_behind}
 use Rattle.wal_rule.proofs.Steady.{steady}
 use Rattle.wal_rule.proofs.seated.SeatedPass.stores_at.Goals as goal

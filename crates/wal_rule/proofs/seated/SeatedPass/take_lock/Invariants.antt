@@ -1,4 +1,4 @@
-use Rattle.wal_core.specs.Steps.{take_lock}
+use Rattle.machine_state.specs.Steps.{take_lock}
 use Rattle.wal_rule.proofs.seated.SeatedPass.take_lock.Given as goal
 
 abbrev pub ghosts-exchanges : goal.ghosts-exchanges

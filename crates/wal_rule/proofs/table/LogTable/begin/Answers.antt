@@ -2,7 +2,7 @@ use Rattle.std.proofs.Common.{◌≡◌, [], ◌∷◌, ◌∙◌, subst}
 use Rattle.atomic_table.specs.Table.{Me, rest}
 use Rattle.wal_rule.specs.declared.writer.LogWriter.{LogWriter}
 use Rattle.wal_rule.specs.Beginning.{IsUncalledWriter, reading_view}
-use Rattle.wal_core.specs.Views.{View}
+use Rattle.machine_state.specs.Views.{View}
 use Rattle.wal_rule.specs.Founded.{disk_of_founding}
 use Rattle.wal_rule.specs.Opening.{IsAsFounded}
 use Rattle.wal_rule.specs.Tables.{began_of_table, opening_of_table}
@@ -46,7 +46,7 @@ read g c =
     c.has_first_page.new.self
     (opens_uncalled g.D.Disk.tape g.D.Disk.moment g.D.Disk.faults key
     c.slot_mut-writer.result.now (held g c) c.requires.made
-    (g.met.D.Disk.counts (disk_of_founding key)) c.requires.counted)
+    (g.met.D.Disk.counts (disk_of_founding key)) c.requires.told.counted)
     c.has_first_page.ensures.same c.has_first_page.ensures.tape c.has_first_page.ensures.size
 
 -- it is in hand

@@ -2,10 +2,10 @@ use Rattle.std.proofs.Common.{◌≡◌, ◌+◌, [], ◌∷◌, Option, ap, sym
 use Rattle.atomic_table.specs.Table.{Me, rest}
 use Rattle.segment_disk.specs.Tape.{Tape}
 use Rattle.flush_core.specs.Planned.{IsPlanOf, call_count}
-use Rattle.wal_core.specs.Words.{found_end}
+use Rattle.machine_state.specs.Words.{found_end}
 use Rattle.wal_rule.specs.declared.writer.LogWriter.{LogWriter}
 use Rattle.wal_rule.specs.Beginning.{reading_view}
-use Rattle.wal_core.specs.Views.{View}
+use Rattle.machine_state.specs.Views.{View}
 use Rattle.wal_rule.specs.Founded.{disk_of_founding}
 use Rattle.wal_rule.specs.Opening.{IsAsFounded}
 use Rattle.wal_rule.specs.Slotted.{slot_disk}
@@ -41,11 +41,11 @@ held g c =
 
 -- the plan is of its disk
 planned : (g : Over) (c : After-settle g)
-    → IsPlanOf (opening_of_table c.args.self).setup.segment_size
+    → IsPlanOf (opening_of_table c.args.self).setup.seg_size
     (found_end (opening_of_table c.args.self)) (opening_of_table c.args.self).made
     (g.D.Disk.tape (slot_disk c.slot_mut-writer.result.now)) c.args.plan.now
 planned g c = subst (λ (t : Option Tape).
-    IsPlanOf (opening_of_table c.args.self).setup.segment_size
+    IsPlanOf (opening_of_table c.args.self).setup.seg_size
     (found_end (opening_of_table c.args.self)) (opening_of_table c.args.self).made t
     c.args.plan.now) (sym (held g c).tape_is) c.requires.plan
 

@@ -2,7 +2,7 @@ use Rattle.std.proofs.Common.{◌≡◌, ℕ, [], ◌∷◌, List, get_or, sym, 
 use Rattle.segment_disk.specs.Tape.{IsUncalled}
 use Rattle.wal_rule.specs.declared.writer.LogWriter.{LogWriter}
 use Rattle.wal_rule.specs.Beginning.{IsUnbegunWriter}
-use Rattle.wal_core.specs.Views.{View}
+use Rattle.machine_state.specs.Views.{View}
 use Rattle.wal_rule.specs.Slotted.{slot_disk}
 use Rattle.wal_rule.specs.Tables.{began_of_table, opening_of_table}
 use Rattle.wal_rule.proofs.Begins.{ends_waiting}

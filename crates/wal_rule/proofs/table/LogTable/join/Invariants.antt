@@ -1,4 +1,4 @@
-use Rattle.wal_core.specs.Moves.{spent}
+use Rattle.machine_state.specs.Moves.{spent}
 use Rattle.wal_rule.proofs.table.LogTable.join.Given as goal
 
 abbrev pub ghosts-join_leaving : goal.ghosts-join_leaving

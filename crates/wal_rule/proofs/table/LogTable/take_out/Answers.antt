@@ -6,10 +6,10 @@ use Rattle.wal_rule.proofs.table.LogTable.take_out.Goals as goal
 
 pub load-requires : goal.load-requires
 load-requires g c = (
-  c.requires.table,
+  c.requires.seat.table,
   omega (arith, c.args.self.now.wide),
   takes_out g.D.Disk.tape g.D.Disk.moment g.D.Disk.faults (opening_of_table c.args.self.now)
-      (began_of_table g.D.Disk.tape c.args.self.now) _ _ _ _ _ c.requires.waits _
+      (began_of_table g.D.Disk.tape c.args.self.now) _ _ _ _ _ c.requires.seat.waits _
       c.requires.began,
 )
 
@@ -18,7 +18,7 @@ returns-clause-out g c =
     let key = ((c.args.self.now).table).shared.key in
     let out = taken_out g.D.Disk.tape g.D.Disk.moment g.D.Disk.faults
     (opening_of_table c.args.self.now) (began_of_table g.D.Disk.tape c.args.self.now)
-    (table_number c.args.self.now).slots c.args.seat.now.id _ _ _ c.requires.waits _
+    (table_number c.args.self.now).slots c.args.seat.now.id _ _ _ c.requires.seat.waits _
     c.requires.began c.load.new.seat.me c.load.ensures.2 in (
       out.0,
       as_founded g.D.Disk.tape g.D.Disk.moment g.D.Disk.faults key out.0 out.1 out.2 out.3,

@@ -1,9 +1,9 @@
 use Rattle.std.proofs.Common.{ℕ, refl, sym, ap, ◌∙◌, subst}
 use Rattle.byte_position.specs.Geometry.{IsSegmentSize}
-use Rattle.wal_core.proofs.NothingFound.{nothing_ends}
-use Rattle.wal_core.specs.Opened.{IsFirstWriter}
-use Rattle.wal_core.specs.Views.{Plain}
-use Rattle.wal_core.specs.Words.{Opening}
+use Rattle.machine_state.proofs.NothingFound.{nothing_ends}
+use Rattle.machine_state.specs.Opened.{IsFirstWriter}
+use Rattle.machine_state.specs.Views.{Plain}
+use Rattle.machine_state.specs.Words.{Opening}
 use Rattle.wal_rule.specs.Founded.{empty_log_opening}
 use Rattle.wal_rule.specs.Slotted.{resting_plain}
 use Rattle.wal_rule.proofs.Founds.{first_at_rest}

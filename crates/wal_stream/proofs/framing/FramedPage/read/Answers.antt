@@ -3,7 +3,7 @@ use Rattle.std.proofs.Common.{◌≡◌, ℕ, ◌-◌, ◌*◌, ◌/◌, ◌++�
 use Rattle.std.proofs.lemmas.Bool.{false≢true}
 use Rattle.std.proofs.lemmas.List.Elements.{All-take}
 use Rattle.std.specs.Int.{w64}
-use Rattle.record_spelling.specs.Numbers.{number_at}
+use Rattle.wal_spelling.specs.Numbers.{number_at}
 use Rattle.wal_stream.specs.Frame.{IsSentPage, frame_head}
 use Rattle.wal_stream.proofs.FrameLaws.{Reads, all_behind, cut_again, ends_read, frame_long, head_again, other_lists, reads, same_lists, zeros_read}
 use Rattle.wal_stream.proofs.framing.FramedPage.read.Goals as goal

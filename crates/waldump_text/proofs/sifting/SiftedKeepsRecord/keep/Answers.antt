@@ -1,7 +1,7 @@
 use Rattle.std.proofs.Common.{◌≡◌, false, subst, sym, ◌∙◌}
 use Rattle.wal_types.specs.declared.record.Record.{Record}
-use Rattle.record_decode.specs.Headers.{headers_said}
-use Rattle.listing_filter.specs.Keeping.{meets_rules}
+use Rattle.wal_record.specs.Headers.{headers_said}
+use Rattle.waldump_filter.specs.Keeping.{meets_rules}
 use Rattle.waldump_text.proofs.SiftingLaws.{met_by_heads, same_record}
 use Rattle.waldump_text.proofs.sifting.SiftedKeepsRecord.keep.Goals as goal
 

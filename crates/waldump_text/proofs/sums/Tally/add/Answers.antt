@@ -1,5 +1,5 @@
 use Rattle.std.proofs.Common.{ℕ, ◌≡◌, ◌+◌, ◌^◌, set, ap, sym, ◌∙◌, arith}
-use Rattle.listing_filter.specs.declared.listed.Listed.{Listed}
+use Rattle.waldump_filter.specs.declared.listed.Listed.{Listed}
 use Rattle.waldump_text.specs.Sums.{images_len}
 use Rattle.waldump_text.specs.Tally.{own_sums}
 use Rattle.waldump_text.specs.Weights.{Weighs}

@@ -1,7 +1,7 @@
 use Rattle.std.proofs.Common.{◌≡◌, true, false, refl, subst, sym, ◌∙◌}
 use Rattle.std.proofs.lemmas.Bool.{le-leb, lt-leb}
-use Rattle.listing_filter.specs.declared.Filter.{Filter}
-use Rattle.listing_filter.specs.Keeping.{keeps}
+use Rattle.waldump_filter.specs.declared.Filter.{Filter}
+use Rattle.waldump_filter.specs.Keeping.{keeps}
 use Rattle.waldump_text.specs.Sifting.{listed_with}
 use Rattle.waldump_text.proofs.SiftingLaws.{before_not_kept, met_is_kept, refused_not_kept}
 use Rattle.waldump_text.proofs.weighing.Weighed.weight.Goals as goal

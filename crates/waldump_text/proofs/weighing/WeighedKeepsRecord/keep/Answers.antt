@@ -1,8 +1,8 @@
 use Rattle.std.proofs.Common.{ap, sym, ◌∙◌, arith}
 use Rattle.wal_types.specs.declared.record.Record.{Record}
-use Rattle.record_decode.specs.Headers.{headers_said}
-use Rattle.record_decode.specs.Reading.{record_of}
-use Rattle.listing_filter.specs.Keeping.{meets_rules}
+use Rattle.wal_record.specs.Headers.{headers_said}
+use Rattle.wal_record.specs.Reading.{record_of}
+use Rattle.waldump_filter.specs.Keeping.{meets_rules}
 use Rattle.waldump_text.specs.Sums.{images_len}
 use Rattle.waldump_text.proofs.SiftingLaws.{images_told, images_within, met_by_heads, same_record}
 use Rattle.waldump_text.proofs.weighing.WeighedKeepsRecord.keep.Goals as goal

@@ -1,9 +1,0 @@
-use Rattle.std.proofs.Common.{All, sym, subst}
-use Rattle.std.proofs.lemmas.List.Elements.{All-push}
-use Rattle.machine_core.specs.Lines.{InsertsNoSwitch}
-use Rattle.bench_turns.proofs.lines.scripts.Goals as goal
-
-pub loop-preserved : goal.loop-preserved
-loop-preserved c = subst (All (All InsertsNoSwitch)) (sym c.in_ok-push.ensures.items)
-    (All-push (All InsertsNoSwitch) c.loop.scripts.items c.in_ok-script.field-0 c.loop.invariant
-    c.in_ok-script.ensures)

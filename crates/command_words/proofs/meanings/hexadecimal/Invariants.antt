@@ -1,5 +1,0 @@
-use Rattle.command_words.proofs.Hexadecimals.{IsReadTo}
-use Rattle.command_words.proofs.meanings.hexadecimal.Given as goal
-
-abbrev pub invariant-loop-byte : goal.invariant-loop-byte
-invariant-loop-byte l = IsReadTo l.digits l.byte-index l.value

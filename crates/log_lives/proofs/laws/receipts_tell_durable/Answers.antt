@@ -1,5 +1,0 @@
-use Rattle.log_lives.proofs.Receipts.{receipts_tell_durable}
-use Rattle.log_lives.proofs.laws.receipts_tell_durable.Goals as goal
-
-pub returns : goal.returns
-returns c = receipts_tell_durable

@@ -1,5 +1,0 @@
-use Rattle.log_lives.proofs.Theorem.{told_records_stay}
-use Rattle.log_lives.proofs.laws.told_records_stay.Goals as goal
-
-pub returns : goal.returns
-returns c = told_records_stay

@@ -1,8 +1,0 @@
-use Rattle.std.proofs.Common.{◌+◌, ◌-◌, ◌*◌, ◌<◌, ℕ}
-use Rattle.wal_core.specs.Words.{end_word, word_of_ring}
-use Rattle.machine_checks.specs.Ring.{IsLoggedOrToCopy}
-use Rattle.machine_checks.proofs.ring.page_agrees.Given as goal
-
-abbrev pub invariant-loop-n : goal.invariant-loop-n
-invariant-loop-n l = (k : ℕ) → k < l.n → IsLoggedOrToCopy l.setup l.log l.backends
-    (end_word l.words l.buffer - 8192 + 8 * k) (word_of_ring l.setup l.words (l.buffer * 1024 + k))

@@ -1,5 +1,0 @@
-use Rattle.machine_core.proofs.NoSwitches.{body_no_switch, scripts_no_switch}
-use Rattle.machine_core.proofs.laws.inserted_records_end_no_segment.Goals as goal
-
-pub returns : goal.returns
-returns c = record { body = body_no_switch; scripts = scripts_no_switch }

@@ -1,0 +1,7 @@
+pub mod Lists
+pub mod WordLists
+pub mod Stages
+pub mod Landing
+pub mod Tapes
+pub mod NothingFound
+pub mod LocksEnough

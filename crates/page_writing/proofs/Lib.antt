@@ -1,9 +1,0 @@
-pub mod HandLaws
-pub mod Bounds
-pub mod Calls
-pub mod CallLists
-pub mod PutCalls
-pub mod PageBytes
-pub mod PageLaws
-pub mod PageNumbers
-pub mod OutLaws

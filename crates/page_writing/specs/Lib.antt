@@ -1,4 +1,0 @@
-pub mod InHand
-pub mod Loaded
-pub mod MadeCalls
-pub mod Written

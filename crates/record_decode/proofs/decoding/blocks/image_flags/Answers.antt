@@ -1,5 +1,0 @@
-use Rattle.record_decode.proofs.FlagBits.{image_flags-bits}
-use Rattle.record_decode.proofs.decoding.blocks.image_flags.Goals as goal
-
-pub returns : goal.returns
-returns c = image_flags-bits c.args.byte c.ranges.byte.fits

@@ -1,5 +1,0 @@
-use Rattle.record_decode.proofs.Failing.{reads_spelled, refuses_failing}
-use Rattle.record_decode.proofs.laws.reading_is_spelling.Goals as goal
-
-pub returns : goal.returns
-returns c = record { read = reads_spelled; refused = refuses_failing }

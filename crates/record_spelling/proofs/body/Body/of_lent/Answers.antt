@@ -1,9 +1,0 @@
-use Rattle.std.proofs.Common.{sym, subst}
-use Rattle.record_spelling.specs.Spelling.{AssembledFits}
-use Rattle.record_spelling.proofs.SpellingLaws.{ready}
-use Rattle.record_spelling.proofs.body.Body.of_lent.Goals as goal
-
-pub invariant_of-result : goal.invariant_of-result
-invariant_of-result c =
-    let known = c.requires.known in
-    (c.requires.fed, subst AssembledFits (sym known.same) (ready known.value known.logged), known)

@@ -1,5 +1,0 @@
-use Rattle.record_spelling.proofs.RightBlocks.{bad_block_is_first}
-use Rattle.record_spelling.proofs.laws.bad_block_is_first.Goals as goal
-
-pub returns : goal.returns
-returns c = bad_block_is_first

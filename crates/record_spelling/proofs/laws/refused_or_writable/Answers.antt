@@ -1,5 +1,0 @@
-use Rattle.record_spelling.proofs.Acceptance.{refused_or_writable}
-use Rattle.record_spelling.proofs.laws.refused_or_writable.Goals as goal
-
-pub returns : goal.returns
-returns c = refused_or_writable

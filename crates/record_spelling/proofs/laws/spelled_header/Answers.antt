@@ -1,5 +1,0 @@
-use Rattle.record_spelling.proofs.SpellingLaws.{header_spelled}
-use Rattle.record_spelling.proofs.laws.spelled_header.Goals as goal
-
-pub returns : goal.returns
-returns c = header_spelled

@@ -1,9 +1,0 @@
--- Where a kept body lies.
-use Rattle.record_spelling.specs.declared.kept_body.BodyPlace.{BodyPlace}
-use Rattle.record_spelling.specs.declared.kept_body.BodyPlace.TheVariants.{Arena, Own}
-use Rattle.record_spelling.specs.Spelling.{Assembled}
-
--- the body in that place
-abbrev pub body_at : BodyPlace → Assembled
-body_at (Arena body) = body.now
-body_at (Own body) = body.value

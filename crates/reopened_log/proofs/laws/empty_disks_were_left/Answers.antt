@@ -1,5 +1,0 @@
-use Rattle.reopened_log.proofs.EmptyDisks.{empty_disks_were_left}
-use Rattle.reopened_log.proofs.laws.empty_disks_were_left.Goals as goal
-
-pub returns : goal.returns
-returns c = empty_disks_were_left

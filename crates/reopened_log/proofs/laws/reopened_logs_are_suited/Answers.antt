@@ -1,5 +1,0 @@
-use Rattle.reopened_log.proofs.SuitedDisks.{reopened_logs_are_suited}
-use Rattle.reopened_log.proofs.laws.reopened_logs_are_suited.Goals as goal
-
-pub returns : goal.returns
-returns c = reopened_logs_are_suited

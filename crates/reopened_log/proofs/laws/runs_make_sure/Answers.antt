@@ -1,5 +1,0 @@
-use Rattle.reopened_log.proofs.SureDisks.{runs_make_sure}
-use Rattle.reopened_log.proofs.laws.runs_make_sure.Goals as goal
-
-pub returns : goal.returns
-returns c = runs_make_sure

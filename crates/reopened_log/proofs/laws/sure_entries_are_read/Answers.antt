@@ -1,5 +1,0 @@
-use Rattle.reopened_log.proofs.SureDisks.{sure_entries_are_read}
-use Rattle.reopened_log.proofs.laws.sure_entries_are_read.Goals as goal
-
-pub returns : goal.returns
-returns c = sure_entries_are_read

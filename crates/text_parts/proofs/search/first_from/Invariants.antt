@@ -1,9 +1,0 @@
-use Rattle.std.proofs.Common.{◌≤◌, ◌-◌, length}
-use Rattle.text_parts.specs.Parts.{LacksBefore}
-use Rattle.text_parts.proofs.search.first_from.Given as goal
-
-abbrev pub invariant-loop-end : goal.invariant-loop-end
-invariant-loop-end l = (l.end ≤ length l.text) × LacksBefore l.separator l.text l.end
-
-abbrev pub decreases-loop-end : goal.decreases-loop-end
-decreases-loop-end l = length l.text - l.end

@@ -1,5 +1,0 @@
-use Rattle.wal_lives.proofs.Theorem.{promised_records_stay}
-use Rattle.wal_lives.proofs.laws.promised_records_stay.Goals as goal
-
-pub returns : goal.returns
-returns g c = promised_records_stay g.D.Disk.tape g.D.Disk.moment g.D.Disk.faults g.met.D.Disk.counts

@@ -1,5 +1,0 @@
-use Rattle.wal_lives.proofs.Theorem.{three_lives_keep_promised}
-use Rattle.wal_lives.proofs.laws.three_lives_keep_promised.Goals as goal
-
-pub returns : goal.returns
-returns g c = three_lives_keep_promised g.D.Disk.tape g.D.Disk.moment g.D.Disk.faults g.met.D.Disk.counts

@@ -1,0 +1,20 @@
+ghost use Rattle.wal_log_laws.specs.Lives.{CommitsArePromised, PromisedRecordsStay, ThreeLivesKeepPromised};
+
+use segment_disk::Disk;
+
+/// The law: behind any number of openings, crashes, kills, failed disks and reopenings the log has
+/// each record that was promised to be durable in any of its lives, and may be reopened.
+pub fn promised_records_stay<D: Disk>()
+    ensures { PromisedRecordsStay D.tape D.moment D.faults }
+{}
+
+/// A law: of each commit that was told to be durable by a moment, the record that its receipt names
+/// is one of these.
+pub fn commits_are_promised<D: Disk>()
+    ensures { CommitsArePromised D.tape D.moment D.faults }
+{}
+
+/// A caller of the law who has nothing but clauses of `Wal`, for three lives.
+pub fn three_lives_keep_promised<D: Disk>()
+    ensures { ThreeLivesKeepPromised D.tape D.moment D.faults }
+{}

@@ -1,5 +1,0 @@
-use Rattle.wal_script.proofs.ReplayLaws.{some_backends_are_there}
-use Rattle.wal_script.proofs.laws.some_backends_are_there.Goals as goal
-
-pub returns : goal.returns
-returns c = some_backends_are_there

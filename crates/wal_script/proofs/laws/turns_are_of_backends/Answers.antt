@@ -1,5 +1,0 @@
-use Rattle.wal_script.proofs.ReplayLaws.{turns_are_of_backends}
-use Rattle.wal_script.proofs.laws.turns_are_of_backends.Goals as goal
-
-pub returns : goal.returns
-returns c = turns_are_of_backends

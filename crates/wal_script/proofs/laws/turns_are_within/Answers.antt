@@ -1,5 +1,0 @@
-use Rattle.wal_script.proofs.ReplayLaws.{turns_are_within}
-use Rattle.wal_script.proofs.laws.turns_are_within.Goals as goal
-
-pub returns : goal.returns
-returns c = turns_are_within

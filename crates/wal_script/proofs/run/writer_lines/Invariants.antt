@@ -1,6 +1,0 @@
-use Rattle.wal_script.specs.Bodies.{AreLinesOf}
-use Rattle.wal_script.specs.Run.{writer_lines}
-use Rattle.wal_script.proofs.run.writer_lines.Given as goal
-
-abbrev pub invariant-loop-index : goal.invariant-loop-index
-invariant-loop-index l = AreLinesOf (writer_lines l.index) l.lines.items

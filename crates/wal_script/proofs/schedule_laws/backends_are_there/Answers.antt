@@ -1,5 +1,0 @@
-use Rattle.wal_script.proofs.Turns.{backends_are_there}
-use Rattle.wal_script.proofs.schedule_laws.backends_are_there.Goals as goal
-
-pub returns : goal.returns
-returns c = backends_are_there

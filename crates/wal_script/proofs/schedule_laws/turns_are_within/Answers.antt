@@ -1,5 +1,0 @@
-use Rattle.wal_script.proofs.Turns.{turns_are_within}
-use Rattle.wal_script.proofs.schedule_laws.turns_are_within.Goals as goal
-
-pub returns : goal.returns
-returns c = turns_are_within

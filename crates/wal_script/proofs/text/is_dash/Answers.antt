@@ -1,7 +1,0 @@
-use Rattle.std.proofs.Common.{arith}
-use Rattle.std.proofs.lemmas.Grind.{common_steps}
-use Rattle.wal_script.proofs.Words.{is_text-long}
-use Rattle.wal_script.proofs.text.is_dash.Goals as goal
-
-pub returns-in_default-3 : goal.returns-in_default-3
-returns-in_default-3 c = grind (arith, common_steps, is_text-long)

@@ -1,4 +1,0 @@
-pub mod Doing
-pub mod Turned
-pub mod Standing
-pub mod Begun

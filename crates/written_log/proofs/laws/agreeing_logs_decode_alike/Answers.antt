@@ -1,5 +1,0 @@
-use Rattle.written_log.proofs.AgreeingLaws.{agreeing_logs_decode_alike}
-use Rattle.written_log.proofs.laws.agreeing_logs_decode_alike.Goals as goal
-
-pub returns : goal.returns
-returns c = agreeing_logs_decode_alike

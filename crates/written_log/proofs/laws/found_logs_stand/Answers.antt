@@ -1,9 +1,0 @@
-use Rattle.written_log.proofs.FoundImages.{found_logs_stand_in_images}
-use Rattle.written_log.proofs.FoundLogs.{found_logs_read_as_log}
-use Rattle.written_log.proofs.laws.found_logs_stand.Goals as goal
-
-pub returns-clause-images : goal.returns-clause-images
-returns-clause-images c = found_logs_stand_in_images
-
-pub returns-clause-disks : goal.returns-clause-disks
-returns-clause-disks c = found_logs_read_as_log
