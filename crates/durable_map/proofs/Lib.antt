@@ -1,0 +1,5 @@
+pub mod Changed
+pub mod Keys
+pub mod Mains
+pub mod ReadLaws
+pub mod Spelled

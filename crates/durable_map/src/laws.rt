@@ -1,0 +1,29 @@
+//! Laws of changes, proved by functions that do nothing.
+
+ghost use Rattle.std.specs.Prelude.{◌≡◌, List, Result};
+ghost use Rattle.wal_types.specs.declared.answers.Sealed.{Sealed};
+ghost use Rattle.wal_types.specs.declared.record.Record.{Record};
+ghost use Rattle.durable_map.specs.Changes.{MapChange};
+ghost use Rattle.durable_map.specs.Records.{IsLoggable, SaysChange, change_record};
+ghost use Rattle.durable_map.specs.Stores.{AnswersChange, Holds, changes_behind};
+ghost use Rattle.durable_map.specs.declared.fault.ChangeErr.{ChangeErr};
+ghost use Rattle.durable_map.specs.declared.store.DurableMap.{DurableMap};
+
+use segment_disk::Disk;
+
+/// Each change that can be logged is said by its record, and a record says one change at most: so
+/// what is read of a record is what was spelled.
+pub fn records_say_one_change()
+    ensures own { (change : MapChange) → IsLoggable change
+        → SaysChange (change_record change) change }
+    ensures one { (value : Record) (one other : MapChange) → SaysChange value one
+        → SaysChange value other → one ≡ other }
+{}
+
+/// The map of some changes is behind an Ok that of these and this one, and behind any other answer
+/// that of these.
+pub fn changes_grow_by_one<D: Disk>()
+    ensures { (change : MapChange) (changes : List MapChange) (old new : DurableMap D)
+        (answer : Result Sealed ChangeErr) → AnswersChange change old new answer
+        → Holds old changes → Holds new (changes_behind change changes answer) }
+{}

@@ -1,0 +1,22 @@
+//! A map of keys to values, both bytes, that a log keeps: each change is a record of the log, is
+//! durable before it is answered, and is taken into the map behind that. An opening makes the map
+//! of the changes that the log says.
+//!
+//! It is a program as a user of wal_log would write it, with nothing but the clauses of the crates
+//! below. `change` spells a change and reads it back, `entries` takes one in, `opening` reads a
+//! log, `store` has the calls.
+#![tactic(auto)]
+
+mod change;
+mod entries;
+mod fault;
+pub mod laws;
+mod opening;
+mod store;
+#[cfg(test)]
+mod tests;
+
+pub use change::{LONGEST, MANAGER, ReadChange, del_body, read_change, set_body};
+pub use entries::Entries;
+pub use fault::{ChangeErr, MapFault, MapFaultKind};
+pub use store::DurableMap;
