@@ -52,8 +52,8 @@ use Rattle.reopened_log_laws.proofs.AnyLogs.{found_logs_are_suited}
 use Rattle.reopened_log_laws.proofs.SuitedDisks.{reopened_logs_are_suited}
 use Rattle.reopened_log_laws.proofs.Surviving.{reopened_logs_survive_crashes}
 use Rattle.run_backends.specs.Backends.{lists_of}
-use Rattle.cli_words.specs.declared.commands.RunOptions.{RunOptions}
-use Rattle.cli_words.specs.declared.commands.ScriptRunOptions.{ScriptRunOptions}
+use Rattle.cli_line.specs.declared.commands.RunOptions.{RunOptions}
+use Rattle.cli_line.specs.declared.commands.ScriptRunOptions.{ScriptRunOptions}
 use Rattle.backend_cli.specs.Appending.{AppendHeadline, AppendHolds, CrashSinceHanded, HoldsAppended, MayGoOn, WasLeftSo}
 use Rattle.backend_cli.specs.Concluding.{HasPlayedOut, IsConcluded}
 use Rattle.backend_cli.specs.Outside.{SourceView, Took, outside_of}

@@ -18,7 +18,7 @@ use Rattle.wal_log.specs.Reopening.{TellsReopenFault}
 use Rattle.wal_log.specs.declared.opening.OpenFaultKind.{OpenFaultKind}
 use Rattle.wal_log.specs.declared.opening.OpenFaultKind.TheVariants as kinds
 use Rattle.run_script.specs.Asked.{AskedLine}
-use Rattle.cli_words.specs.declared.commands.ScriptRunOptions.{ScriptRunOptions}
+use Rattle.cli_line.specs.declared.commands.ScriptRunOptions.{ScriptRunOptions}
 use Rattle.reopened_log_laws.specs.WasLeft.{WasLeft}
 use Rattle.reopened_log_laws.proofs.StoppedCrashes.{stopped_settlings_survive_crashes}
 use Rattle.backend_cli.specs.Appending.{AppendHolds, CrashSinceHanded, PrintsNothing, StopsSettling}

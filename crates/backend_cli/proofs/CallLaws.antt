@@ -6,9 +6,9 @@ use Rattle.run_script.specs.Run.{run_meaning}
 use Rattle.run_script.specs.declared.line.Refusal.{Refusal}
 use Rattle.run_script.specs.Generated.{generated_script}
 use Rattle.run_laws.specs.declared.told.Told.{Told}
-use Rattle.cli_words.specs.declared.commands.GenOptions.{GenOptions}
-use Rattle.cli_words.specs.declared.commands.ScriptRunOptions.{ScriptRunOptions}
-use Rattle.cli_words.specs.declared.commands.Command.TheVariants.{Run, Append, Gen, Replay, Dump, Redo, Send, Receive}
+use Rattle.cli_line.specs.declared.commands.GenOptions.{GenOptions}
+use Rattle.cli_line.specs.declared.commands.ScriptRunOptions.{ScriptRunOptions}
+use Rattle.cli_line.specs.declared.commands.Command.TheVariants.{Run, Append, Gen, Replay, Dump, Redo, Send, Receive}
 use Rattle.cli_line.specs.declared.asking.Request.{Request}
 use Rattle.cli_line.specs.declared.asking.Request.TheVariants.{Command, Help, Version, Nothing}
 use Rattle.backend_cli.specs.Appending.{AppendHeadline, AppendHolds}

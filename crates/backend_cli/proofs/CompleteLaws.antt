@@ -24,8 +24,8 @@ use Rattle.run_script.specs.declared.line.Refusal.{Refusal}
 use Rattle.run_laws.specs.declared.told.Told.{Told}
 use Rattle.run_laws.specs.Rooms.{all_rooms_asked, capacity_of}
 use Rattle.run_script.specs.Generated.{generated_script}
-use Rattle.cli_words.specs.declared.commands.RunOptions.{RunOptions}
-use Rattle.cli_words.specs.declared.commands.ScriptRunOptions.{ScriptRunOptions}
+use Rattle.cli_line.specs.declared.commands.RunOptions.{RunOptions}
+use Rattle.cli_line.specs.declared.commands.ScriptRunOptions.{ScriptRunOptions}
 use Rattle.backend_cli.specs.Appending.{EndsUnappended, HoldsAppended, MayGoOn}
 use Rattle.backend_cli.specs.Complete.{AppendsAreComplete, LogHasRoom, IsComplete, MadeRunsAreComplete, MeansThese, NoFault, NothingFailed, RunsAreComplete, rooms_found}
 use Rattle.backend_cli.specs.Outside.{Outside, SourceView}

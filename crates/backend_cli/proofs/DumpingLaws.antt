@@ -6,7 +6,7 @@ use Rattle.wal_reader.specs.declared.standing.ReadErr.TheVariants.{Memory, Disk,
 use Rattle.waldump_text.specs.declared.dumping.DumpErr.{DumpErr}
 use Rattle.waldump_text.specs.declared.dumping.DumpErr.TheVariants.{Read, Sink}
 use Rattle.waldump_text.specs.Dump.{HasDumpCause, IsDump}
-use Rattle.cli_words.specs.declared.commands.DumpOptions.{DumpOptions}
+use Rattle.cli_line.specs.declared.commands.DumpOptions.{DumpOptions}
 use Rattle.backend_cli.specs.Outside.{Outside}
 use Rattle.backend_cli.specs.declared.outcome.Outcome.{Outcome}
 use Rattle.run_laws.specs.declared.told.Told.{Told}

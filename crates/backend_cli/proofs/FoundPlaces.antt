@@ -13,7 +13,7 @@ use Rattle.run_laws.specs.declared.told.Told.{Told}
 use Rattle.reopened_log_laws.specs.FoundFirst.{AreFoundEntries}
 use Rattle.reopened_log_laws.specs.WasLeft.{WasLeft}
 use Rattle.reopened_log_laws.proofs.FoundPlaces.{found_places_lie_behind}
-use Rattle.cli_words.specs.declared.commands.RunOptions.{RunOptions}
+use Rattle.cli_line.specs.declared.commands.RunOptions.{RunOptions}
 use Rattle.backend_cli.specs.Appending.{HoldsAppended}
 use Rattle.backend_cli.specs.Outside.{Outside}
 use Rattle.backend_cli.specs.Setups.{run_setup, system_id}

@@ -18,7 +18,7 @@ use Rattle.wal_core.specs.Cores.{HasWriter, core_of}
 use Rattle.wal_core.specs.Playing.{PlaysMachine}
 use Rattle.wal_core.specs.declared.machine.Core.{Core}
 use Rattle.wal_core.proofs.Cores.{writer_is_core's}
-use Rattle.cli_words.specs.declared.commands.CrashPick.{CrashPick}
+use Rattle.cli_line.specs.declared.commands.CrashPick.{CrashPick}
 use Rattle.backend_cli.specs.Replaying.{IsCrashed, pick_of}
 
 module _ (m : Machine) (writer : Plain) (turns : IsWriteTurn (write_turn (m.state).words) (m.state).home writer (map writer_of (m.state).views)) where

@@ -7,7 +7,7 @@ use Rattle.waldump_text.specs.declared.dumping.DumpErr.{DumpErr}
 use Rattle.waldump_text.specs.declared.dumping.DumpErr.TheVariants.{Read, Sink}
 use Rattle.waldump_text.specs.Dump.{HasDumpCause}
 use Rattle.wal_redo.specs.RedoListing.{IsRedoListing}
-use Rattle.cli_words.specs.declared.commands.RedoOptions.{RedoOptions}
+use Rattle.cli_line.specs.declared.commands.RedoOptions.{RedoOptions}
 use Rattle.backend_cli.specs.Outside.{Outside}
 use Rattle.backend_cli.specs.declared.outcome.Outcome.{Outcome}
 use Rattle.run_laws.specs.declared.told.Told.{Told}

@@ -10,7 +10,7 @@ use Rattle.waldump_text.specs.Put.{Puts}
 use Rattle.waldump_text.specs.declared.dumping.DumpErr.{DumpErr}
 use Rattle.waldump_text.specs.declared.dumping.DumpErr.TheVariants.{Sink}
 use Rattle.waldump_text.specs.declared.putting.SinkFault.{SinkFault}
-use Rattle.cli_words.specs.declared.commands.ReplayOptions.{ReplayOptions}
+use Rattle.cli_line.specs.declared.commands.ReplayOptions.{ReplayOptions}
 use Rattle.machine_state.specs.declared.setup.Setup.{Setup}
 use Rattle.machine_state.specs.Opened.{AreFirstWords, IsFirstWriter}
 use Rattle.machine_turns.specs.Begun.{first_machine}

@@ -10,8 +10,8 @@ use Rattle.run_script.specs.declared.line.Line.{Line}
 use Rattle.run_script.specs.declared.line.Refusal.{Refusal}
 use Rattle.run_script.proofs.RunLaws.{runs_have_some_backends}
 use Rattle.machine_state.specs.declared.setup.Setup.{Setup}
-use Rattle.cli_words.specs.declared.commands.RunOptions.{RunOptions}
-use Rattle.cli_words.specs.declared.commands.ScriptRunOptions.{ScriptRunOptions}
+use Rattle.cli_line.specs.declared.commands.RunOptions.{RunOptions}
+use Rattle.cli_line.specs.declared.commands.ScriptRunOptions.{ScriptRunOptions}
 use Rattle.run_backends.specs.Backends.{HaveToldEach, IsRoomFor, lists_of, scripts_of}
 use Rattle.run_backends.specs.declared.backend.AnsweredLines.{AnsweredLines}
 use Rattle.run_backends.specs.declared.playing.Room.{Room}

@@ -13,7 +13,7 @@ use Rattle.wal_log.specs.declared.wal.Wal.{Wal}
 use Rattle.run_script.specs.Asked.{AskedLine}
 use Rattle.run_backends.specs.Backends.{lists_of}
 use Rattle.run_backends.specs.declared.backend.AnsweredLines.{AnsweredLines}
-use Rattle.cli_words.specs.declared.commands.RunOptions.{RunOptions}
+use Rattle.cli_line.specs.declared.commands.RunOptions.{RunOptions}
 use Rattle.backend_cli.specs.Concluding.{Concludes, HasPlayedOut, IsConcluded}
 use Rattle.backend_cli.specs.Outside.{Outside, Took}
 use Rattle.backend_cli.specs.Printing.{Summarizes, printed_text}

@@ -26,7 +26,7 @@ use Rattle.run_laws.specs.Ended.{logged_at_end}
 use Rattle.run_laws.specs.Assured.{HoldsSuited}
 use Rattle.run_laws.proofs.ClosedRuns.{empty_suited}
 use Rattle.run_backends.specs.Backends.{lists_of}
-use Rattle.cli_words.specs.declared.commands.RunOptions.{RunOptions}
+use Rattle.cli_line.specs.declared.commands.RunOptions.{RunOptions}
 use Rattle.backend_cli.specs.Concluding.{HasPlayedOut, IsConcluded}
 use Rattle.backend_cli.specs.Outside.{SourceView, Took, outside_of}
 use Rattle.backend_cli.specs.Printing.{printed_text}

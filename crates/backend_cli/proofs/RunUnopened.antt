@@ -7,8 +7,8 @@ use Rattle.wal_log.specs.Opening.{TellsOpenFault}
 use Rattle.wal_log.specs.declared.opening.OpenFaultKind.{OpenFaultKind}
 use Rattle.wal_log.specs.declared.opening.OpenFaultKind.TheVariants as kinds
 use Rattle.run_script.specs.Asked.{AskedLine}
-use Rattle.cli_words.specs.declared.commands.RunOptions.{RunOptions}
-use Rattle.cli_words.specs.declared.commands.ScriptRunOptions.{ScriptRunOptions}
+use Rattle.cli_line.specs.declared.commands.RunOptions.{RunOptions}
+use Rattle.cli_line.specs.declared.commands.ScriptRunOptions.{ScriptRunOptions}
 use Rattle.backend_cli.specs.Outcome.{outcome_unopened}
 use Rattle.backend_cli.specs.Outside.{IsUntouched, Outside, SourceView, outside_of}
 use Rattle.backend_cli.specs.Reading.{ScriptMeans}

@@ -30,8 +30,8 @@ use Rattle.run_laws.specs.Assured.{TapeGoesOn}
 use Rattle.reopened_log_laws.specs.AnyLogs.{HoldsSegments}
 use Rattle.reopened_log_laws.specs.FoundFirst.{AreFoundEntries}
 use Rattle.reopened_log_laws.specs.WasLeft.{WasLeft}
-use Rattle.cli_words.specs.declared.commands.RunOptions.{RunOptions}
-use Rattle.cli_words.specs.declared.commands.ScriptRunOptions.{ScriptRunOptions}
+use Rattle.cli_line.specs.declared.commands.RunOptions.{RunOptions}
+use Rattle.cli_line.specs.declared.commands.ScriptRunOptions.{ScriptRunOptions}
 use Rattle.backend_cli.specs.declared.outcome.Outcome.{Outcome}
 use Rattle.backend_cli.specs.declared.outcome.Outcome.TheVariants.{OutOfMemory, SourceFault, ScriptRefused, BeyondCap, DiskFault, Stopped}
 use Rattle.backend_cli.specs.Headline.{NamesOwnPlace}

@@ -13,9 +13,9 @@ use Rattle.run_laws.specs.declared.told.Told.{Told}
 use Rattle.run_laws.specs.Rooms.{all_rooms_asked, capacity_of}
 use Rattle.run_laws.specs.Told.{IsRefused, SomeTold}
 use Rattle.run_script.specs.Generated.{generated_script}
-use Rattle.cli_words.specs.declared.commands.GenOptions.{GenOptions}
-use Rattle.cli_words.specs.declared.commands.RunOptions.{RunOptions}
-use Rattle.cli_words.specs.declared.commands.ScriptRunOptions.{ScriptRunOptions}
+use Rattle.cli_line.specs.declared.commands.GenOptions.{GenOptions}
+use Rattle.cli_line.specs.declared.commands.RunOptions.{RunOptions}
+use Rattle.cli_line.specs.declared.commands.ScriptRunOptions.{ScriptRunOptions}
 use Rattle.backend_cli.specs.declared.outcome.Outcome.{Outcome}
 use Rattle.backend_cli.specs.declared.outcome.Outcome.TheVariants.{BeyondCap, Done, OutOfMemory}
 use Rattle.backend_cli.specs.Appending.{AppendHolds}

@@ -14,7 +14,7 @@ use Rattle.run_laws.specs.Told.{IsFullAnswer, SomeTold, order_from}
 use Rattle.run_backends.specs.Backends.{lists_of}
 use Rattle.run_backends.specs.Playing.{HasPlayed}
 use Rattle.run_backends.specs.declared.backend.AnsweredLines.{AnsweredLines}
-use Rattle.cli_words.specs.declared.commands.RunOptions.{RunOptions}
+use Rattle.cli_line.specs.declared.commands.RunOptions.{RunOptions}
 use Rattle.backend_cli.specs.declared.outcome.Outcome.{Outcome}
 use Rattle.backend_cli.specs.declared.outcome.Outcome.TheVariants.{Done, DiskFault, LogFull, SinkFault as SinkFailed}
 use Rattle.backend_cli.specs.declared.printing.Summary.{Summary}

@@ -6,7 +6,7 @@ use Rattle.wal_reader.specs.declared.standing.ReadErr.TheVariants as reading
 use Rattle.waldump_text.specs.declared.dumping.DumpErr.{DumpErr}
 use Rattle.waldump_text.specs.declared.dumping.DumpErr.TheVariants.{Read, Sink}
 use Rattle.waldump_text.specs.Dump.{ListsAll, ListsFront, ListsFrontInReading, ListsUpTo}
-use Rattle.cli_words.specs.declared.commands.DumpOptions.{DumpOptions}
+use Rattle.cli_line.specs.declared.commands.DumpOptions.{DumpOptions}
 use Rattle.backend_cli.specs.declared.outcome.Outcome.{Outcome}
 use Rattle.backend_cli.specs.declared.outcome.Outcome.TheVariants.{Done, OutOfMemory, DiskFault, Stopped, SinkFault}
 use Rattle.run_laws.specs.declared.told.Told.{Told}

@@ -12,7 +12,7 @@ use Rattle.run_laws.specs.declared.told.Told.{Told}
 use Rattle.wal_stream.specs.Opened.{HasOpenCause, StandsAtFound}
 use Rattle.wal_stream.specs.Standby.{standby_disk}
 use Rattle.wal_stream.specs.declared.standby.Standby.{Standby}
-use Rattle.cli_words.specs.declared.commands.ReceiveOptions.{ReceiveOptions}
+use Rattle.cli_line.specs.declared.commands.ReceiveOptions.{ReceiveOptions}
 use Rattle.wal_stream.specs.Fetched.{SourceState}
 use Rattle.wal_stream.specs.Receiving.{Receives}
 use Rattle.wal_stream.specs.declared.outcome.ReceivingEnd.{ReceivingEnd}

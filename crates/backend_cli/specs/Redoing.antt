@@ -3,7 +3,7 @@ use Rattle.std.specs.Prelude.{◌≡◌, ℕ, List, [], IfSome}
 use Rattle.segment_disk.specs.Tape.{IsNotMade, Tape}
 use Rattle.wal_reader.specs.declared.found.Stopped.{Stopped as LogStop}
 use Rattle.wal_redo.specs.RedoListing.{ListsNoRedo, ListsRedo, ListsRedoFront}
-use Rattle.cli_words.specs.declared.commands.RedoOptions.{RedoOptions}
+use Rattle.cli_line.specs.declared.commands.RedoOptions.{RedoOptions}
 use Rattle.backend_cli.specs.declared.outcome.Outcome.{Outcome}
 use Rattle.backend_cli.specs.declared.outcome.Outcome.TheVariants.{Done, OutOfMemory, DiskFault, Stopped, SinkFault}
 use Rattle.run_laws.specs.declared.told.Told.{Told}

@@ -13,7 +13,7 @@ use Rattle.run_script.specs.declared.line.Action.{Action}
 use Rattle.run_script.specs.declared.line.Action.TheVariants as actions
 use Rattle.run_script.specs.declared.line.Line.{Line}
 use Rattle.run_script.specs.declared.replay.Replay.{Replay}
-use Rattle.cli_words.specs.declared.commands.ReplayOptions.{ReplayOptions}
+use Rattle.cli_line.specs.declared.commands.ReplayOptions.{ReplayOptions}
 use Rattle.backend_cli.specs.declared.outcome.Outcome.{Outcome}
 use Rattle.backend_cli.specs.declared.replay.ReplayBegun.{ReplayBegun}
 use Rattle.backend_cli.specs.Outside.{SourceView}

@@ -25,9 +25,9 @@ use Rattle.waldump_text.specs.Dump.{IsDump}
 use Rattle.waldump_text.specs.Put.{joined}
 use Rattle.waldump_text.specs.declared.dumping.DumpErr.{DumpErr}
 use Rattle.waldump_text.specs.declared.dumping.DumpErr.TheVariants.{Read, Sink}
-use Rattle.cli_words.specs.declared.commands.CrashPick.{CrashPick}
-use Rattle.cli_words.specs.declared.commands.CrashPick.TheVariants as crashes
-use Rattle.cli_words.specs.declared.commands.ReplayOptions.{ReplayOptions}
+use Rattle.cli_line.specs.declared.commands.CrashPick.{CrashPick}
+use Rattle.cli_line.specs.declared.commands.CrashPick.TheVariants as crashes
+use Rattle.cli_line.specs.declared.commands.ReplayOptions.{ReplayOptions}
 use Rattle.backend_cli.specs.declared.outcome.Outcome.{Outcome}
 use Rattle.backend_cli.specs.declared.outcome.Outcome.TheVariants.{Done, OutOfMemory, Stopped, LogFull, SinkFault}
 use Rattle.run_laws.specs.declared.told.Told.{Told}

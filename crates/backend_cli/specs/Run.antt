@@ -12,9 +12,9 @@ use Rattle.run_laws.specs.Counts.{TellsOneFault}
 use Rattle.run_laws.specs.Moments.{EachRises}
 use Rattle.run_laws.specs.Crash.{EachIsTimely}
 use Rattle.run_laws.specs.Rooms.{all_rooms_asked}
-use Rattle.cli_words.specs.declared.commands.GenOptions.{GenOptions}
-use Rattle.cli_words.specs.declared.commands.RunOptions.{RunOptions}
-use Rattle.cli_words.specs.declared.commands.ScriptRunOptions.{ScriptRunOptions}
+use Rattle.cli_line.specs.declared.commands.GenOptions.{GenOptions}
+use Rattle.cli_line.specs.declared.commands.RunOptions.{RunOptions}
+use Rattle.cli_line.specs.declared.commands.ScriptRunOptions.{ScriptRunOptions}
 use Rattle.run_script.specs.Generated.{generated_script}
 use Rattle.run_laws.specs.WholeOrders.{IsWhole}
 use Rattle.byte_position.specs.Position.{first_position}

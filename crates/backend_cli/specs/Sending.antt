@@ -2,7 +2,7 @@
 use Rattle.std.specs.Prelude.{◌≡◌, ℕ, List, [], Result, Ok, Err}
 use Rattle.wal_reader.specs.declared.standing.ReadErr.TheVariants as reading
 use Rattle.run_laws.specs.declared.told.Told.{Told}
-use Rattle.cli_words.specs.declared.commands.SendOptions.{SendOptions}
+use Rattle.cli_line.specs.declared.commands.SendOptions.{SendOptions}
 use Rattle.wal_stream.specs.Sending.{HasSendCause, IsSending}
 use Rattle.wal_stream.specs.declared.fault.SendErr.{SendErr}
 use Rattle.wal_stream.specs.declared.fault.SendErr.TheVariants.{Read, Sink}

@@ -1,7 +1,7 @@
 -- The setup of a log that a command opens.
 use Rattle.std.specs.Prelude.{ℕ, ◌+◌}
 use Rattle.machine_state.specs.declared.setup.Setup.{Setup}
-use Rattle.cli_words.specs.declared.commands.RunOptions.{RunOptions}
+use Rattle.cli_line.specs.declared.commands.RunOptions.{RunOptions}
 
 -- the system id of each log that this program writes
 abbrev pub system_id : ℕ

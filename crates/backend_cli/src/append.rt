@@ -1,5 +1,5 @@
 ghost use Rattle.std.specs.Prelude.{List, Ok};
-ghost use Rattle.cli_words.specs.Given.{IsShapeInRange};
+ghost use Rattle.cli_line.specs.Given.{IsShapeInRange};
 ghost use Rattle.run_script.specs.Asked.{AskedLine};
 ghost use Rattle.backend_cli.specs.Appending.{AppendHolds};
 ghost use Rattle.backend_cli.specs.Outside.{SourceView, outside_of, source_view};
@@ -11,7 +11,7 @@ use crate::run::{Finished, OpenedLog, calls_are_counted, play_opened, prepare, u
 use crate::setup::run_setup;
 use crate::told::ToldLists;
 use bumpalo::Bump;
-use cli_words::ScriptRunOptions;
+use cli_line::ScriptRunOptions;
 use run_backends::{Gate, Room};
 use segment_disk::{Disk, Sink, Source};
 use std::alloc::Global;

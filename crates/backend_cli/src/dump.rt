@@ -5,7 +5,7 @@ ghost use Rattle.backend_cli.specs.Outside.{SourceView, outside_of};
 use crate::outcome::Outcome;
 use crate::run::Finished;
 use crate::told::ToldLists;
-use cli_words::DumpOptions;
+use cli_line::DumpOptions;
 use segment_disk::{Disk, Sink};
 use std::alloc::Global;
 use wal_reader::ReadErr;

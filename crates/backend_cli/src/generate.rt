@@ -1,5 +1,5 @@
 ghost use Rattle.std.specs.Prelude.{◌≡◌, ◌≤◌, IfOk};
-ghost use Rattle.cli_words.specs.Given.{IsShapeInRange};
+ghost use Rattle.cli_line.specs.Given.{IsShapeInRange};
 ghost use Rattle.run_script.specs.Generated.{generated_script};
 ghost use Rattle.backend_cli.specs.Outside.{SourceView, outside_of};
 ghost use Rattle.backend_cli.specs.Prepared.{IsPreparedFor};
@@ -8,7 +8,7 @@ ghost use Rattle.backend_cli.specs.Run.{GenHolds};
 use crate::outcome::Outcome;
 use crate::run::{Finished, run_prepared};
 use crate::told::ToldLists;
-use cli_words::GenOptions;
+use cli_line::GenOptions;
 use run_backends::{Gate, Room};
 use run_script::generate;
 use run_script::generated_laws::four_backends_have_as_many_lines;

@@ -1,6 +1,6 @@
 ghost use Rattle.std.specs.Prelude.{◌≡◌, ℕ, List, [], map, string_bytes};
 ghost use Rattle.waldump_text.specs.Put.{joined};
-ghost use Rattle.cli_words.specs.Given.{IsInRange};
+ghost use Rattle.cli_line.specs.Given.{IsInRange};
 ghost use Rattle.run_script.specs.Asked.{AskedLine};
 ghost use Rattle.cli_line.specs.Asking.{AsksInRange, asks};
 ghost use Rattle.cli_line.specs.Texts.{help, version};
@@ -22,8 +22,7 @@ use crate::replay::replay;
 use crate::run::{Finished, run};
 use crate::send::send_log;
 use crate::told::ToldLists;
-use cli_line::{Request, asked, help_text, version_text};
-use cli_words::Command;
+use cli_line::{Command, Request, asked, help_text, version_text};
 use run_backends::Gate;
 use segment_disk::{Disk, Sink, Source};
 use std::alloc::{AllocError, Global};

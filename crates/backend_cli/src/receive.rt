@@ -1,13 +1,13 @@
 ghost use Rattle.std.specs.Prelude.{◌≡◌, ◌∷◌, [], codes};
 ghost use Rattle.waldump_text.specs.Put.{Puts};
-ghost use Rattle.cli_words.specs.Given.{IsCapInRange};
+ghost use Rattle.cli_line.specs.Given.{IsCapInRange};
 ghost use Rattle.backend_cli.specs.Outside.{disk_seen, outside_of, source_view};
 ghost use Rattle.backend_cli.specs.Receiving.{EndsReceived, FeedsStandby, ReceiveHolds, outcome_put, outcome_unfound, received_text, standby_source};
 
 use crate::outcome::Outcome;
 use crate::run::Finished;
 use crate::told::ToldLists;
-use cli_words::ReceiveOptions;
+use cli_line::ReceiveOptions;
 use found_log::FindFault;
 use segment_disk::{Disk, Sink, Source};
 use std::alloc::Global;

@@ -5,7 +5,7 @@ ghost use Rattle.backend_cli.specs.Redoing.{RedoHolds};
 use crate::dump::outcome_of;
 use crate::run::Finished;
 use crate::told::ToldLists;
-use cli_words::RedoOptions;
+use cli_line::RedoOptions;
 use segment_disk::{Disk, Sink};
 use std::alloc::Global;
 use wal_redo::list_redo;

@@ -2,7 +2,7 @@ ghost use Rattle.std.specs.Prelude.{◌≡◌, ◌≤◌, ℕ, List, [], Option,
 ghost use Rattle.segment_disk.specs.First.{first_state};
 ghost use Rattle.segment_disk.specs.MemDisk.{tape_of};
 ghost use Rattle.segment_disk.specs.Tape.{Tape};
-ghost use Rattle.cli_words.specs.Given.{IsShapeInRange};
+ghost use Rattle.cli_line.specs.Given.{IsShapeInRange};
 ghost use Rattle.run_script.specs.Turns.{backends_in_turn};
 ghost use Rattle.waldump_text.specs.Put.{Puts};
 ghost use Rattle.run_script.specs.Asked.{AskedLine};
@@ -23,7 +23,7 @@ use crate::run::Finished;
 use crate::setup::setup_asked;
 use crate::told::ToldLists;
 use byte_position::Geometry;
-use cli_words::{CrashPick, ReplayOptions};
+use cli_line::{CrashPick, ReplayOptions};
 use run_script::{Action, Item, Line, Replay, Schedule, parse_replay};
 use segment_disk::{Disk, MemDisk, Pick, Sink, Source};
 use std::alloc::{AllocError, Global};

@@ -1,5 +1,5 @@
 ghost use Rattle.std.specs.Prelude.{◌≡◌, ◌≤◌, ◌↔◌, ◌^◌, ◌++◌, ℕ, All, IfSome, List, [], Ok, Option, IsTrue, false, length, not, vec_capacity, vec_len};
-ghost use Rattle.cli_words.specs.Given.{IsShapeInRange};
+ghost use Rattle.cli_line.specs.Given.{IsShapeInRange};
 ghost use Rattle.run_script.specs.Asked.{AskedLine};
 ghost use Rattle.run_script.specs.Replay.{most_backends};
 ghost use Rattle.waldump_text.specs.Put.{Puts};
@@ -29,7 +29,7 @@ use crate::setup::run_setup;
 use crate::told::ToldLists;
 use bumpalo::Bump;
 use byte_position::Geometry;
-use cli_words::{RunOptions, ScriptRunOptions};
+use cli_line::{RunOptions, ScriptRunOptions};
 use run_backends::{AnsweredLines, Gate, PlayedRun, Room, play_backends};
 use run_laws::KeptTold;
 use run_script::{Line, parse_run};

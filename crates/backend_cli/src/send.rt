@@ -5,7 +5,7 @@ ghost use Rattle.backend_cli.specs.Sending.{SendHolds, outcome_sent};
 use crate::outcome::Outcome;
 use crate::run::Finished;
 use crate::told::ToldLists;
-use cli_words::SendOptions;
+use cli_line::SendOptions;
 use segment_disk::{Disk, Sink};
 use std::alloc::Global;
 use wal_reader::ReadErr;

@@ -1,5 +1,5 @@
 ghost use Rattle.std.specs.Prelude.{◌≡◌, ◌≤◌, List, length, vec_len};
-ghost use Rattle.cli_words.specs.Given.{IsShapeInRange};
+ghost use Rattle.cli_line.specs.Given.{IsShapeInRange};
 ghost use Rattle.machine_state.specs.Sound.{IsSetup};
 ghost use Rattle.run_script.specs.Replay.{most_backends};
 ghost use Rattle.run_script.specs.Asked.{AskedLine};
@@ -7,7 +7,7 @@ ghost use Rattle.backend_cli.specs.Prepared.{IsPreparedFor};
 ghost use Rattle.backend_cli.specs.Setups.{run_setup, setup_asked};
 
 use byte_position::Geometry;
-use cli_words::RunOptions;
+use cli_line::RunOptions;
 use machine_state::Setup;
 use run_backends::Room;
 

@@ -1,3 +1,5 @@
+pub mod Cuts
+pub mod Hexadecimals
 pub mod Declaring
 pub mod OneFault
 pub mod PlainWalk

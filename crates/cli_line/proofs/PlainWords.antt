@@ -10,8 +10,8 @@ use Rattle.clap.specs.Kinds.{or_else}
 use Rattle.clap.specs.Simple.{built}
 use Rattle.clap.specs.Faults.{default_fault, defaults_fault, entered_fault, given_default_fault, level_fault, check_fault, settle_fault, turn_fault, walk_fault}
 use Rattle.clap.specs.Walk.{Walk, more_values, finished, has_row, is_empty, nothing_held, reading_by, settled, walk, walk_from, walked, with_default}
-use Rattle.cli_words.specs.Given.{Given, command_of, named as named_by}
-use Rattle.cli_words.specs.declared.commands.Command.{Command as Task}
+use Rattle.cli_line.specs.Given.{Given, command_of, named as named_by}
+use Rattle.cli_line.specs.declared.commands.Command.{Command as Task}
 use Rattle.cli_line.specs.declared.asking.Request.TheVariants.{Command}
 use Rattle.cli_line.specs.Asking.{asks, given_in, is_set, request_of}
 use Rattle.cli_line.specs.Syntax.{declared_command}

@@ -5,8 +5,8 @@ use Rattle.std.specs.Str.{bytes_eq}
 use Rattle.clap.specs.Words.{Kinds, Row, Text, fault_of, first_of, matches_of}
 use Rattle.clap.specs.declared.error.kind.ErrorKind.{ErrorKind}
 use Rattle.clap.specs.declared.error.kind.ErrorKind.TheVariants.{DisplayHelp, DisplayVersion}
-use Rattle.cli_words.specs.Given.{Given, IsInRange, command_of}
-use Rattle.cli_words.specs.declared.commands.Command.{Command as Task}
+use Rattle.cli_line.specs.Given.{Given, IsInRange, command_of}
+use Rattle.cli_line.specs.declared.commands.Command.{Command as Task}
 use Rattle.cli_line.specs.declared.asking.Request.{Request}
 use Rattle.cli_line.specs.declared.asking.Request.TheVariants.{Command, Help, Version, Nothing}
 use Rattle.cli_line.specs.Syntax.{declared_command}

@@ -1,3 +1,5 @@
+pub mod Given
+pub mod Meanings
 pub mod Asking
 pub mod Plain
 pub mod Syntax

@@ -5,7 +5,7 @@ use Rattle.std.specs.Prelude.{Bool, true, false, ◌&&◌, not, List, [], ◌∷
 use Rattle.std.specs.Option.{option_map_or}
 use Rattle.std.specs.Str.{bytes_eq}
 use Rattle.clap.specs.Words.{Text}
-use Rattle.cli_words.specs.Given.{Given}
+use Rattle.cli_line.specs.Given.{Given}
 
 -- the options with a value
 pub data Valued : Type 0 where

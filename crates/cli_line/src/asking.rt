@@ -1,12 +1,13 @@
 ghost use Rattle.std.specs.Prelude.{◌≡◌, ◌↔◌, IfOk, IsErr, map, string_bytes, option_map};
 ghost use Rattle.clap.specs.Words.{first_of, found_of, rows_of};
-ghost use Rattle.cli_words.specs.Given.{given_of, text_of};
+ghost use Rattle.cli_line.specs.Given.{given_of, text_of};
 ghost use Rattle.cli_line.specs.Asking.{AsksInRange, asks, given_in, is_set, request_by, request_of};
 
+use crate::commands::Command;
 use crate::declared::declared;
+use crate::given::GivenWords;
 use clap::ArgMatches;
 use clap::error::ErrorKind;
-use cli_words::{Command, GivenWords};
 use std::alloc::{AllocError, Global};
 
 /// What a command line asks for.

@@ -1,6 +1,6 @@
 ghost use Rattle.std.specs.Prelude.{◌≡◌, ℕ, IfSome, List, ◌∷◌, ◌++◌, Option, true, false, Some};
-ghost use Rattle.cli_words.specs.Given.{command_of};
-ghost use Rattle.cli_words.specs.declared.commands.Command.{Command};
+ghost use Rattle.cli_line.specs.Given.{command_of};
+ghost use Rattle.cli_line.specs.declared.commands.Command.{Command};
 ghost use Rattle.cli_line.specs.Asking.{asks, request_of};
 ghost use Rattle.cli_line.specs.Plain.{Use, are_plain, begins_with_hyphen, given_by, name_words, words_of_uses};
 ghost use Rattle.cli_line.specs.declared.asking.Request.TheVariants as requests;

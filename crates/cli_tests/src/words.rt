@@ -1,8 +1,8 @@
 //! Numbers, addresses and bytes, as rows spell them.
 
 use crate::halt::Halt;
+use cli_line::lsn;
 use cli_text::hexadecimal_digit;
-use cli_words::lsn;
 use std::alloc::{AllocError, Global};
 
 /// What stands before the first blank, and what behind it.

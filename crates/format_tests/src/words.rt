@@ -1,10 +1,10 @@
 //! What words mean: those of a command line, of its options, and of numbers.
 
-use cli_text::{hexadecimal_digit, number, time};
-use cli_words::{
+use cli_line::{
     Command, CrashPick, GivenWords, RunOptions, block_number, cap_segments, crash, fork, limit,
     line_count, lsn, manager, relation, ring_pages, segment_size, writer_lines, xid,
 };
+use cli_text::{hexadecimal_digit, number, time};
 use wal_types::{Lsn, Rel, Xid};
 
 // The words of a command line with a command's name, and maybe a word behind it.

@@ -30,8 +30,8 @@ use Rattle.reopened_log_laws.proofs.KeptLives.{KeepsSure, failed_keeps, none_kep
 use Rattle.reopened_log_laws.proofs.KeptRecords.{IsSureRecord}
 use Rattle.reopened_log_laws.proofs.Surviving.{some_tape}
 use Rattle.run_script.specs.Generated.{generated_script}
-use Rattle.cli_words.specs.declared.commands.RunOptions.{RunOptions}
-use Rattle.cli_words.specs.declared.commands.ScriptRunOptions.{ScriptRunOptions}
+use Rattle.cli_line.specs.declared.commands.RunOptions.{RunOptions}
+use Rattle.cli_line.specs.declared.commands.ScriptRunOptions.{ScriptRunOptions}
 use Rattle.backend_cli.specs.declared.outcome.Outcome.{Outcome}
 use Rattle.backend_cli.specs.declared.outcome.Outcome.TheVariants.{OutOfMemory, SourceFault, ScriptRefused, BeyondCap, DiskFault, Stopped}
 use Rattle.backend_cli.specs.Appending.{EndsUnappended, HoldsAppended, StopsSettling}

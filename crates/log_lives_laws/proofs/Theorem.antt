@@ -18,7 +18,7 @@ use Rattle.reopened_log_laws.proofs.KeptFronts.{sure_crash, sure_reads}
 use Rattle.reopened_log_laws.proofs.KeptLives.{KeepsSure, with_left}
 use Rattle.reopened_log_laws.proofs.KeptRecords.{IsSureRecord}
 use Rattle.reopened_log_laws.proofs.OwnAnswers.{left_logs_are_not_foreign}
-use Rattle.cli_words.specs.declared.commands.ScriptRunOptions.{ScriptRunOptions}
+use Rattle.cli_line.specs.declared.commands.ScriptRunOptions.{ScriptRunOptions}
 use Rattle.backend_cli.specs.declared.outcome.Outcome.{Outcome}
 use Rattle.backend_cli.specs.declared.outcome.Outcome.TheVariants.{Stopped}
 use Rattle.backend_cli.specs.Appending.{AppendHolds}

@@ -21,9 +21,9 @@ use Rattle.run_laws.specs.Told.{order_from}
 use Rattle.reopened_log_laws.specs.FoundFirst.{AreFoundEntries}
 use Rattle.reopened_log_laws.specs.Lives.{LifeEndsAt}
 use Rattle.run_script.specs.Generated.{generated_script}
-use Rattle.cli_words.specs.declared.commands.GenOptions.{GenOptions}
-use Rattle.cli_words.specs.declared.commands.RunOptions.{RunOptions}
-use Rattle.cli_words.specs.declared.commands.ScriptRunOptions.{ScriptRunOptions}
+use Rattle.cli_line.specs.declared.commands.GenOptions.{GenOptions}
+use Rattle.cli_line.specs.declared.commands.RunOptions.{RunOptions}
+use Rattle.cli_line.specs.declared.commands.ScriptRunOptions.{ScriptRunOptions}
 use Rattle.backend_cli.specs.declared.outcome.Outcome.{Outcome}
 use Rattle.backend_cli.specs.Appending.{AppendHolds}
 use Rattle.backend_cli.specs.Outside.{Outside}

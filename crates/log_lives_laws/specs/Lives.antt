@@ -15,7 +15,7 @@ use Rattle.written_log_laws.specs.Torn.{NoTornPass}
 use Rattle.run_laws.specs.declared.told.Told.{Told}
 use Rattle.reopened_log_laws.specs.FoundFirst.{AreFoundEntries}
 use Rattle.reopened_log_laws.specs.Lives.{IsFrontWith}
-use Rattle.cli_words.specs.declared.commands.ScriptRunOptions.{ScriptRunOptions}
+use Rattle.cli_line.specs.declared.commands.ScriptRunOptions.{ScriptRunOptions}
 use Rattle.backend_cli.specs.declared.outcome.Outcome.{Outcome}
 use Rattle.backend_cli.specs.declared.outcome.Outcome.TheVariants.{Stopped}
 use Rattle.backend_cli.specs.Appending.{AppendHolds, WasLeftSo}

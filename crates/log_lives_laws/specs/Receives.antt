@@ -3,8 +3,8 @@ use Rattle.std.specs.Prelude.{◌≡◌, ℕ, ◌≤◌, List, [], ◌∷◌, �
 use Rattle.segment_disk.specs.Tape.{Tape}
 use Rattle.waldump_text.specs.Put.{Puts}
 use Rattle.wal_page.specs.Order.{Entry}
-use Rattle.cli_words.specs.Given.{IsCapInRange}
-use Rattle.cli_words.specs.declared.commands.ReceiveOptions.{ReceiveOptions}
+use Rattle.cli_line.specs.Given.{IsCapInRange}
+use Rattle.cli_line.specs.declared.commands.ReceiveOptions.{ReceiveOptions}
 use Rattle.run_laws.specs.declared.told.Told.{Told}
 use Rattle.wal_stream.specs.Sent.{HandsOutLog}
 use Rattle.wal_stream.specs.declared.outcome.Received.{Received}

@@ -2,8 +2,7 @@
 #![tactic(auto)]
 
 use backend_cli::{OpenGate, pgwal};
-use cli_line::{Request, asked};
-use cli_words::Command;
+use cli_line::{Command, Request, asked};
 use segment_disk::Memory;
 use segment_files::{Access, FileDisk, StandardSink, StandardSource};
 use std::alloc::AllocError;

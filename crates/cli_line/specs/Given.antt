@@ -5,13 +5,13 @@ use Rattle.std.specs.Str.{bytes_eq}
 use Rattle.waldump_filter.specs.Keeping.{everything_from}
 use Rattle.waldump_filter.specs.Names.{fork_named}
 use Rattle.waldump_filter.specs.declared.Filter.{Filter}
-use Rattle.cli_words.specs.Meanings.{block_number_of, cap_segments_of, crash_of, limit_of, line_count_of, lsn_of, manager_of, relation_of, ring_pages_of, segment_size_of, writer_lines_of, xid_of}
-use Rattle.cli_words.specs.declared.commands.Command.{Command}
-use Rattle.cli_words.specs.declared.commands.Command.TheVariants.{Run, Append, Gen, Dump, Replay, Redo, Send, Receive}
-use Rattle.cli_words.specs.declared.commands.CrashPick.TheVariants.{New}
-use Rattle.cli_words.specs.declared.commands.RunOptions.{RunOptions}
-use Rattle.cli_words.specs.declared.commands.ScriptRunOptions.{ScriptRunOptions}
-use Rattle.cli_words.specs.declared.given.GivenWords.{GivenWords}
+use Rattle.cli_line.specs.Meanings.{block_number_of, cap_segments_of, crash_of, limit_of, line_count_of, lsn_of, manager_of, relation_of, ring_pages_of, segment_size_of, writer_lines_of, xid_of}
+use Rattle.cli_line.specs.declared.commands.Command.{Command}
+use Rattle.cli_line.specs.declared.commands.Command.TheVariants.{Run, Append, Gen, Dump, Replay, Redo, Send, Receive}
+use Rattle.cli_line.specs.declared.commands.CrashPick.TheVariants.{New}
+use Rattle.cli_line.specs.declared.commands.RunOptions.{RunOptions}
+use Rattle.cli_line.specs.declared.commands.ScriptRunOptions.{ScriptRunOptions}
+use Rattle.cli_line.specs.declared.given.GivenWords.{GivenWords}
 
 -- the words given: of the command's name, of what stands behind it, and of each option
 pub record Given : Type 0 where

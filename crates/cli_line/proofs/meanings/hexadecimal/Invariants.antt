@@ -1,5 +1,5 @@
-use Rattle.cli_words.proofs.Hexadecimals.{IsReadTo}
-use Rattle.cli_words.proofs.meanings.hexadecimal.Given as goal
+use Rattle.cli_line.proofs.Hexadecimals.{IsReadTo}
+use Rattle.cli_line.proofs.meanings.hexadecimal.Given as goal
 
 abbrev pub invariant-loop-byte : goal.invariant-loop-byte
 invariant-loop-byte l = IsReadTo l.digits l.byte-index l.value

@@ -4,8 +4,8 @@ use Rattle.std.specs.Int.Digits.{number_from_digits}
 use Rattle.std.specs.List.{list_all}
 use Rattle.std.specs.Str.{bytes_eq}
 use Rattle.byte_position.specs.Geometry.{is_segment_size}
-use Rattle.cli_words.specs.declared.commands.CrashPick.{CrashPick}
-use Rattle.cli_words.specs.declared.commands.CrashPick.TheVariants.{Old, New, Odd}
+use Rattle.cli_line.specs.declared.commands.CrashPick.{CrashPick}
+use Rattle.cli_line.specs.declared.commands.CrashPick.TheVariants.{Old, New, Odd}
 use Rattle.cli_text.specs.Hexadecimal.{hexadecimal_digit, is_hexadecimal_digit}
 use Rattle.cli_text.specs.Numbers.{number_of}
 use Rattle.waldump_filter.specs.Names.{is_same_name, own_manager_of}

@@ -1,7 +1,7 @@
 ghost use Rattle.std.specs.Prelude.{◌≡◌, ◌||◌, IfSome, is_some, option_map};
-ghost use Rattle.cli_words.specs.Meanings.{block_number_of, cap_segments_of, crash_of, limit_of, line_count_of, lsn_of, manager_of, relation_of, ring_pages_of, segment_size_of, writer_lines_of, xid_of};
-ghost use Rattle.cli_words.specs.declared.commands.CrashPick.TheVariants.{New};
-ghost use Rattle.cli_words.specs.Given.{IsCapInRange, IsInRange, IsShapeInRange, command_of, default_cap_segments, default_segment_size, dump_of, filter_of, gen_of, given_of, gives_dump, gives_dump_or_send, gives_extent, gives_form, gives_run, gives_run_form, gives_run_gen_or_replay, gives_selection, lacks_relation, or_default, receive_of, redo_of, replay_of, run_of, run_options_of, send_of, settled, shape_of, text_of, with_block_rules, with_extent, with_form, with_record_rules};
+ghost use Rattle.cli_line.specs.Meanings.{block_number_of, cap_segments_of, crash_of, limit_of, line_count_of, lsn_of, manager_of, relation_of, ring_pages_of, segment_size_of, writer_lines_of, xid_of};
+ghost use Rattle.cli_line.specs.declared.commands.CrashPick.TheVariants.{New};
+ghost use Rattle.cli_line.specs.Given.{IsCapInRange, IsInRange, IsShapeInRange, command_of, default_cap_segments, default_segment_size, dump_of, filter_of, gen_of, given_of, gives_dump, gives_dump_or_send, gives_extent, gives_form, gives_run, gives_run_form, gives_run_gen_or_replay, gives_selection, lacks_relation, or_default, receive_of, redo_of, replay_of, run_of, run_options_of, send_of, settled, shape_of, text_of, with_block_rules, with_extent, with_form, with_record_rules};
 
 use crate::commands::{
     Command, CrashPick, DumpOptions, GenOptions, ReceiveOptions, RedoOptions, ReplayOptions,

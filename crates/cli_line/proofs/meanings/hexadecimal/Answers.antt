@@ -1,6 +1,6 @@
 use Rattle.std.proofs.Common.{rules, ◌+◌, ◌*◌, ◌<◌, ◌^◌, arith}
-use Rattle.cli_words.proofs.Hexadecimals.{room_for_digit}
-use Rattle.cli_words.proofs.meanings.hexadecimal.Goals as goal
+use Rattle.cli_line.proofs.Hexadecimals.{room_for_digit}
+use Rattle.cli_line.proofs.meanings.hexadecimal.Goals as goal
 
 pub overflow_mul-value : goal.overflow_mul-value
 overflow_mul-value c =

@@ -1,7 +1,7 @@
 use Rattle.std.proofs.Common.{◌+◌, rules, add-one, refl, sym}
 use Rattle.std.proofs.lemmas.List.{take_rest}
-use Rattle.cli_words.proofs.Cuts.{cut_at_slash-first, cut_at_slash-none}
-use Rattle.cli_words.proofs.meanings.cut_at_slash.Goals as goal
+use Rattle.cli_line.proofs.Cuts.{cut_at_slash-first, cut_at_slash-none}
+use Rattle.cli_line.proofs.meanings.cut_at_slash.Goals as goal
 
 pub returns-in-Some : goal.returns-in-Some
 returns-in-Some c =

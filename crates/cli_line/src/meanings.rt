@@ -2,7 +2,7 @@
 
 ghost use Rattle.std.specs.Prelude.{◌≡◌, ◌<◌, ◌≤◌, IfSome, codes, is_some, option_map};
 ghost use Rattle.waldump_filter.specs.Names.{fork_named, is_same_name};
-ghost use Rattle.cli_words.specs.Meanings.{block_number_of, cap_segments_of, crash_of, cut_at_slash, hexadecimal_of, limit_of, line_count_of, lsn_of, manager_of, number_behind_custom, number_within, object_of, relation_of, ring_pages_of, segment_size_of, writer_lines_of, xid_of};
+ghost use Rattle.cli_line.specs.Meanings.{block_number_of, cap_segments_of, crash_of, cut_at_slash, hexadecimal_of, limit_of, line_count_of, lsn_of, manager_of, number_behind_custom, number_within, object_of, relation_of, ring_pages_of, segment_size_of, writer_lines_of, xid_of};
 
 use crate::commands::CrashPick;
 use byte_position::Geometry;

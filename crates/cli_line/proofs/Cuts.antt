@@ -1,6 +1,6 @@
 -- A text cut at its first slash.
 use Rattle.std.proofs.Common.{◌≡◌, ℕ, zero, suc, ◌<◌, true, false, ◌==◌, List, [], ◌∷◌, length, get_or, take, drop, Some, None, refl, arith}
-use Rattle.cli_words.specs.Meanings.{cut_at_slash}
+use Rattle.cli_line.specs.Meanings.{cut_at_slash}
 
 pub cut_at_slash-first : (text : List ℕ) (i : ℕ) → i < length text → ((k : ℕ) → k < i → (get_or text k 0 == 47) ≡ false) → (get_or text i 0 == 47) ≡ true → cut_at_slash text ≡ Some (take i text, drop (suc i) text)
 cut_at_slash-first [] i lt before at = absurd (omega arith)
