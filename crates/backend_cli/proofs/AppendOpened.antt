@@ -63,7 +63,7 @@ use Rattle.backend_cli.specs.Reading.{ScriptMeans}
 use Rattle.backend_cli.specs.Texts.{append_text, found_text, position_behind_found, run_text}
 use Rattle.backend_cli.specs.declared.outcome.Outcome.{Outcome}
 use Rattle.backend_cli.proofs.FoundPlaces.{LiesBehindLeft}
-use Rattle.backend_cli.proofs.HeadlineLaws.{all_answered, all_own_places}
+use Rattle.backend_cli.proofs.HeadlineLaws.{answers_script}
 use Rattle.backend_cli.proofs.RunBackends.{append_told_holds}
 use Rattle.backend_cli.proofs.RunEnds.{took}
 use Rattle.backend_cli.proofs.RunLaws.{assured, assured_behind, counted, goes_on_further, holds_behind, holds_since}
@@ -358,8 +358,7 @@ module _ {D : Type 0} (tape : D → Option Tape) (moment faults : D → ℕ) (di
         (faults (played_out.closed).disk) in
         record {
           sized = valid;
-          answered = all_answered logged 1 script (lists_of played_out.backends) all.told;
-          receipts = all_own_places logged 1 script (lists_of played_out.backends) all.told;
+          receipts = answers_script logged 1 script (lists_of played_out.backends) all.told;
           found = opened.records;
           read = finds_all options.geometry options.cap_segments opened.made opened.records
               opened.place valid (tape disk) opened.read;

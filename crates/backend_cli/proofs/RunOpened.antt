@@ -34,7 +34,7 @@ use Rattle.backend_cli.specs.Run.{HoldsOpened, PlayHolds}
 use Rattle.backend_cli.specs.Setups.{run_setup}
 use Rattle.backend_cli.specs.Texts.{run_text}
 use Rattle.backend_cli.specs.declared.outcome.Outcome.{Outcome}
-use Rattle.backend_cli.proofs.HeadlineLaws.{all_answered, all_own_places, headline_of_run}
+use Rattle.backend_cli.proofs.HeadlineLaws.{answers_script, headline_of_run}
 use Rattle.backend_cli.proofs.RunBackends.{told_holds}
 use Rattle.backend_cli.proofs.RunEnds.{took}
 use Rattle.backend_cli.proofs.RunLaws.{assured, assured_behind, counted, holds_behind, holds_since}
@@ -126,8 +126,7 @@ module _ {D : Type 0} (tape : D → Option Tape) (moment faults : D → ℕ) (se
               empty = opened.empty;
               headline = headline_of_run options.geometry (moment disk) valid script
                   (lists_of out_of.backends) (tape disk) (tape (out_of.closed).disk)
-                  (all_answered logged 1 script (lists_of out_of.backends) all.told)
-                  (all_own_places logged 1 script (lists_of out_of.backends) all.told)
+                  (answers_script logged 1 script (lists_of out_of.backends) all.told)
                   behind.gapless all.in_line_order (λ (nothing : HoldsNothing (tape disk)).
                   behind.crash (suited nothing));
               since = holds_since tape moment faults wal (tape disk) opening opening_is

@@ -1,6 +1,5 @@
 -- What a run promises that goes on with a log that is there.
-use Rattle.std.specs.Prelude.{◌≡◌, ◌⊎◌, ℕ, ◌+◌, ◌≤◌, All, IfSome, IsSome, IsTrue, List, [], ◌∷◌, ◌++◌, length, map, take, Err, Ok, Option, Some}
-use Rattle.std.specs.List.{zip}
+use Rattle.std.specs.Prelude.{◌≡◌, ◌⊎◌, ℕ, ◌+◌, ◌≤◌, IfSome, IsSome, IsTrue, List, [], ◌∷◌, ◌++◌, length, take, Err, Ok, Option, Some}
 use Rattle.std.specs.List.Sorted.{IsPermutation}
 use Rattle.byte_position.specs.Geometry.{is_segment_size}
 use Rattle.byte_position.specs.Position.{end_address_of, first_position}
@@ -34,7 +33,7 @@ use Rattle.cli_line.specs.declared.commands.RunOptions.{RunOptions}
 use Rattle.cli_line.specs.declared.commands.ScriptRunOptions.{ScriptRunOptions}
 use Rattle.backend_cli.specs.declared.outcome.Outcome.{Outcome}
 use Rattle.backend_cli.specs.declared.outcome.Outcome.TheVariants.{OutOfMemory, SourceFault, ScriptRefused, BeyondCap, DiskFault, Stopped}
-use Rattle.backend_cli.specs.Headline.{NamesOwnPlace}
+use Rattle.backend_cli.specs.Headline.{AnswersScript}
 use Rattle.backend_cli.specs.Outside.{IsUntouched, Outside, Took}
 use Rattle.backend_cli.specs.Reading.{ScriptMeans}
 use Rattle.backend_cli.specs.Run.{HoldsBehind, HoldsSince, MeansSome}
@@ -69,10 +68,7 @@ pub record CrashSinceHanded (size handed : ℕ) (order : List Entry) (before aft
 pub record AppendHeadline (size handed : ℕ) (script : List (List AskedLine))
     (told : List (List Told)) (before after : Option Tape) : Type 0 where
   pub sized : IsTrue (is_segment_size size)
-  pub answered : map (λ answers. length answers) told ≡ map (λ lines. length lines) script
-  pub receipts :
-      All (λ backend. All (λ line. NamesOwnPlace size line.0.asked line.1)
-      (zip backend.0 backend.1)) (zip script told)
+  pub receipts : AnswersScript size script told
   -- the records that were found: just those that the reader finds on the disk before the call
   pub found : List FoundRecord
   pub read : IfSome before (λ t. FindsRecords size (log_of t size) size found)

@@ -4,8 +4,7 @@
 -- `size` is the size of a segment in bytes. The log begins with segment 1, at the address `size`.
 -- `script` has each backend's lines, `told` what each line was told. `opening` is the disk's moment
 -- at the call; `before` and `after` are what the disk tells before the call and after it.
-use Rattle.std.specs.Prelude.{◌≡◌, ℕ, ◌≤◌, All, IfSome, IsTrue, List, length, map, Option, Some, None}
-use Rattle.std.specs.List.{zip}
+use Rattle.std.specs.Prelude.{◌≡◌, ℕ, ◌≤◌, IfSome, IsTrue, List, [], ◌∷◌, Option, Some, None}
 use Rattle.std.specs.List.Sorted.{IsPermutation}
 use Rattle.byte_position.specs.Geometry.{is_segment_size}
 use Rattle.byte_position.specs.Position.{position_of}
@@ -39,12 +38,28 @@ NamesOwnPlace size Switch (Stayed end) = Unit {0}
 NamesOwnPlace size asked (Refused cause reserved) = Unit {0}
 NamesOwnPlace size asked others = ⊥
 
+-- each line of a backend has its answer, in the order of its lines, and what is told of a record
+-- names its own place
+abbrev pub AnswersLines : ℕ → List AskedLine → List Told → Type 0
+AnswersLines size [] [] = Unit {0}
+AnswersLines size (line ∷ lines) (answer ∷ answers) =
+    NamesOwnPlace size line.asked answer × AnswersLines size lines answers
+AnswersLines size lines answers = ⊥
+
+-- so it is for each backend
+abbrev pub AnswersScript : ℕ → List (List AskedLine) → List (List Told) → Type 0
+AnswersScript size [] [] = Unit {0}
+AnswersScript size (lines ∷ script) (answers ∷ told) =
+    AnswersLines size lines answers × AnswersScript size script told
+AnswersScript size script told = ⊥
+
 -- a crash at a moment, and the records that the reader finds behind it
 pub record FoundAfterCrash (size opening : ℕ) (order : List Entry) (before after : Option Tape)
     (moment : ℕ) (found : List FoundRecord) : Type 0 where
-  -- the disk tells what it holds, and held no segment before the call
+  -- behind the call the disk tells what it holds
   pub tape : Tape
   pub disk_tells : after ≡ Some tape
+  -- if it told so before the call, it held no segment then
   pub starts_empty :
       IfSome before (λ t. (segment : ℕ) → after_calls t.at_first t.calls segment ≡ None)
   -- a crash at this moment, which is not before the call, may leave this image of the disk
@@ -59,21 +74,16 @@ pub record FoundAfterCrash (size opening : ℕ) (order : List Entry) (before aft
 
 pub record Headline (size opening : ℕ) (script : List (List AskedLine)) (told : List (List Told))
     (before after : Option Tape) : Type 0 where
-  -- segments have a size that they can have; each line of each backend has its answer, and what is
-  -- told of a record names its own place
+  -- segments have a size that they can have, and each line of each backend has its answer
   pub sized : IsTrue (is_segment_size size)
-  pub answered : map (λ answers. length answers) told ≡ map (λ lines. length lines) script
-  pub receipts :
-      All (λ backend. let lines = backend.0 in let answers = backend.1 in
-      All (λ pair. let line = pair.0 in let answer = pair.1 in NamesOwnPlace size line.asked answer)
-      (zip lines answers)) (zip script told)
+  pub receipts : AnswersScript size script told
   -- the records that the run reserved, all of them and no other, in an order in which they
   pub order : List Entry
   pub reserved :
       let first_pass : ℕ = 1 in IsPermutation (entries_from size first_pass script told) order
   -- follow each other without a gap, from the log's start on;
   pub gapless : let log_start = size in FollowsFrom size (position_of size log_start) order
-  -- each backend's stand in script order;
+  -- each backend's start higher from line to line;
   pub in_line_order : let first_pass : ℕ = 1 in RiseInLineOrder size first_pass script told
   -- and a crash at any moment leaves segments that the reader decodes to a prefix of them, each
   -- record whole, holding every commit whose receipt names that moment or an earlier one

@@ -1,31 +1,19 @@
 -- How far a flush behind reaches, by what its backend was told before it. That it reaches the page
 -- that holds the end of the backend's last record is said in specs/Told.antt.
-use Rattle.std.specs.Prelude.{ℕ, ◌≤◌, List, [], ◌∷◌, max}
+use Rattle.std.specs.Prelude.{ℕ, ◌≤◌, List, [], ◌∷◌, max, option_map, unwrap_or}
 use Rattle.run_script.specs.Asked.{Asked, AskedLine, WriteBehind}
 use Rattle.run_laws.specs.declared.told.Told.{Told}
-use Rattle.run_laws.specs.declared.told.Told.TheVariants.{Wrote, Hard, Flushed, Async, Idle, Switched, Stayed, Refused}
+use Rattle.run_laws.specs.declared.told.Told.TheVariants.{Async, Flushed, Idle}
+use Rattle.run_laws.specs.Told.{DurableTold, durable_told}
 
 -- up to where an answer says that all is durable from a moment on; 0 where it does not
 abbrev pub hard_told : Told → ℕ
-hard_told (Wrote start end) = 0
-hard_told (Hard start end moment) = end.0
-hard_told (Flushed upto moment) = upto.0
-hard_told (Async start end) = 0
-hard_told (Idle upto) = 0
-hard_told (Switched start end) = 0
-hard_told (Stayed end) = 0
-hard_told (Refused cause reserved) = 0
+hard_told told = unwrap_or (option_map (λ (d : DurableTold). d.upto.0) (durable_told told)) 0
 
 -- where a commit ends that is answered ahead; 0 where none is
 abbrev pub ahead_told : Told → ℕ
-ahead_told (Wrote start end) = 0
-ahead_told (Hard start end moment) = 0
-ahead_told (Flushed upto moment) = 0
 ahead_told (Async start end) = end.0
-ahead_told (Idle upto) = 0
-ahead_told (Switched start end) = 0
-ahead_told (Stayed end) = 0
-ahead_told (Refused cause reserved) = 0
+ahead_told other = 0
 
 -- a flush behind tells no less than a receipt or a flush told the backend before (`hard`), and one
 -- that finds nothing to do no less than where its commits end that were answered ahead (`ahead`)

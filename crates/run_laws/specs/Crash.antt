@@ -1,6 +1,6 @@
 -- What a crash at any moment leaves of what was told, and how late receipts may be. Everywhere
 -- `size` is the size of a segment in bytes, `opening` the disk's moment at the opening.
-use Rattle.std.specs.Prelude.{◌≡◌, ℕ, ◌+◌, ◌*◌, ◌<◌, ◌≤◌, All, List, [], ◌∷◌, drop, length, take, Option, Some, None, IfSome, slice_get}
+use Rattle.std.specs.Prelude.{◌≡◌, ℕ, ◌+◌, ◌*◌, ◌<◌, ◌≤◌, All, List, [], ◌∷◌, drop, length, take, Option, Some, None, IfSome, IsSomeAnd, option_map, slice_get}
 use Rattle.std.specs.List.{Any}
 use Rattle.segment_disk.specs.declared.disk.Call.{Call}
 use Rattle.segment_disk.specs.declared.disk.CallKind.{CallKind}
@@ -18,8 +18,7 @@ use Rattle.written_log_laws.specs.Torn.{NoTornPass}
 use Rattle.written_log_laws.specs.Written.{found_from, found_of}
 use Rattle.run_script.specs.Asked.{AskedLine}
 use Rattle.run_laws.specs.declared.told.Told.{Told}
-use Rattle.run_laws.specs.declared.told.Told.TheVariants.{Wrote, Hard, Flushed, Async, Idle, Switched, Stayed, Refused}
-use Rattle.run_laws.specs.Told.{entries_of}
+use Rattle.run_laws.specs.Told.{DurableTold, durable_told, entries_of}
 
 -- ---- what was told is there
 
@@ -28,14 +27,8 @@ use Rattle.run_laws.specs.Told.{entries_of}
 -- nothing of it, and neither does a segment switch, nor a flush behind that found nothing to do: it
 -- names no moment
 abbrev pub SaysDurable : ℕ → ℕ → Told → Type 0
-SaysDurable moment address (Wrote start end) = ⊥
-SaysDurable moment address (Hard start end told) = (told ≤ moment) × (address ≤ end.0)
-SaysDurable moment address (Flushed upto told) = (told ≤ moment) × (address ≤ upto.0)
-SaysDurable moment address (Async start end) = ⊥
-SaysDurable moment address (Idle upto) = ⊥
-SaysDurable moment address (Switched start end) = ⊥
-SaysDurable moment address (Stayed end) = ⊥
-SaysDurable moment address (Refused cause reserved) = ⊥
+SaysDurable moment address told = IsSomeAnd (durable_told told)
+    (λ (d : DurableTold). (d.moment ≤ moment) × (address ≤ d.upto.0))
 
 -- records that were found are a front of the order, each whole, and in it is each entry that a
 -- backend was told to be durable by this moment
@@ -74,14 +67,7 @@ KeepsFound size opening order entries tape =
 
 -- the moment that an answer names
 abbrev pub moment_told : Told → Option ℕ
-moment_told (Wrote start end) = None
-moment_told (Hard start end moment) = Some moment
-moment_told (Flushed upto moment) = Some moment
-moment_told (Async start end) = None
-moment_told (Idle upto) = None
-moment_told (Switched start end) = None
-moment_told (Stayed end) = None
-moment_told (Refused cause reserved) = None
+moment_told told = option_map (λ (d : DurableTold). d.moment) (durable_told told)
 
 -- a call of this kind to a segment writes no word of an entry: a page that it writes holds 0
 -- wherever the entry owns the word

@@ -61,17 +61,10 @@ end_of_own size es = end_address_of size (behind_last_own size (first_position s
 -- full, it knows no fault; a fault of its own is one that it set as the down value; any other, one
 -- that it met there, and it set none
 abbrev pub TellsCause : Told → PassState → PassState → Type 0
-TellsCause (Wrote start end) before after = (after.met ≡ 0) × (after.set ≡ 0)
-TellsCause (Hard start end moment) before after = (after.met ≡ 0) × (after.set ≡ 0)
-TellsCause (Flushed upto moment) before after = (after.met ≡ 0) × (after.set ≡ 0)
-TellsCause (Async start end) before after = (after.met ≡ 0) × (after.set ≡ 0)
-TellsCause (Idle upto) before after = (after.met ≡ 0) × (after.set ≡ 0)
-TellsCause (Switched start end) before after = (after.met ≡ 0) × (after.set ≡ 0)
-TellsCause (Stayed end) before after = (after.met ≡ 0) × (after.set ≡ 0)
-TellsCause (Refused (Full free) reserved) before after = (after.met ≡ 0) × (after.set ≡ 0)
 TellsCause (Refused (Disk faults) reserved) before after = after.set ≡ faults
 TellsCause (Refused (Down faults) reserved) before after =
     (after.met ≡ faults) × (after.set ≡ before.set)
+TellsCause other before after = (after.met ≡ 0) × (after.set ≡ 0)
 
 module _ (size limit pass : ℕ) where
   -- the record was reserved for the pass, and starts at this address
@@ -186,63 +179,30 @@ module _ (size limit pass : ℕ) where
   abbrev pub Leaves : Asked → Told → PassState → PassState → Type 0
   Leaves (Insert value) (Wrote start end) before after =
       ReservesUpto value start.0 end.0 before.log after.log
-  Leaves (Insert value) (Hard start end moment) before after = ⊥
-  Leaves (Insert value) (Flushed upto moment) before after = ⊥
-  Leaves (Insert value) (Async start end) before after = ⊥
-  Leaves (Insert value) (Idle upto) before after = ⊥
-  Leaves (Insert value) (Switched start end) before after = ⊥
-  Leaves (Insert value) (Stayed end) before after = ⊥
   Leaves (Insert value) (Refused cause reserved) before after =
       RefusesRecordLine value cause reserved before after
-  Leaves (Commit value) (Wrote start end) before after = ⊥
   Leaves (Commit value) (Hard start end moment) before after =
       Seals value start.0 end.0 moment before.log after.log
-  Leaves (Commit value) (Flushed upto moment) before after = ⊥
-  Leaves (Commit value) (Async start end) before after = ⊥
-  Leaves (Commit value) (Idle upto) before after = ⊥
-  Leaves (Commit value) (Switched start end) before after = ⊥
-  Leaves (Commit value) (Stayed end) before after = ⊥
   Leaves (Commit value) (Refused cause reserved) before after =
       RefusesRecordLine value cause reserved before after
-  Leaves Flush (Wrote start end) before after = ⊥
-  Leaves Flush (Hard start end moment) before after = ⊥
   Leaves Flush (Flushed upto moment) before after =
       AddsPromise (end_of_own size (before.log).entries) upto.0 moment before.log after.log
-  Leaves Flush (Async start end) before after = ⊥
-  Leaves Flush (Idle upto) before after = ⊥
-  Leaves Flush (Switched start end) before after = ⊥
-  Leaves Flush (Stayed end) before after = ⊥
   Leaves Flush (Refused cause reserved) before after = RefusesFlushLine cause reserved before after
-  Leaves (CommitAsync value) (Wrote start end) before after = ⊥
-  Leaves (CommitAsync value) (Hard start end moment) before after = ⊥
-  Leaves (CommitAsync value) (Flushed upto moment) before after = ⊥
   Leaves (CommitAsync value) (Async start end) before after =
       ReservesAhead value start.0 end.0 before after
-  Leaves (CommitAsync value) (Idle upto) before after = ⊥
-  Leaves (CommitAsync value) (Switched start end) before after = ⊥
-  Leaves (CommitAsync value) (Stayed end) before after = ⊥
   Leaves (CommitAsync value) (Refused cause reserved) before after =
       RefusesRecordLine value cause reserved before after
-  Leaves WriteBehind (Wrote start end) before after = ⊥
-  Leaves WriteBehind (Hard start end moment) before after = ⊥
   Leaves WriteBehind (Flushed upto moment) before after =
       AddsBehind upto.0 moment before.log after.log
-  Leaves WriteBehind (Async start end) before after = ⊥
   Leaves WriteBehind (Idle upto) before after = FindsIdle upto.0 before after
-  Leaves WriteBehind (Switched start end) before after = ⊥
-  Leaves WriteBehind (Stayed end) before after = ⊥
   Leaves WriteBehind (Refused cause reserved) before after =
       RefusesFlushLine cause reserved before after
-  Leaves Switch (Wrote start end) before after = ⊥
-  Leaves Switch (Hard start end moment) before after = ⊥
-  Leaves Switch (Flushed upto moment) before after = ⊥
-  Leaves Switch (Async start end) before after = ⊥
-  Leaves Switch (Idle upto) before after = ⊥
   Leaves Switch (Switched start end) before after =
       ReservesUpto switch_record start.0 end.0 before.log after.log
   Leaves Switch (Stayed end) before after = AddsStay end.0 before.log after.log
   Leaves Switch (Refused cause reserved) before after =
       RefusesSwitchLine cause reserved before after
+  Leaves asked other before after = ⊥
 
   -- an insert, or a commit that is flushed, meets no async address: it raises none
   abbrev pub KeepsAsync : Asked → PassState → PassState → Type 0

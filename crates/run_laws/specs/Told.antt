@@ -1,5 +1,5 @@
 -- What lines are told, and the order that it makes.
-use Rattle.std.specs.Prelude.{◌≡◌, ℕ, ◌+◌, ◌*◌, ◌/◌, ◌%◌, ◌<◌, ◌≤◌, ◌⊎◌, All, List, [], ◌∷◌, ◌++◌, length, take, Option, Some, None, option_to_list, nat_le, if◌then◌else◌}
+use Rattle.std.specs.Prelude.{◌≡◌, ℕ, ◌+◌, ◌*◌, ◌/◌, ◌%◌, ◌<◌, ◌≤◌, ◌⊎◌, All, List, [], ◌∷◌, ◌++◌, length, take, Option, Some, None, option_map, option_to_list, nat_le, if◌then◌else◌}
 use Rattle.segment_disk.specs.Cause.{Rose}
 use Rattle.wal_types.specs.declared.lsn.Lsn.{Lsn}
 use Rattle.wal_types.specs.declared.record.Record.{Record}
@@ -14,16 +14,32 @@ use Rattle.run_laws.specs.declared.told.Told.TheVariants.{Wrote, Hard, Flushed, 
 use Rattle.wal_types.specs.declared.answers.Cause.{Cause}
 use Rattle.wal_types.specs.declared.answers.Cause.TheVariants.{Full, Disk, Down}
 
+-- where the record stands that an answer says was written
+pub record PlaceTold : Type 0 where
+  pub start : Lsn
+  pub end : Lsn
+
+abbrev pub place_told : Told → Option PlaceTold
+place_told (Wrote start end) = Some (record { start = start; end = end })
+place_told (Hard start end moment) = Some (record { start = start; end = end })
+place_told (Async start end) = Some (record { start = start; end = end })
+place_told (Switched start end) = Some (record { start = start; end = end })
+place_told other = None
+
+-- what an answer says is durable: all below an address, from a moment of the disk on
+pub record DurableTold : Type 0 where
+  pub upto : Lsn
+  pub moment : ℕ
+
+abbrev pub durable_told : Told → Option DurableTold
+durable_told (Hard start end moment) = Some (record { upto = end; moment = moment })
+durable_told (Flushed upto moment) = Some (record { upto = upto; moment = moment })
+durable_told other = None
+
 -- the start that was reserved for a line's record
 abbrev pub reserved_by : Told → Option Lsn
-reserved_by (Wrote start end) = Some start
-reserved_by (Hard start end moment) = Some start
-reserved_by (Flushed upto moment) = None
-reserved_by (Async start end) = Some start
-reserved_by (Idle upto) = None
-reserved_by (Switched start end) = Some start
-reserved_by (Stayed end) = None
 reserved_by (Refused cause reserved) = reserved
+reserved_by told = option_map (λ (place : PlaceTold). place.start) (place_told told)
 
 -- the entry that a line made, where it reserved one; `size` is that of a segment
 abbrev pub entry_at : ℕ → ℕ → Record → Option Lsn → Option Entry
@@ -160,63 +176,30 @@ pub record ReachesPage (logged : Logged) (behind upto : ℕ) : Type 0 where
 abbrev pub FitsLine : Logged → (pass behind : ℕ) → Asked → Told → Type 0
 FitsLine logged pass behind (Insert value) (Wrote start end) =
     IsPlaced logged.size value start.0 end.0
-FitsLine logged pass behind (Insert value) (Hard start end moment) = ⊥
-FitsLine logged pass behind (Insert value) (Flushed upto moment) = ⊥
-FitsLine logged pass behind (Insert value) (Async start end) = ⊥
-FitsLine logged pass behind (Insert value) (Idle upto) = ⊥
-FitsLine logged pass behind (Insert value) (Switched start end) = ⊥
-FitsLine logged pass behind (Insert value) (Stayed end) = ⊥
 FitsLine logged pass behind (Insert value) (Refused cause reserved) =
     MayRefuseRecord logged pass behind value cause reserved
-FitsLine logged pass behind (Commit value) (Wrote start end) = ⊥
 FitsLine logged pass behind (Commit value) (Hard start end moment) =
     IsPlaced logged.size value start.0 end.0
-FitsLine logged pass behind (Commit value) (Flushed upto moment) = ⊥
-FitsLine logged pass behind (Commit value) (Async start end) = ⊥
-FitsLine logged pass behind (Commit value) (Idle upto) = ⊥
-FitsLine logged pass behind (Commit value) (Switched start end) = ⊥
-FitsLine logged pass behind (Commit value) (Stayed end) = ⊥
 FitsLine logged pass behind (Commit value) (Refused cause reserved) =
     MayRefuseRecord logged pass behind value cause reserved
-FitsLine logged pass behind Flush (Wrote start end) = ⊥
-FitsLine logged pass behind Flush (Hard start end moment) = ⊥
 FitsLine logged pass behind Flush (Flushed upto moment) =
     (end_address_of logged.size behind ≤ upto.0)
     × (upto.0 ≤ end_address_of logged.size (front_end logged (length logged.order)))
-FitsLine logged pass behind Flush (Async start end) = ⊥
-FitsLine logged pass behind Flush (Idle upto) = ⊥
-FitsLine logged pass behind Flush (Switched start end) = ⊥
-FitsLine logged pass behind Flush (Stayed end) = ⊥
 FitsLine logged pass behind Flush (Refused cause reserved) = MayRefuseFlush logged cause reserved
-FitsLine logged pass behind (CommitAsync value) (Wrote start end) = ⊥
-FitsLine logged pass behind (CommitAsync value) (Hard start end moment) = ⊥
-FitsLine logged pass behind (CommitAsync value) (Flushed upto moment) = ⊥
 FitsLine logged pass behind (CommitAsync value) (Async start end) =
     IsPlaced logged.size value start.0 end.0
-FitsLine logged pass behind (CommitAsync value) (Idle upto) = ⊥
-FitsLine logged pass behind (CommitAsync value) (Switched start end) = ⊥
-FitsLine logged pass behind (CommitAsync value) (Stayed end) = ⊥
 FitsLine logged pass behind (CommitAsync value) (Refused cause reserved) =
     MayRefuseRecord logged pass behind value cause reserved
-FitsLine logged pass behind WriteBehind (Wrote start end) = ⊥
-FitsLine logged pass behind WriteBehind (Hard start end moment) = ⊥
 FitsLine logged pass behind WriteBehind (Flushed upto moment) = ReachesPage logged behind upto.0
-FitsLine logged pass behind WriteBehind (Async start end) = ⊥
 FitsLine logged pass behind WriteBehind (Idle upto) = ReachesPage logged behind upto.0
-FitsLine logged pass behind WriteBehind (Switched start end) = ⊥
-FitsLine logged pass behind WriteBehind (Stayed end) = ⊥
 FitsLine logged pass behind WriteBehind (Refused cause reserved) =
     MayRefuseFlush logged cause reserved
-FitsLine logged pass behind Switch (Wrote start end) = ⊥
-FitsLine logged pass behind Switch (Hard start end moment) = ⊥
-FitsLine logged pass behind Switch (Flushed upto moment) = ⊥
-FitsLine logged pass behind Switch (Async start end) = ⊥
-FitsLine logged pass behind Switch (Idle upto) = ⊥
 FitsLine logged pass behind Switch (Switched start end) =
     IsPlaced logged.size switch_record start.0 end.0
 FitsLine logged pass behind Switch (Stayed end) = MayStay logged pass behind end.0
 FitsLine logged pass behind Switch (Refused cause reserved) =
     MayRefuseRecord logged pass behind switch_record cause reserved × LeavesFew cause
+FitsLine logged pass behind asked other = ⊥
 
 -- the byte position at which a backend's entries end after one more line
 abbrev pub behind_or : ℕ → ℕ → Option Entry → ℕ
@@ -252,38 +235,16 @@ RiseInLineOrder size pass (lines ∷ script) (told ∷ others) =
 -- whether an answer says that the log is full, that the disk had failed before, that the line was
 -- refused
 abbrev pub IsFullAnswer : Told → Type 0
-IsFullAnswer (Wrote start end) = ⊥
-IsFullAnswer (Hard start end moment) = ⊥
-IsFullAnswer (Flushed upto moment) = ⊥
-IsFullAnswer (Async start end) = ⊥
-IsFullAnswer (Idle upto) = ⊥
-IsFullAnswer (Switched start end) = ⊥
-IsFullAnswer (Stayed end) = ⊥
 IsFullAnswer (Refused (Full free) reserved) = Unit {0}
-IsFullAnswer (Refused (Disk faults) reserved) = ⊥
-IsFullAnswer (Refused (Down faults) reserved) = ⊥
+IsFullAnswer other = ⊥
 
 abbrev pub IsDownAnswer : Told → Type 0
-IsDownAnswer (Wrote start end) = ⊥
-IsDownAnswer (Hard start end moment) = ⊥
-IsDownAnswer (Flushed upto moment) = ⊥
-IsDownAnswer (Async start end) = ⊥
-IsDownAnswer (Idle upto) = ⊥
-IsDownAnswer (Switched start end) = ⊥
-IsDownAnswer (Stayed end) = ⊥
-IsDownAnswer (Refused (Full free) reserved) = ⊥
-IsDownAnswer (Refused (Disk faults) reserved) = ⊥
 IsDownAnswer (Refused (Down faults) reserved) = Unit {0}
+IsDownAnswer other = ⊥
 
 abbrev pub IsRefused : Told → Type 0
-IsRefused (Wrote start end) = ⊥
-IsRefused (Hard start end moment) = ⊥
-IsRefused (Flushed upto moment) = ⊥
-IsRefused (Async start end) = ⊥
-IsRefused (Idle upto) = ⊥
-IsRefused (Switched start end) = ⊥
-IsRefused (Stayed end) = ⊥
 IsRefused (Refused cause reserved) = Unit {0}
+IsRefused other = ⊥
 
 -- the fact holds of some answer of some backend
 abbrev pub SomeAnswer : (Told → Type 0) → List Told → Type 0
@@ -302,16 +263,9 @@ AllDown faults (told ∷ others) = (told ≡ Refused (Down faults) None) × AllD
 -- behind an answer that tells a fault of the disk, each answer tells that fault
 abbrev pub StaysDown : List Told → Type 0
 StaysDown [] = Unit {0}
-StaysDown (Wrote start end ∷ others) = StaysDown others
-StaysDown (Hard start end moment ∷ others) = StaysDown others
-StaysDown (Flushed upto moment ∷ others) = StaysDown others
-StaysDown (Async start end ∷ others) = StaysDown others
-StaysDown (Idle upto ∷ others) = StaysDown others
-StaysDown (Switched start end ∷ others) = StaysDown others
-StaysDown (Stayed end ∷ others) = StaysDown others
-StaysDown (Refused (Full free) reserved ∷ others) = StaysDown others
 StaysDown (Refused (Disk faults) reserved ∷ others) = AllDown faults others
 StaysDown (Refused (Down faults) reserved ∷ others) = AllDown faults others
+StaysDown (told ∷ others) = StaysDown others
 
 -- it does so for each backend
 abbrev pub EachStaysDown : List (List Told) → Type 0
