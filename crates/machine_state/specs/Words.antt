@@ -6,49 +6,42 @@
 -- has the turn to map; the written and the flushed address, the moment and down who has the writer
 -- in hand; the last one anybody, who only raises it; else a word of the ring the copy whose word it
 -- is.
---
--- A line of memory holds eight words, and a processor that stores into one takes the whole line
--- from all others, and may fetch the line beside it too. So each word that backends store into on
--- their own begins a pair of lines: words whose numbers differ by sixteen are on different pairs
--- wherever the first one lies. What is stored
--- together shares one: the last start with the position under whose lock it is stored, the moment
--- with the flushed address. No step loads or stores the words between, which stay 0.
 use Rattle.std.specs.Prelude.{ℕ, ◌+◌, ◌*◌, List, slice_index}
 use Rattle.byte_position.specs.Position.{end_address_of, first_position, usable_bytes_in_segment}
 use Rattle.wal_page.specs.Order.{Entry, FollowsFrom, prev_of}
 use Rattle.wal_page.specs.LogPlace.{LogPlace, end_from}
 use Rattle.machine_state.specs.declared.setup.Setup.{Setup}
 
--- an insertion lock's number, of eight: 16, 32, up to 128
+-- an insertion lock's number, of eight: 2 up to 9
 abbrev pub lock_number : ℕ → ℕ
-lock_number lock = 16 + 16 * lock
+lock_number lock = 2 + lock
 
 -- the numbers of the words that are one each, in their order; the position's is 0, the last start's
 -- 1
 abbrev pub mapping_turn_number : ℕ
-mapping_turn_number = 144
+mapping_turn_number = 10
 
 abbrev pub write_turn_number : ℕ
-write_turn_number = 160
+write_turn_number = 11
 
 abbrev pub initialised_number : ℕ
-initialised_number = 176
+initialised_number = 12
 
 abbrev pub written_number : ℕ
-written_number = 192
+written_number = 13
 
 abbrev pub flushed_number : ℕ
-flushed_number = 208
+flushed_number = 14
 
 abbrev pub moment_number : ℕ
-moment_number = 209
+moment_number = 15
 
 abbrev pub down_number : ℕ
-down_number = 224
+down_number = 16
 
 -- the number of the first buffer's end; all words before it are those above
 abbrev pub ends_number : ℕ
-ends_number = 240
+ends_number = 17
 
 -- the byte position up to which records are reserved; it is even, and one more while it is locked
 abbrev pub position_word : List ℕ → ℕ

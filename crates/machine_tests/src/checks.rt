@@ -15,12 +15,12 @@ const FIRST_ADDRESS: u64 = 1 << 20;
 
 const BEGINNING: u64 = 1_045_488;
 
-// The locks' words stand sixteen apart.
-const LOCK_0: usize = 16;
+// The first lock's word stands behind the last start.
+const LOCK_0: usize = 2;
 
-const LOCK_3: usize = 64;
+const LOCK_3: usize = 5;
 
-const LOCK_4: usize = 80;
+const LOCK_4: usize = 6;
 
 // The first word of the ring, behind its four pages' ends.
 const RING: usize = BUFFER_ENDS + 4;

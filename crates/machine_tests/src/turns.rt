@@ -52,9 +52,9 @@ const POSITION: usize = 0;
 
 const LAST_START: usize = 1;
 
-const LOCK_1: usize = 32;
+const LOCK_1: usize = 3;
 
-const FLUSHED: usize = 208;
+const FLUSHED: usize = 14;
 
 const FLUSH: Planned = Planned {
     ask: Ask::Flush,

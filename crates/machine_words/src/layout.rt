@@ -1,9 +1,6 @@
-//! Where the words that all backends share stand: their numbers, in a machine's list as in the
-//! table of the log that threads share. Behind the buffers' ends stand the words of the ring, 1,024
-//! for each buffer, and behind these the last word. Before them each word that backends store into
-//! on their own begins a pair of lines of memory, sixteen words: a processor that stores into a
-//! line takes it from all others, and may fetch the line beside it too. The words between are 0,
-//! and nobody touches them.
+//! The numbers of the words that all backends share, in a machine's list as in the table of the log
+//! that threads share, which keeps for itself where each lies in memory. Behind the buffers' ends
+//! come the words of the ring, 1,024 for each buffer, and behind these the last word.
 
 ghost use Rattle.std.specs.Prelude.{◌≡◌, ◌+◌, ◌*◌, ◌≤◌};
 ghost use Rattle.machine_state.specs.Words.{ends_number, lock_number};
@@ -17,44 +14,41 @@ pub const POSITION: usize = 0;
 pub const LAST_START: usize = 1;
 
 /// The first of the insertion locks.
-const FIRST_LOCK: usize = 16;
-
-/// How far apart they are: as many words as two lines of memory have.
-const LOCK_STRIDE: usize = 16;
+const FIRST_LOCK: usize = 2;
 
 /// How many insertion locks there are (NUM_XLOGINSERT_LOCKS).
 pub const LOCKS: u32 = 8;
 
 /// Who has the turn to map a page.
-pub const MAPPING_TURN: usize = 144;
+pub const MAPPING_TURN: usize = 10;
 
 /// Who has the turn to write.
-pub const WRITE_TURN: usize = 160;
+pub const WRITE_TURN: usize = 11;
 
 /// The address below which each page has been mapped.
-pub const INITIALISED_END: usize = 176;
+pub const INITIALISED_END: usize = 12;
 
 /// The address below which the log is written.
-pub const WRITTEN: usize = 192;
+pub const WRITTEN: usize = 13;
 
 /// The address below which the log is durable.
-pub const FLUSHED: usize = 208;
+pub const FLUSHED: usize = 14;
 
-/// The disk's moment when the last flush had ended: stored together with the flushed address.
-pub const MOMENT: usize = 209;
+/// The disk's moment when the last flush had ended: stored just before the flushed address.
+pub const MOMENT: usize = 15;
 
 /// The disk's count of faults, where it has failed.
-pub const DOWN: usize = 224;
+pub const DOWN: usize = 16;
 
 /// The first buffer's end word.
-pub const BUFFER_ENDS: usize = 240;
+pub const BUFFER_ENDS: usize = 17;
 
 /// An insertion lock's number.
 #[inline]
 pub fn number_of_lock(lock: u32) -> usize
     ensures { result ≡ lock_number lock }
 {
-    FIRST_LOCK + lock as usize * LOCK_STRIDE
+    FIRST_LOCK + lock as usize
 }
 
 /// The last word, behind a ring of so many pages: the address up to which commits are answered that

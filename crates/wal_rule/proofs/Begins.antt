@@ -13,8 +13,10 @@ use Rattle.wal_rule.specs.Beginning.{HoldsRule, IsBeginning, IsUnbegunWriter, Is
 use Rattle.wal_rule.specs.Ruled.{IsRuled, home_of}
 use Rattle.wal_rule.specs.Slotted.{first_on, slot_disk, slot_plain, slot_segment_size}
 use Rattle.wal_rule.specs.Stepping.{Stands}
+use Rattle.wal_rule.specs.WordPlaces.{place_of_word}
 use Rattle.wal_rule.proofs.Opens.{is_of_log, opens}
 use Rattle.wal_rule.proofs.SlotTapes.{same_tape}
+use Rattle.wal_rule.proofs.Live.{WholeTable, placed_step}
 
 module _ {A : Type 0} where
   only_one : (x y : A) (i : ℕ) → get_elem? (x ∷ []) i ≡ some y → (i ≡ 0) × (x ≡ y)
@@ -49,8 +51,12 @@ same_told opening x y n m is = (
 
 module _ {D : Type 0} (tape : D → Rattle.std.specs.Prelude.Option Tape) (moment faults : D → ℕ)
     (opening : Opening) (began : Rattle.std.specs.Prelude.Option Tape) where
-  abbrev Whole : State (LogWriter D) View → Type 0
+  abbrev pub Whole : State (LogWriter D) View → Type 0
   Whole s = HoldsRule tape moment faults opening began s.words s.homes s.views
+
+  -- the same, as the table has it
+  abbrev Table : State (LogWriter D) View → Type 0
+  Table = WholeTable tape moment faults opening began
 
   abbrev Begun : State (LogWriter D) View → Type 0
   Begun s = IsBeginning tape moment faults opening began s.words s.homes s.views
@@ -121,12 +127,14 @@ module _ {D : Type 0} (tape : D → Rattle.std.specs.Prelude.Option Tape) (momen
     module _ (me : Me (LogWriter D) View) (writer : Plain) (count : ℕ)
         (is : me ≡ (waiting_view opening writer count, []))
         (told : Rattle.std.specs.Prelude.Option Tape) (told_is : told ≡ began) where
-      pub takes_out : Allows Whole slots id me write_turn_number (λ n. n) (λ r n. TakesOut told me n)
-      takes_out = subst
-          (λ (t : Rattle.std.specs.Prelude.Option Tape). Allows Whole slots id me write_turn_number (λ n. n)
-          (λ r n. TakesOut t me n)) (sym told_is)
+      pub takes_out : Allows Table slots id me (place_of_word write_turn_number) (λ n. n)
+          (λ r n. TakesOut told me n)
+      takes_out = placed_step tape moment faults opening began slots id me write_turn_number
+          (λ n. n) (λ r n. TakesOut told me n) (place_of_word write_turn_number) refl (subst
+          (λ (t : Rattle.std.specs.Prelude.Option Tape). Allows Whole slots id me
+          write_turn_number (λ n. n) (λ r n. TakesOut t me n)) (sym told_is)
           (subst (λ (m : Me (LogWriter D) View). Allows Whole slots id m write_turn_number (λ n. n)
-          (λ r n. TakesOut began m n)) (sym is) (goes_out writer count))
+          (λ r n. TakesOut began m n)) (sym is) (goes_out writer count)))
 
       -- the writer that it took out
       pub taken_out : (new : Me (LogWriter D) View) → TakesOut told me new
@@ -201,12 +209,15 @@ module _ {D : Type 0} (tape : D → Rattle.std.specs.Prelude.Option Tape) (momen
       pub begins : (me : Me (LogWriter D) View) → me ≡ in_hand
           → IsUncalledWriter tape moment opening began w → IsOpenable opening
           → faults (slot_disk w) ≡ opening.faults
-          → Allows Whole slots id me write_turn_number (λ n. n)
+          → Allows Table slots id me (place_of_word write_turn_number) (λ n. n)
           (λ r n. (n ≡ (first_view (me.0).opening, [])) × Stands n.0)
-      begins me is uncalled new up = subst (λ (m : Me (LogWriter D) View).
+      begins me is uncalled new up = placed_step tape moment faults opening began slots id me
+          write_turn_number (λ n. n)
+          (λ r n. (n ≡ (first_view (me.0).opening, [])) × Stands n.0)
+          (place_of_word write_turn_number) refl (subst (λ (m : Me (LogWriter D) View).
           Allows Whole slots id m write_turn_number (λ n. n)
           (λ r n. (n ≡ (first_view (m.0).opening, [])) × Stands n.0)) (sym is)
-          (begins_with uncalled new up)
+          (begins_with uncalled new up))
 
       -- what a step tells that gives the writer back
       abbrev Waits : Me (LogWriter D) View → Me (LogWriter D) View → Type 0
@@ -236,9 +247,12 @@ module _ {D : Type 0} (tape : D → Rattle.std.specs.Prelude.Option Tape) (momen
 
       pub waits_again : (me : Me (LogWriter D) View) → me ≡ in_hand
           → IsUnbegunWriter tape opening began w
-          → Allows Whole slots id me write_turn_number (λ n. n) (λ r n. Waits me n)
-      waits_again me is ours = subst (λ (m : Me (LogWriter D) View).
-          Allows Whole slots id m write_turn_number (λ n. n) (λ r n. Waits m n)) (sym is) (comes_back ours)
+          → Allows Table slots id me (place_of_word write_turn_number) (λ n. n)
+          (λ r n. Waits me n)
+      waits_again me is ours = placed_step tape moment faults opening began slots id me
+          write_turn_number (λ n. n) (λ r n. Waits me n) (place_of_word write_turn_number) refl
+          (subst (λ (m : Me (LogWriter D) View). Allows Whole slots id m write_turn_number
+          (λ n. n) (λ r n. Waits m n)) (sym is) (comes_back ours))
 
   -- a seat has the writer in hand
   pub has_out : (me : Me (LogWriter D) View) (w : LogWriter D)

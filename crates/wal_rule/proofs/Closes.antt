@@ -1,5 +1,5 @@
 -- A table's last state gives its writer and its position back.
-use Rattle.std.proofs.Common.{◌≡◌, ℕ, true, List, [], ◌∷◌, sym, ap, ◌∙◌, subst}
+use Rattle.std.proofs.Common.{◌≡◌, ℕ, true, List, [], ◌∷◌, slice_index, sym, ap, ◌∙◌, subst}
 use mathlib.Core.Option.{Option, some, some-injective, some-ne-none}
 use lib.ListN.{get_elem?}
 use Rattle.atomic_table.specs.Table.{State, Final, Seen}
@@ -15,11 +15,14 @@ use Rattle.wal_rule.specs.Closing.{ClosesWith}
 use Rattle.wal_rule.specs.Ruled.{IsRuled, home_of}
 use Rattle.machine_state.specs.Steps.{IsResting}
 use Rattle.wal_rule.specs.Slotted.{IsOfLog, first_on, slot_plain}
+use Rattle.wal_rule.specs.WordPlaces.{words_of}
+use Rattle.wal_rule.proofs.WordPlaceLaws.{word_there}
 use Rattle.wal_rule.proofs.Allowed.{is_home}
 
-first_word : (words : List ℕ) (n : ℕ) → get_elem? words 0 ≡ some n → n ≡ position_word words
+-- the position's word lies first
+first_word : (memory : List ℕ) (n : ℕ) → get_elem? memory 0 ≡ some n → n ≡ slice_index memory 0
 first_word [] n at = absurd (some-ne-none n (sym at))
-first_word (m ∷ words) n at = some-injective n m (sym at)
+first_word (m ∷ memory) n at = some-injective n m (sym at)
 
 module _ {D : Type 0} (tape : D → Rattle.std.specs.Prelude.Option Tape) (moment faults : D → ℕ)
     (opening : Opening) (began : Rattle.std.specs.Prelude.Option Tape) where
@@ -42,11 +45,11 @@ module _ {D : Type 0} (tape : D → Rattle.std.specs.Prelude.Option Tape) (momen
     Ends words views home writer = (k : IsSound first opening words home views)
         × IsClosed first opening k.order words home writer views id mine
 
-    pub closes : (words : List ℕ) (slots : List (LogWriter D)) (w : LogWriter D)
-        (position : ℕ) → Final (Seen Held id v) words slots → get_elem? slots 0 ≡ some w
-        → get_elem? words 0 ≡ some position
+    pub closes : (memory : List ℕ) (slots : List (LogWriter D)) (w : LogWriter D)
+        (position : ℕ) → Final (Seen Held id v) (words_of memory) slots
+        → get_elem? slots 0 ≡ some w → get_elem? memory 0 ≡ some position
         → ClosesWith tape moment faults began opening v w position
-    closes words slots w position end taken found =
+    closes memory slots w position end taken found =
         let s = end.0 in
         let k : Held s = (end.1).0 in
         let views : List View = s.views in
@@ -71,7 +74,7 @@ module _ {D : Type 0} (tape : D → Rattle.std.specs.Prelude.Option Tape) (momen
           of_log = subst (λ (x : LogWriter D). IsOfLog tape faults began opening x) same
               (k.of_log h.0 h.1);
           words = s.words;
-          position_is = first_word words position found
+          position_is = first_word memory position found ∙ sym (word_there memory 0)
               ∙ ap (λ (ws : List ℕ). position_word ws) (sym end.2);
           views = views;
           id = id;

@@ -1,3 +1,5 @@
+pub mod WordPlaceLaws
+pub mod InMemory
 pub mod SlotTapes
 pub mod QuietSteps
 pub mod Steady
@@ -11,6 +13,7 @@ pub mod CallsEnd
 pub mod Places
 pub mod PassNumbers
 pub mod DeviceSteps
+pub mod TableSteps
 pub mod Taken
 pub mod Addresses
 pub mod Closes

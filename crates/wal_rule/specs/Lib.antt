@@ -1,3 +1,4 @@
+pub mod WordPlaces
 pub mod Slotted
 pub mod Founded
 pub mod Stepping

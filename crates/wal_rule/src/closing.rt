@@ -10,10 +10,10 @@ ghost use Rattle.wal_rule.specs.Passes.{view_of_pass};
 ghost use Rattle.machine_state.specs.Steps.{IsResting};
 ghost use Rattle.wal_rule.specs.Tables.{IsPassOn, IsSeatOn, began_of_table, opening_of_table};
 
+use crate::memory::POSITION;
 use crate::pass::Pass;
 use crate::table::{LogSeat, LogTable};
 use crate::writer::LogWriter;
-use machine_words::layout::POSITION;
 use segment_disk::Disk;
 
 impl<D: Disk> LogTable<D> {

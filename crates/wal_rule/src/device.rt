@@ -14,11 +14,11 @@ ghost use Rattle.wal_rule.specs.Ruled.{HasInHand};
 ghost use Rattle.machine_state.specs.Views.{Lent};
 ghost use Rattle.wal_rule.specs.SeatedPasses.{Steps, began_of, opening_of, view_of};
 
+use crate::memory::WRITE_TURN;
 use crate::plays::{CatchesUp, OfCall};
 use crate::seated::SeatedPass;
 use byte_position::Page;
 use flush_core::DiskFault;
-use machine_words::layout::WRITE_TURN;
 use segment_disk::Disk;
 use std::marker::Brand;
 

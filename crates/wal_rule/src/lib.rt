@@ -18,6 +18,7 @@ mod giving_up;
 mod joining;
 mod locks;
 mod mapping;
+mod memory;
 pub mod numbers;
 mod opening;
 mod pass;
@@ -33,6 +34,7 @@ mod seats;
 mod table;
 mod turns;
 mod unbegun;
+pub mod words;
 mod writer;
 
 pub use company::Company;

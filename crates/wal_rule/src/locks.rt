@@ -13,9 +13,9 @@ ghost use Rattle.machine_state.specs.Steps.{advance, load_lock, release, take_lo
 ghost use Rattle.wal_rule.specs.Stepping.{Meets};
 ghost use Rattle.wal_rule.specs.SeatedPasses.{Steps, view_of};
 
+use crate::memory::place_of_lock;
 use crate::quiet::Operands;
 use crate::seated::SeatedPass;
-use machine_words::layout::number_of_lock;
 use segment_disk::Disk;
 use std::marker::Brand;
 
@@ -31,7 +31,7 @@ impl<'a, D: Disk> SeatedPass<'a, D> {
         ensures steps { Steps (load_lock lock limit) result self.old self.new }
         ensures met { Meets (view_of self.old) (load_lock lock limit) result }
     {
-        self.loads::<Brand>(number_of_lock(lock), lock_and(lock, limit))
+        self.loads::<Brand>(place_of_lock(lock), lock_and(lock, limit))
     }
 
     /// Takes a lock where it is free, which is where the word found is 0. The lock tells nothing
@@ -41,7 +41,7 @@ impl<'a, D: Disk> SeatedPass<'a, D> {
         ensures steps { Steps (take_lock lock) result self.old self.new }
         ensures met { Meets (view_of self.old) (take_lock lock) result }
     {
-        self.exchanges::<Brand>(number_of_lock(lock), 0, 1, lock_and(lock, 0))
+        self.exchanges::<Brand>(place_of_lock(lock), 0, 1, lock_and(lock, 0))
     }
 
     /// Tells that all below an address is copied under a lock that is held. If the pass's record is
@@ -54,7 +54,7 @@ impl<'a, D: Disk> SeatedPass<'a, D> {
         requires may { MayStep (view_of self.old) (advance lock upto) }
         ensures steps { Steps (advance lock upto) 0 self.old self.new }
     {
-        self.stores::<Brand>(number_of_lock(lock), upto + 1, lock_and(lock, upto));
+        self.stores::<Brand>(place_of_lock(lock), upto + 1, lock_and(lock, upto));
     }
 
     /// Gives a lock back that the pass holds, and under which nothing is left to copy: its record
@@ -64,7 +64,7 @@ impl<'a, D: Disk> SeatedPass<'a, D> {
         requires may { MayStep (view_of self.old) (release lock) }
         ensures steps { Steps (release lock) 0 self.old self.new }
     {
-        self.stores::<Brand>(number_of_lock(lock), 0, lock_and(lock, 0));
+        self.stores::<Brand>(place_of_lock(lock), 0, lock_and(lock, 0));
     }
 }
 

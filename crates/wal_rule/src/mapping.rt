@@ -11,11 +11,11 @@ ghost use Rattle.machine_state.specs.Steps.{clear_end, load_initialised_end, pub
 ghost use Rattle.wal_rule.specs.Stepping.{Meets};
 ghost use Rattle.wal_rule.specs.SeatedPasses.{Steps, view_of};
 
+use crate::memory::{INITIALISED_END, MAPPING_TURN, place_behind};
 use crate::plays::OfKind;
 use crate::quiet::NO_OPERANDS;
 use crate::seated::SeatedPass;
 use crate::table::LogTable;
-use machine_words::layout::{INITIALISED_END, MAPPING_TURN};
 use segment_disk::Disk;
 
 pub struct TakesMappingTurn;
@@ -88,7 +88,7 @@ impl<'a, D: Disk> SeatedPass<'a, D> {
         requires may { MayStep (view_of self.old) clear_end }
         ensures steps { Steps clear_end 0 self.old self.new }
     {
-        self.stores::<ClearsEnd>(end, 0, NO_OPERANDS);
+        self.stores::<ClearsEnd>(place_behind(end), 0, NO_OPERANDS);
     }
 
     /// Zeroes the page's next word, by its number among all words.
@@ -109,7 +109,7 @@ impl<'a, D: Disk> SeatedPass<'a, D> {
         requires may { MayStep (view_of self.old) zero_ring_word }
         ensures steps { Steps zero_ring_word 0 self.old self.new }
     {
-        self.stores_at::<ZeroesRingWord>(table, place, 0, NO_OPERANDS);
+        self.stores_at::<ZeroesRingWord>(table, place_behind(place), 0, NO_OPERANDS);
     }
 
     /// Stores the page's end, by the number of its buffer's end word: from now on the page is
@@ -120,7 +120,7 @@ impl<'a, D: Disk> SeatedPass<'a, D> {
         requires value { page_end ≡ value_behind (view_of self.old) publish_end 0 }
         ensures steps { Steps publish_end 0 self.old self.new }
     {
-        self.stores::<PublishesEnd>(end, page_end, NO_OPERANDS);
+        self.stores::<PublishesEnd>(place_behind(end), page_end, NO_OPERANDS);
     }
 
     /// Stores that all below the page's end has been mapped, behind its end word: so who loads the

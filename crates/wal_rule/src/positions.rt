@@ -16,10 +16,11 @@ ghost use Rattle.wal_rule.specs.Downs.{KnowsDown};
 ghost use Rattle.wal_rule.specs.Stepping.{Meets};
 ghost use Rattle.wal_rule.specs.SeatedPasses.{Steps, opening_of, view_of};
 
+use crate::memory::{DOWN, FLUSHED, MOMENT, POSITION, WRITTEN, place_behind};
 use crate::plays::OfKind;
 use crate::quiet::{NO_OPERANDS, Operands};
 use crate::seated::SeatedPass;
-use machine_words::layout::{DOWN, FLUSHED, MOMENT, POSITION, WRITTEN, async_number};
+use machine_words::layout::async_number;
 use segment_disk::Disk;
 use std::marker::Brand;
 
@@ -146,8 +147,8 @@ impl<'a, D: Disk> SeatedPass<'a, D> {
         ensures met { Meets (view_of self.old) load_async result }
         ensures furthest { (view_of self.old).async_met ≤ result }
     {
-        let word = async_number(self.shape().ring_pages());
-        self.loads::<LoadsAsync>(word, NO_OPERANDS)
+        let number = async_number(self.shape().ring_pages());
+        self.loads::<LoadsAsync>(place_behind(number), NO_OPERANDS)
     }
 
     /// Raises that address where it is still the expected one, and else leaves it; it answers what
@@ -157,8 +158,8 @@ impl<'a, D: Disk> SeatedPass<'a, D> {
         ensures steps { Steps (raise_async expected upto) result self.old self.new }
         ensures met { Meets (view_of self.old) (raise_async expected upto) result }
     {
-        let word = async_number(self.shape().ring_pages());
-        self.exchanges::<Brand>(word, expected, upto, two(expected, upto))
+        let number = async_number(self.shape().ring_pages());
+        self.exchanges::<Brand>(place_behind(number), expected, upto, two(expected, upto))
     }
 
     /// Stores as written what the writer in hand has written: from now on pages below that address

@@ -1,15 +1,16 @@
 // Steps that move no writer and call no device: one load, store or exchange each. Each kind is a
 // call in one of the files beside this one, by one of these three functions. Such a call picks the
-// kind (`K`) and shows what holds of it: the pass's view lets it make the step (`may`); the word
-// and the value are the machine's own for this kind (`word`, `loads`, `stores`, `exchanges`); the
-// table has that word (`there`). Then the step keeps the rule, whatever others do between, and the
-// view behind it is the machine's (`steps`). A store meets nothing: the view behind it is the same
-// whatever the word held (`meets_none`).
+// kind (`K`) and shows what holds of it: the pass's view lets it make the step (`may`); the place
+// is that of the machine's word for this kind (`place`), and the value the machine's own (`loads`,
+// `stores`, `exchanges`); the table's memory has that place (`there`). Then the step keeps the
+// rule, whatever others do between, and the view behind it is the machine's (`steps`). A store
+// meets nothing: the view behind it is the same whatever the word held (`meets_none`).
 ghost use Rattle.std.specs.Prelude.{◌≡◌, ℕ, ◌<◌, ◌==◌, if◌then◌else◌};
 ghost use mathlib.Core.Option.{none};
 ghost use Rattle.machine_state.specs.Steps.{view_behind, MayStep, value_behind, word_of_step};
 ghost use Rattle.wal_rule.specs.Stepping.{IsQuiet, Meets};
 ghost use Rattle.wal_rule.specs.SeatedPasses.{Steps, view_of};
+ghost use Rattle.wal_rule.specs.WordPlaces.{place_of_word};
 
 use crate::plays::{Finds, OfKind, Quietly};
 use crate::seated::SeatedPass;
@@ -31,16 +32,16 @@ pub const NO_OPERANDS: Operands = Operands {
 
 impl<'a, D: Disk> SeatedPass<'a, D> {
     // A step of a kind that loads a word, and leaves it as it was.
-    pub(crate) fn loads<K: OfKind>(&mut self, word: usize, operands: Operands) -> u64
+    pub(crate) fn loads<K: OfKind>(&mut self, place: usize, operands: Operands) -> u64
         requires quiet { IsQuiet K.kind }
-        requires word { word ≡ word_of_step (view_of self.old) K.kind }
-        requires there { word < self.old.table.now.table.shared.table_id.words }
+        requires place { place ≡ place_of_word (word_of_step (view_of self.old) K.kind) }
+        requires there { place < self.old.table.now.table.shared.table_id.words }
         requires may { MayStep (view_of self.old) K.kind }
         requires loads { (met : ℕ) → met ≡ value_behind (view_of self.old) K.kind met }
         ensures steps { Steps K.kind result self.old self.new }
         ensures met { Meets (view_of self.old) K.kind result }
     {
-        self.loads_at::<K>(self.table, word, operands)
+        self.loads_at::<K>(self.table, place, operands)
     }
 
     // A step of a kind that loads a word, where the caller has taken the table out of the pass: so
@@ -49,26 +50,26 @@ impl<'a, D: Disk> SeatedPass<'a, D> {
     pub(crate) fn loads_at<K: OfKind>(
         &mut self,
         table: &LogTable<D>,
-        word: usize,
+        place: usize,
         operands: Operands,
     ) -> u64
         requires table { table.now ≡ self.old.table.now }
         requires quiet { IsQuiet K.kind }
-        requires word { word ≡ word_of_step (view_of self.old) K.kind }
-        requires there { word < self.old.table.now.table.shared.table_id.words }
+        requires place { place ≡ place_of_word (word_of_step (view_of self.old) K.kind) }
+        requires there { place < self.old.table.now.table.shared.table_id.words }
         requires may { MayStep (view_of self.old) K.kind }
         requires loads { (met : ℕ) → met ≡ value_behind (view_of self.old) K.kind met }
         ensures steps { Steps K.kind result self.old self.new }
         ensures met { Meets (view_of self.old) K.kind result }
     {
-        table.table.shared.load::<Finds<K>>(&mut self.seat, word)
+        table.table.shared.load::<Finds<K>>(&mut self.seat, place)
     }
 
     // A step of a kind that stores a word, whatever it held.
-    pub(crate) fn stores<K: OfKind>(&mut self, word: usize, value: u64, operands: Operands)
+    pub(crate) fn stores<K: OfKind>(&mut self, place: usize, value: u64, operands: Operands)
         requires quiet { IsQuiet K.kind }
-        requires word { word ≡ word_of_step (view_of self.old) K.kind }
-        requires there { word < self.old.table.now.table.shared.table_id.words }
+        requires place { place ≡ place_of_word (word_of_step (view_of self.old) K.kind) }
+        requires there { place < self.old.table.now.table.shared.table_id.words }
         requires may { MayStep (view_of self.old) K.kind }
         requires stores { (met : ℕ) → value ≡ value_behind (view_of self.old) K.kind met }
         requires meets_none { (met other : ℕ)
@@ -76,7 +77,7 @@ impl<'a, D: Disk> SeatedPass<'a, D> {
             (view_of self.old) K.kind other none }
         ensures steps { Steps K.kind 0 self.old self.new }
     {
-        self.stores_at::<K>(self.table, word, value, operands);
+        self.stores_at::<K>(self.table, place, value, operands);
     }
 
     // A step of a kind that stores a word, where the caller has taken the table out of the pass.
@@ -84,14 +85,14 @@ impl<'a, D: Disk> SeatedPass<'a, D> {
     pub(crate) fn stores_at<K: OfKind>(
         &mut self,
         table: &LogTable<D>,
-        word: usize,
+        place: usize,
         value: u64,
         operands: Operands,
     )
         requires table { table.now ≡ self.old.table.now }
         requires quiet { IsQuiet K.kind }
-        requires word { word ≡ word_of_step (view_of self.old) K.kind }
-        requires there { word < self.old.table.now.table.shared.table_id.words }
+        requires place { place ≡ place_of_word (word_of_step (view_of self.old) K.kind) }
+        requires there { place < self.old.table.now.table.shared.table_id.words }
         requires may { MayStep (view_of self.old) K.kind }
         requires stores { (met : ℕ) → value ≡ value_behind (view_of self.old) K.kind met }
         requires meets_none { (met other : ℕ)
@@ -102,21 +103,21 @@ impl<'a, D: Disk> SeatedPass<'a, D> {
         table
             .table
             .shared
-            .store::<Quietly<K>>(&mut self.seat, word, value)
+            .store::<Quietly<K>>(&mut self.seat, place, value)
     }
 
     // A step of a kind that exchanges a word where it meets what it expects, and else leaves it. It
     // answers what it met, so that the caller knows which it was.
     pub(crate) fn exchanges<K: OfKind>(
         &mut self,
-        word: usize,
+        place: usize,
         expected: u64,
         value: u64,
         operands: Operands,
     ) -> u64
         requires quiet { IsQuiet K.kind }
-        requires word { word ≡ word_of_step (view_of self.old) K.kind }
-        requires there { word < self.old.table.now.table.shared.table_id.words }
+        requires place { place ≡ place_of_word (word_of_step (view_of self.old) K.kind) }
+        requires there { place < self.old.table.now.table.shared.table_id.words }
         requires may { MayStep (view_of self.old) K.kind }
         requires exchanges { (met : ℕ) → (if met == expected then value else met)
             ≡ value_behind (view_of self.old) K.kind met }
@@ -126,6 +127,6 @@ impl<'a, D: Disk> SeatedPass<'a, D> {
         self.table
             .table
             .shared
-            .compare_exchange::<Finds<K>>(&mut self.seat, word, expected, value)
+            .compare_exchange::<Finds<K>>(&mut self.seat, place, expected, value)
     }
 }

@@ -13,10 +13,10 @@ ghost use Rattle.machine_state.specs.Steps.{give_position_back, load_prev, lock_
 ghost use Rattle.wal_rule.specs.Stepping.{Meets};
 ghost use Rattle.wal_rule.specs.SeatedPasses.{Steps, view_of};
 
+use crate::memory::{LAST_START, POSITION};
 use crate::plays::OfKind;
 use crate::quiet::NO_OPERANDS;
 use crate::seated::SeatedPass;
-use machine_words::layout::{LAST_START, POSITION};
 use segment_disk::Disk;
 use std::marker::Brand;
 

@@ -11,6 +11,7 @@ ghost use Rattle.machine_state.specs.Steps.{load_buffer_end, load_ring_word, sto
 ghost use Rattle.wal_rule.specs.Stepping.{Meets};
 ghost use Rattle.wal_rule.specs.SeatedPasses.{Steps, view_of};
 
+use crate::memory::place_behind;
 use crate::plays::OfKind;
 use crate::quiet::{NO_OPERANDS, Operands};
 use crate::seated::SeatedPass;
@@ -33,11 +34,12 @@ impl<'a, D: Disk> SeatedPass<'a, D> {
         ensures steps { Steps (load_buffer_end buffer) result self.old self.new }
         ensures met { Meets (view_of self.old) (load_buffer_end buffer) result }
     {
-        self.loads::<Brand>(BUFFER_ENDS + buffer as usize, one(u64::from(buffer)))
+        let number = BUFFER_ENDS + buffer as usize;
+        self.loads::<Brand>(place_behind(number), one(u64::from(buffer)))
     }
 
     /// Stores the next word of the record that is copied, at its place in the ring, by the number
-    /// of that place among all words. The word lies on a page whose end the pass has met, or on one
+    /// that this word has among all. The word lies on a page whose end the pass has met, or on one
     /// before it.
     pub fn store_ring_word(&mut self, place: usize, word: u64)
         requires place { place ≡ word_of_step (view_of self.old) store_ring_word }
@@ -58,7 +60,7 @@ impl<'a, D: Disk> SeatedPass<'a, D> {
         requires value { word ≡ value_behind (view_of self.old) store_ring_word 0 }
         ensures steps { Steps store_ring_word 0 self.old self.new }
     {
-        self.stores_at::<StoresRingWord>(table, place, word, NO_OPERANDS);
+        self.stores_at::<StoresRingWord>(table, place_behind(place), word, NO_OPERANDS);
     }
 
     /// Loads the log's k-th word for a write, from its place in the ring. The pass has the writer
@@ -79,7 +81,7 @@ impl<'a, D: Disk> SeatedPass<'a, D> {
         requires may { MayStep (view_of self.old) (load_ring_word k) }
         ensures steps { Steps (load_ring_word k) result self.old self.new }
     {
-        self.loads_at::<Brand>(table, place, one(k))
+        self.loads_at::<Brand>(table, place_behind(place), one(k))
     }
 }
 

@@ -13,10 +13,10 @@ ghost use Rattle.machine_state.specs.Views.{Lent};
 ghost use Rattle.wal_rule.specs.Stepping.{Meets};
 ghost use Rattle.wal_rule.specs.SeatedPasses.{Steps, began_of, hand_of, opening_of, view_of};
 
+use crate::memory::WRITE_TURN;
 use crate::plays::{BeganOn, OfKind, SlotIn, SlotOut};
 use crate::quiet::NO_OPERANDS;
 use crate::seated::SeatedPass;
-use machine_words::layout::WRITE_TURN;
 use segment_disk::Disk;
 use std::marker::Brand;
 

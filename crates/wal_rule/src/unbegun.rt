@@ -16,13 +16,13 @@ ghost use Rattle.wal_rule.specs.Opening.{IsAsFounded, IsUnsettledWriter, IsWaiti
 ghost use Rattle.wal_rule.specs.Slotted.{slot_disk, slot_plain};
 ghost use Rattle.wal_rule.specs.Tables.{IsSeatOn, began_of_table, opening_of_table, table_number};
 
+use crate::memory::{WRITE_TURN, memory_of};
 use crate::plays::{BeganOn, Begins, GoesOut, WaitsAgain};
 use crate::seats::Founding;
 use crate::table::{LogSeat, LogTable};
 use crate::writer::LogWriter;
 use atomic_table::{Refused, Table};
 use machine_words::LogShape;
-use machine_words::layout::WRITE_TURN;
 use segment_disk::Disk;
 use std::alloc::{AllocFailed, Global};
 
@@ -35,6 +35,7 @@ impl<D: Disk> LogTable<D> {
         shape: LogShape,
         founding: &Founding<D>,
     ) -> Result<(LogTable<D>, LogSeat<D>), D>
+        requires openable { IsOpenable (founded_opening founding.now) }
         requires shape { shape ≡ founding.now.setup }
         requires words { AreFirstWords (founded_opening founding.now) words.now }
         requires writer { IsUnsettledWriter D.tape D.moment D.faults founding.now writer }
@@ -42,13 +43,16 @@ impl<D: Disk> LogTable<D> {
         ensures seat { IfOk result (λ t. IsWaitingSeat D.tape D.moment t.0 t.1) }
         ensures refused { IfErr result (λ disk. disk ≡ slot_disk writer) }
     {
+        let Ok(memory) = memory_of(alloc, words) else {
+            return Err(writer.into_disk());
+        };
         let mut slots = Vec::new(alloc);
         if let Err(failed) = slots.push(writer) {
             let AllocFailed { value } = failed;
             slots.destroy_empty();
             return Err(value.into_disk());
         }
-        match Table::new(alloc, words, slots, founding) {
+        match Table::new(alloc, &memory, slots, founding) {
             Ok((table, seat)) => Ok((LogTable { table, shape }, seat)),
             Err(Refused { slots }) => Err(only_one(slots).into_disk()),
         }

@@ -2,8 +2,8 @@ use Rattle.std.proofs.Common.{arith, subst}
 use Rattle.segment_disk.specs.Tape.{Tape}
 use Rattle.wal_rule.specs.Called.{IsCalled}
 use Rattle.wal_rule.specs.Tables.{opening_of_table}
-use Rattle.wal_rule.proofs.DeviceSteps.{call_steady, catches_up}
-use Rattle.wal_rule.proofs.Live.{kept_step, live_held}
+use Rattle.wal_rule.proofs.DeviceSteps.{call_steady}
+use Rattle.wal_rule.proofs.TableSteps.{catches_up_there}
 use Rattle.wal_rule.proofs.SeatedSteps.{numbered_behind, seated_behind}
 use Rattle.wal_rule.proofs.seated.SeatedPass.catch_up.Goals as goal
 
@@ -11,15 +11,14 @@ pub load-requires : goal.load-requires
 load-requires g c = (
   c.args.self.now.seated.of_table,
   omega (arith, c.args.self.now.table.now.wide),
-  λ s h one here fits. kept_step
-      (catches_up g.D.Disk.tape g.D.Disk.moment g.D.Disk.faults (opening_of_table c.args.self.now.table.now) _
-      g.B.OfCall.call g.B.OfCall.ended c.args.self.now.seat.me c.args.self.now.seated.own
+  catches_up_there g.D.Disk.tape g.D.Disk.moment g.D.Disk.faults
+      (opening_of_table c.args.self.now.table.now) _ _ _ c.args.self.now.seat.me
+      c.args.self.now.seated.live g.B.OfCall.call g.B.OfCall.ended c.args.self.now.seated.own
       (subst (λ (d : Rattle.std.specs.Prelude.Option Tape). IsCalled g.D.Disk.tape
-      g.D.Disk.moment g.D.Disk.faults d (opening_of_table c.args.self.now.table.now) g.B.OfCall.call g.B.OfCall.ended c.args.self.now.seat.me)
+      g.D.Disk.moment g.D.Disk.faults d (opening_of_table c.args.self.now.table.now)
+      g.B.OfCall.call g.B.OfCall.ended c.args.self.now.seat.me)
       c.requires.began c.requires.called)
-      _ _ c.args.self.now.seated.live c.requires.may _ c.requires.began _ c.args.self.now.seated.own s
-      (live_held g.D.Disk.tape g.D.Disk.moment g.D.Disk.faults _ _ _ _ c.args.self.now.seated.live s h here)
-      one here fits),
+      c.requires.may _ c.requires.began _ c.args.self.now.seated.own,
 )
 
 pub invariant_of-self : goal.invariant_of-self

@@ -1,7 +1,8 @@
 use Rattle.std.proofs.Common.{ℕ, List, ◌==◌, ap, ◌∙◌}
 use mathlib.Core.Option.{none}
-use Rattle.wal_rule.proofs.Allowed.{either_if, met_quietly}
-use Rattle.wal_rule.proofs.Live.{kept_step, live_held}
+use prog.Atomic.{either}
+use Rattle.wal_rule.proofs.Allowed.{either_if}
+use Rattle.wal_rule.proofs.TableSteps.{finds_there}
 use Rattle.wal_rule.specs.declared.writer.LogWriter.{LogWriter}
 use Rattle.machine_state.specs.Views.{View}
 use Rattle.machine_state.specs.Steps.{view_behind}
@@ -13,13 +14,11 @@ pub compare_exchange-requires : goal.compare_exchange-requires
 compare_exchange-requires g c = (
   c.args.self.now.seated.of_table,
   c.requires.there,
-  λ s h one here fits. kept_step
-      (met_quietly g.D.Disk.tape g.D.Disk.moment g.D.Disk.faults _ _ _ _ _ c.args.self.now.seated.live
-      g.K.OfKind.kind c.requires.quiet c.requires.may _ c.requires.word _
+  finds_there g.D.Disk.tape g.D.Disk.moment g.D.Disk.faults _ _ _ _ _ c.args.self.now.seated.live
+      g.K.OfKind.kind c.requires.quiet c.requires.may
+      (λ (met : ℕ). either (met == c.args.expected) c.args.value met)
       (λ (met : ℕ). either_if (met == c.args.expected) c.args.value met
-      ∙ c.requires.exchanges met) s
-      (live_held g.D.Disk.tape g.D.Disk.moment g.D.Disk.faults _ _ _ _ c.args.self.now.seated.live s h here)
-      one here fits),
+      ∙ c.requires.exchanges met) _ c.requires.place,
 )
 
 pub invariant_of-self : goal.invariant_of-self

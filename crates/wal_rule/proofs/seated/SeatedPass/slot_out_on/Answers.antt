@@ -1,19 +1,15 @@
 use Rattle.std.proofs.Common.{arith, subst}
 use Rattle.machine_state.specs.Words.{Opening}
 use Rattle.wal_rule.specs.Ruled.{IsOutOf}
-use Rattle.wal_rule.proofs.Allowed.{goes_out}
-use Rattle.wal_rule.proofs.Live.{kept_step, live_held}
+use Rattle.wal_rule.proofs.TableSteps.{goes_out_there}
 use Rattle.wal_rule.proofs.seated.SeatedPass.slot_out_on.Goals as goal
 
 pub load-requires : goal.load-requires
 load-requires g c = (
   c.args.self.now.seated.of_table,
   omega (arith, c.args.self.now.table.now.wide),
-  λ s h one here fits. kept_step
-      (goes_out g.D.Disk.tape g.D.Disk.moment g.D.Disk.faults _ _ _ _ _ c.args.self.now.seated.live
-      c.requires.may _ c.requires.began _ c.args.self.now.seated.own s
-      (live_held g.D.Disk.tape g.D.Disk.moment g.D.Disk.faults _ _ _ _ c.args.self.now.seated.live s h here)
-      one here fits),
+  goes_out_there g.D.Disk.tape g.D.Disk.moment g.D.Disk.faults _ _ _ _ _ c.args.self.now.seated.live
+      c.requires.may _ c.requires.began _ c.args.self.now.seated.own,
 )
 
 pub returns-clause-out : goal.returns-clause-out

@@ -1,7 +1,6 @@
 use Rattle.std.proofs.Common.{ℕ, List, ap}
 use mathlib.Core.Option.{none}
-use Rattle.wal_rule.proofs.Allowed.{told_stored}
-use Rattle.wal_rule.proofs.Live.{kept_step, live_held}
+use Rattle.wal_rule.proofs.TableSteps.{stores_there}
 use Rattle.wal_rule.specs.declared.writer.LogWriter.{LogWriter}
 use Rattle.machine_state.specs.Views.{View}
 use Rattle.machine_state.specs.Steps.{view_behind}
@@ -13,12 +12,9 @@ pub store-requires : goal.store-requires
 store-requires g c = rw c.requires.table (
   c.args.self.now.seated.of_table,
   c.requires.there,
-  λ s h one here fits. kept_step
-      (told_stored g.D.Disk.tape g.D.Disk.moment g.D.Disk.faults _ _ _ _ _ c.args.self.now.seated.live
-      g.K.OfKind.kind c.requires.quiet c.requires.may _ c.requires.word _ c.requires.stores
-      c.requires.meets_none s
-      (live_held g.D.Disk.tape g.D.Disk.moment g.D.Disk.faults _ _ _ _ c.args.self.now.seated.live s h here)
-      one here fits),
+  stores_there g.D.Disk.tape g.D.Disk.moment g.D.Disk.faults _ _ _ _ _ c.args.self.now.seated.live
+      g.K.OfKind.kind c.requires.quiet c.requires.may _ c.requires.stores c.requires.meets_none
+      _ c.requires.place,
 )
 
 pub invariant_of-self : goal.invariant_of-self

@@ -5,7 +5,8 @@ use Rattle.wal_rule.specs.Beginning.{IsUnbegunWriter}
 use Rattle.machine_state.specs.Views.{View}
 use Rattle.wal_rule.specs.Slotted.{slot_disk}
 use Rattle.wal_rule.specs.Tables.{began_of_table, opening_of_table}
-use Rattle.wal_rule.proofs.Begins.{ends_waiting}
+use Rattle.wal_rule.proofs.Begins.{Whole, ends_waiting}
+use Rattle.wal_rule.proofs.InMemory.{ends_by_number}
 use Rattle.wal_rule.proofs.table.LogTable.end_unbegun.Goals as goal
 
 in_same : {A : Type 0} (w x : A) (have : List (ℕ × A)) → have ≡ (0, w) ∷ [] → have ≡ (0, x) ∷ []
@@ -30,4 +31,6 @@ returns g c = λ w is.
     (ends_waiting tape moment faults opening began w ours c.wait_again.new.seat.id
     c.wait_again.new.seat.me.0
     (ap (λ (m : View × List (ℕ × LogWriter D)). m.0) (c.wait_again.ensures.waits w is))
-    _ _ c.take-writer.result c.close_with-closed.ensures.values.2 c.take-writer.ensures.value)
+    _ _ c.take-writer.result
+    (ends_by_number (Whole tape moment faults opening began) _ _ _ _
+    c.close_with-closed.ensures.values.2) c.take-writer.ensures.value)
