@@ -91,25 +91,16 @@ impl<'a, D: Disk> SeatedPass<'a, D> {
         self.stores::<ClearsEnd>(place_behind(end), 0, NO_OPERANDS);
     }
 
-    /// Zeroes the page's next word, by its number among all words.
-    pub fn zero_ring_word(&mut self, place: usize)
-        requires place { place ≡ word_of_step (view_of self.old) zero_ring_word }
-        requires may { MayStep (view_of self.old) zero_ring_word }
-        ensures steps { Steps zero_ring_word 0 self.old self.new }
-    {
-        self.zero_ring_word_at(self.table, place);
-    }
-
-    /// `zero_ring_word`, where the caller has taken the pass's table out of it: so a run of stores
-    /// looks it up once.
+    /// Zeroes the page's next word, by its number among all words. The caller has taken the pass's
+    /// table out of it, so that a run of stores looks it up once.
     #[inline(always)]
-    pub fn zero_ring_word_at(&mut self, table: &LogTable<D>, place: usize)
+    pub fn zero_ring_word(&mut self, table: &LogTable<D>, number: usize)
         requires table { table.now ≡ self.old.table.now }
-        requires place { place ≡ word_of_step (view_of self.old) zero_ring_word }
+        requires number { number ≡ word_of_step (view_of self.old) zero_ring_word }
         requires may { MayStep (view_of self.old) zero_ring_word }
         ensures steps { Steps zero_ring_word 0 self.old self.new }
     {
-        self.stores_at::<ZeroesRingWord>(table, place_behind(place), 0, NO_OPERANDS);
+        self.stores_at::<ZeroesRingWord>(table, place_behind(number), 0, NO_OPERANDS);
     }
 
     /// Stores the page's end, by the number of its buffer's end word: from now on the page is

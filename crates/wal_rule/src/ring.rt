@@ -38,50 +38,31 @@ impl<'a, D: Disk> SeatedPass<'a, D> {
         self.loads::<Brand>(place_behind(number), one(u64::from(buffer)))
     }
 
-    /// Stores the next word of the record that is copied, at its place in the ring, by the number
-    /// that this word has among all. The word lies on a page whose end the pass has met, or on one
-    /// before it.
-    pub fn store_ring_word(&mut self, place: usize, word: u64)
-        requires place { place ≡ word_of_step (view_of self.old) store_ring_word }
+    /// Stores the next word of the record that is copied, by the number that this word has among
+    /// all. The word lies on a page whose end the pass has met, or on one before it. The caller has
+    /// taken the pass's table out of it, so that a run of stores looks it up once.
+    #[inline(always)]
+    pub fn store_ring_word(&mut self, table: &LogTable<D>, number: usize, word: u64)
+        requires table { table.now ≡ self.old.table.now }
+        requires number { number ≡ word_of_step (view_of self.old) store_ring_word }
         requires may { MayStep (view_of self.old) store_ring_word }
         requires value { word ≡ value_behind (view_of self.old) store_ring_word 0 }
         ensures steps { Steps store_ring_word 0 self.old self.new }
     {
-        self.store_ring_word_at(self.table, place, word);
+        self.stores_at::<StoresRingWord>(table, place_behind(number), word, NO_OPERANDS);
     }
 
-    /// `store_ring_word`, where the caller has taken the pass's table out of it: so a run of stores
-    /// looks it up once.
+    /// Loads the log's k-th word for a write, by the number that it has among all. The pass has the
+    /// writer in hand; the word's page is not written whole, and begins where all is known to be
+    /// copied. The caller has taken the pass's table out of it.
     #[inline(always)]
-    pub fn store_ring_word_at(&mut self, table: &LogTable<D>, place: usize, word: u64)
+    pub fn load_ring_word(&mut self, table: &LogTable<D>, k: u64, number: usize) -> u64
         requires table { table.now ≡ self.old.table.now }
-        requires place { place ≡ word_of_step (view_of self.old) store_ring_word }
-        requires may { MayStep (view_of self.old) store_ring_word }
-        requires value { word ≡ value_behind (view_of self.old) store_ring_word 0 }
-        ensures steps { Steps store_ring_word 0 self.old self.new }
-    {
-        self.stores_at::<StoresRingWord>(table, place_behind(place), word, NO_OPERANDS);
-    }
-
-    /// Loads the log's k-th word for a write, from its place in the ring. The pass has the writer
-    /// in hand; the word's page is not written whole, and begins where all is known to be copied.
-    pub fn load_ring_word(&mut self, k: u64, place: usize) -> u64
-        requires place { place ≡ word_of_step (view_of self.old) (load_ring_word k) }
+        requires number { number ≡ word_of_step (view_of self.old) (load_ring_word k) }
         requires may { MayStep (view_of self.old) (load_ring_word k) }
         ensures steps { Steps (load_ring_word k) result self.old self.new }
     {
-        self.load_ring_word_at(self.table, k, place)
-    }
-
-    /// `load_ring_word`, where the caller has taken the pass's table out of it.
-    #[inline(always)]
-    pub fn load_ring_word_at(&mut self, table: &LogTable<D>, k: u64, place: usize) -> u64
-        requires table { table.now ≡ self.old.table.now }
-        requires place { place ≡ word_of_step (view_of self.old) (load_ring_word k) }
-        requires may { MayStep (view_of self.old) (load_ring_word k) }
-        ensures steps { Steps (load_ring_word k) result self.old self.new }
-    {
-        self.loads_at::<Brand>(table, place_behind(place), one(k))
+        self.loads_at::<Brand>(table, place_behind(number), one(k))
     }
 }
 

@@ -324,7 +324,7 @@ fn store_some<'p, D: Disk>(
     ensures { HasView (copied_view count (view_of seated.old)) seated.old seated.new }
 {
     for n in 0..count {
-        seated.store_ring_word_at(table, place + n, words[done + n]);
+        seated.store_ring_word(table, place + n, words[done + n]);
     }
 }
 
@@ -346,7 +346,7 @@ fn store_bytes<'p, D: Disk>(
     let whole = chunks.len().min(count);
     store_chunks(seated, table, place, &chunks[..whole]);
     if whole < count {
-        seated.store_ring_word_at(table, place + whole, last_word(bytes, tail));
+        seated.store_ring_word(table, place + whole, last_word(bytes, tail));
     }
 }
 
@@ -390,7 +390,7 @@ fn store_few<'p, D: Disk>(
 {
     for n in 0..count {
         let word = u64::from_le_bytes(chunks[done + n]);
-        seated.store_ring_word_at(table, place + n, word);
+        seated.store_ring_word(table, place + n, word);
     }
 }
 

@@ -104,7 +104,7 @@ fn load_word<'p, D: Disk>(
     ensures loads { Loads D.tape D.moment D.faults
         ((k, result) ∷ (lent_in (view_of seated.old).writing.hold).staged) seated.old seated.new }
 {
-    seated.load_ring_word_at(table, k, place)
+    seated.load_ring_word(table, k, place)
 }
 
 // The number, among all words, of the place of a page's first word. Those of its other words

@@ -200,7 +200,7 @@ fn zero_row<'p, D: Disk>(
         seated.old seated.new }
 {
     for n in 0..ROW {
-        seated.zero_ring_word_at(table, first + done + n);
+        seated.zero_ring_word(table, first + done + n);
     }
 }
 

@@ -55,28 +55,28 @@ last_word-requires-clause-some g c =
     let least = c.min-whole.ensures in
     omega (arith, count, least, c.if-whole-count.true, c.requires.within)
 
-pub store_ring_word_at-requires-clause-table : goal.store_ring_word_at-requires-clause-table
-store_ring_word_at-requires-clause-table g c =
+pub store_ring_word-requires-clause-table : goal.store_ring_word-requires-clause-table
+store_ring_word-requires-clause-table g c =
     same_table c.args.seated.now c.store_chunks.new.seated c.store_chunks.ensures.same_table
 
-pub store_ring_word_at-requires-clause-place : goal.store_ring_word_at-requires-clause-place
-store_ring_word_at-requires-clause-place g c =
-    (next g (goal.at.store_ring_word_at-requires-clause-place g c).After-store_chunks
+pub store_ring_word-requires-clause-number : goal.store_ring_word-requires-clause-number
+store_ring_word-requires-clause-number g c =
+    (next g (goal.at.store_ring_word-requires-clause-number g c).After-store_chunks
     c.if-whole-count.true).place_is
 
-pub store_ring_word_at-requires-clause-may : goal.store_ring_word_at-requires-clause-may
-store_ring_word_at-requires-clause-may g c =
-    (next g (goal.at.store_ring_word_at-requires-clause-may g c).After-store_chunks
+pub store_ring_word-requires-clause-may : goal.store_ring_word-requires-clause-may
+store_ring_word-requires-clause-may g c =
+    (next g (goal.at.store_ring_word-requires-clause-may g c).After-store_chunks
     c.if-whole-count.true).may
 
-pub store_ring_word_at-requires-clause-value : goal.store_ring_word_at-requires-clause-value
-store_ring_word_at-requires-clause-value g c =
+pub store_ring_word-requires-clause-value : goal.store_ring_word-requires-clause-value
+store_ring_word-requires-clause-value g c =
     let count = c.as_chunks.ensures.front_len in
     let least = c.min-whole.ensures in
     c.last_word.ensures
     ∙ tail_word c.args.bytes.now c.as_chunks.result.1.now c.min-whole.result
     c.as_chunks.ensures.back (omega (arith, count, least, c.if-whole-count.true))
-    ∙ (next g (goal.at.store_ring_word_at-requires-clause-value g c).After-store_chunks
+    ∙ (next g (goal.at.store_ring_word-requires-clause-value g c).After-store_chunks
     c.if-whole-count.true).word_is
 
 pub returns-then-whole-count : goal.returns-then-whole-count
@@ -86,11 +86,11 @@ returns-then-whole-count g c =
     let all : c.min-whole.result + 1 ≡ c.args.count =
     omega (arith, count, least, c.if-whole-count.true, c.requires.within) in
     subst (λ (k : ℕ). HasView (copied_view k (view_of c.args.seated.now)) c.args.seated.now
-    c.store_ring_word_at.new.self) all
+    c.store_ring_word.new.self) all
     (behind_run c.min-whole.result 1 c.args.seated.now c.store_chunks.new.seated
-    c.store_ring_word_at.new.self
+    c.store_ring_word.new.self
     (so_far g (goal.at.returns-then-whole-count g c).After-store_chunks)
-    c.store_ring_word_at.ensures.steps)
+    c.store_ring_word.ensures.steps)
 
 pub returns-else-whole-count : goal.returns-else-whole-count
 returns-else-whole-count g c =

@@ -4,20 +4,20 @@ use Rattle.word_ring.specs.Copied.{copied_view}
 use Rattle.word_ring.proofs.Steps.{same_table}
 use Rattle.word_ring.proofs.copying.store_some.Goals as goal
 
-pub store_ring_word_at-requires-clause-place : goal.store_ring_word_at-requires-clause-place
-store_ring_word_at-requires-clause-place g c =
+pub store_ring_word-requires-clause-number : goal.store_ring_word-requires-clause-number
+store_ring_word-requires-clause-number g c =
     (c.requires.run c.loop-n.n c.loop-n.seated c.loop-n-test.true c.loop-n.invariant).place_is
 
-pub store_ring_word_at-requires-clause-may : goal.store_ring_word_at-requires-clause-may
-store_ring_word_at-requires-clause-may g c =
+pub store_ring_word-requires-clause-may : goal.store_ring_word-requires-clause-may
+store_ring_word-requires-clause-may g c =
     (c.requires.run c.loop-n.n c.loop-n.seated c.loop-n-test.true c.loop-n.invariant).may
 
-pub store_ring_word_at-requires-clause-value : goal.store_ring_word_at-requires-clause-value
-store_ring_word_at-requires-clause-value g c =
+pub store_ring_word-requires-clause-value : goal.store_ring_word-requires-clause-value
+store_ring_word-requires-clause-value g c =
     (c.requires.run c.loop-n.n c.loop-n.seated c.loop-n-test.true c.loop-n.invariant).word_is
 
-pub store_ring_word_at-requires-clause-table : goal.store_ring_word_at-requires-clause-table
-store_ring_word_at-requires-clause-table g c = c.requires.table
+pub store_ring_word-requires-clause-table : goal.store_ring_word-requires-clause-table
+store_ring_word-requires-clause-table g c = c.requires.table
     ∙ same_table c.args.seated.now c.loop-n.seated c.loop-n.invariant.same_table
 
 pub returns : goal.returns
