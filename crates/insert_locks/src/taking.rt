@@ -11,7 +11,7 @@ ghost use Rattle.wal_rule.specs.Stepping.{Meets};
 ghost use Rattle.wal_rule.specs.SeatedPasses.{HasView, view_of};
 ghost use Rattle.insert_locks.specs.Taking.{AreHeldWords, IsFirstFree, with_lock};
 
-use machine_words::layout::LOCKS;
+use machine_state::layout::LOCKS;
 use segment_disk::Disk;
 use wal_rule::SeatedPass;
 

@@ -16,7 +16,7 @@ ghost use Rattle.insert_locks.specs.Watching.{HasFinished, HoldsBack, IsHeldBack
 ghost use Rattle.insert_locks.specs.Watching.{bound_behind, with_watching};
 
 use crate::seeing::see_reserved;
-use machine_words::layout::LOCKS;
+use machine_state::layout::LOCKS;
 use segment_disk::Disk;
 use wal_rule::SeatedPass;
 

@@ -10,8 +10,7 @@ ghost use Rattle.wal_rule.specs.Tables.{IsPassOn};
 
 use byte_position::Geometry;
 use flush_core::{SettlePlan, count_segments};
-use machine_state::Setup;
-use machine_words::{LogShape, MachineWords};
+use machine_state::{LogShape, MachineWords, Setup};
 use segment_disk::{Disk, MemDisk};
 use std::alloc::Global;
 use std::marker::Brand;

@@ -5,3 +5,5 @@ pub mod Landing
 pub mod Tapes
 pub mod NothingFound
 pub mod LocksEnough
+pub mod Bounds
+mod FirstWords

@@ -20,3 +20,5 @@ pub mod Steps
 pub mod Opened
 pub mod Shown
 pub mod PassLogs
+pub mod Numbers
+pub mod FirstWords

@@ -4,9 +4,11 @@
 
 ghost use Rattle.std.specs.Prelude.{◌≡◌, ◌≢◌, ◌⊎◌, ℕ, ◌+◌, ◌*◌, ◌<◌, ◌≤◌, List, [], ◌∷◌, ◌++◌, length, map, set, slice_index};
 ghost use Rattle.machine_state.specs.declared.setup.Setup.{Setup};
-ghost use Rattle.machine_state.specs.Words.{end_word, ends_number, lock_number, lock_word, mapping_turn_number, word_count, word_of_ring};
+ghost use Rattle.machine_state.specs.Words.{end_word, ends_number, lock_number, lock_word, mapping_turn_number, word_count, word_of_ring, async_word};
 ghost use Rattle.machine_state.specs.Views.{Flight, HasAt, View, reserving_of};
 ghost use Rattle.machine_state.specs.Moves.{with_working};
+ghost use Rattle.machine_state.specs.declared.word.Word.TheVariants.{Ring, Async};
+ghost use Rattle.machine_state.specs.Numbers.{AreMachineWords, word_named};
 
 /// A step of one pass changes its own view alone, and of that the part alone that it is about: what
 /// all passes have of the reserved order stays, where it is another part that changes.
@@ -47,4 +49,14 @@ pub fn words_are_set_one_at_a_time()
         → word_of_ring setup (set words i n) ≡ word_of_ring setup words }
     ensures wide { (setup : Setup) (words : List ℕ) (i n : ℕ) → length words ≡ word_count setup
         → length (set words i n) ≡ word_count setup }
+{}
+
+/// The word of each name is the one that the machine means by it: names' numbers are those of the
+/// machine's words.
+pub fn names_are_the_machines()
+    ensures before_ring { (pages : ℕ) (words : List ℕ) → AreMachineWords pages words }
+    ensures ring { (setup : Setup) (place : ℕ) (words : List ℕ)
+        → word_named setup.ring_pages words (Ring place) ≡ word_of_ring setup words place }
+    ensures async_is { (setup : Setup) (words : List ℕ)
+        → word_named setup.ring_pages words Async ≡ async_word setup words }
 {}

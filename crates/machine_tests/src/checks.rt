@@ -2,8 +2,8 @@
 
 use crate::played::SETUP;
 use crate::{BackendNow, MachineNow, Part, ReservedSpan, fault_of};
-use machine_words::is_setup;
-use machine_words::layout::{
+use machine_state::is_setup;
+use machine_state::layout::{
     BUFFER_ENDS, FLUSHED, INITIALISED_END, LAST_START, MAPPING_TURN, MOMENT, POSITION, WRITE_TURN,
     WRITTEN,
 };

@@ -6,7 +6,7 @@ ghost use Rattle.machine_tests.specs.Locks.{LocksAgree, held_by, is_lock};
 
 use crate::moment::BackendNow;
 use crate::words::word_at;
-use machine_words::layout::number_of_lock;
+use machine_state::layout::number_of_lock;
 
 pub(crate) fn locks_agree(words: &[u64], backends: &[BackendNow]) -> bool
     ensures { IsTrue result ↔ LocksAgree words.now backends.now }

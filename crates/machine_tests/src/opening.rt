@@ -4,8 +4,7 @@ ghost use Rattle.std.specs.Prelude.{◌≡◌};
 
 use crate::lines::{Planned, scripts_of};
 use crate::played::SETUP;
-use machine_state::Setup;
-use machine_words::{LogEnd, MachineWords, Word, is_setup};
+use machine_state::{LogEnd, MachineWords, Setup, Word, is_setup};
 use std::alloc::Global;
 use std::process::Abort;
 use std::test::Fail;

@@ -7,10 +7,9 @@ ghost use Rattle.machine_tests.specs.Order.{FollowOn, IsPosition, Met, OrderAgre
 
 use crate::moment::{BackendNow, ReservedSpan};
 use crate::words::word_at;
-use machine_state::Setup;
+use machine_state::layout::{LAST_START, POSITION};
+use machine_state::{LogShape, Setup};
 use machine_turns::PlainPlace;
-use machine_words::LogShape;
-use machine_words::layout::{LAST_START, POSITION};
 
 pub(crate) fn order_agrees(
     setup: Setup,

@@ -8,8 +8,8 @@ use crate::moment::BackendNow;
 use crate::words::word_at;
 use byte_position::PAGE_SIZE;
 use machine_state::Setup;
+use machine_state::layout::{BUFFER_ENDS, INITIALISED_END, WRITTEN};
 use machine_turns::PlainStage;
-use machine_words::layout::{BUFFER_ENDS, INITIALISED_END, WRITTEN};
 
 pub(crate) fn pages_agree(setup: Setup, words: &[u64], backends: &[BackendNow]) -> bool
     requires { 0 < setup.ring_pages }

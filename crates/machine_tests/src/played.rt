@@ -4,12 +4,11 @@ ghost use Rattle.std.specs.Prelude.{All};
 ghost use Rattle.machine_state.specs.Sound.{IsSetup};
 ghost use Rattle.wal_core.specs.Lines.{InsertsNoSwitch};
 
-use machine_state::Setup;
-use machine_words::is_setup;
-use machine_words::layout::{
+use machine_state::layout::{
     BUFFER_ENDS, DOWN, FLUSHED, INITIALISED_END, LAST_START, LOCKS, MAPPING_TURN, MOMENT, POSITION,
     WRITE_TURN, WRITTEN, number_of_lock,
 };
+use machine_state::{Setup, is_setup};
 use segment_disk::{MemDisk, Memory, Pick};
 use std::alloc::{AllocError, Global};
 use std::marker::Model;

@@ -5,8 +5,8 @@ ghost use Rattle.machine_tests.specs.Positions.{HasCopiedBelow, PositionsAgree};
 
 use crate::moment::BackendNow;
 use crate::words::word_at;
+use machine_state::layout::{FLUSHED, WRITTEN};
 use machine_turns::PlainFlight;
-use machine_words::layout::{FLUSHED, WRITTEN};
 
 pub(crate) fn positions_agree(
     first: u64,

@@ -5,8 +5,8 @@ ghost use Rattle.machine_tests.specs.Progress.{ProgressAgrees, TellsAtMost, most
 
 use crate::moment::BackendNow;
 use crate::words::word_at;
+use machine_state::layout::number_of_lock;
 use machine_turns::PlainFlight;
-use machine_words::layout::number_of_lock;
 
 pub(crate) fn progress_agrees(words: &[u64], backends: &[BackendNow]) -> bool
     ensures { IsTrue result ↔ ProgressAgrees words.now backends.now }

@@ -7,8 +7,8 @@ use crate::moment::BackendNow;
 use crate::words::word_at;
 use byte_position::{PAGE_SIZE, PAGE_WORDS};
 use machine_state::Setup;
+use machine_state::layout::BUFFER_ENDS;
 use machine_turns::PlainFlight;
-use machine_words::layout::BUFFER_ENDS;
 
 pub(crate) fn ring_agrees(setup: Setup, words: &[u64], log: &[u64], backends: &[BackendNow]) -> bool
     ensures { IsTrue result ↔ RingAgrees setup words.now log.now backends.now }

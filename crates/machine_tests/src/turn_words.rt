@@ -5,8 +5,8 @@ ghost use Rattle.machine_tests.specs.Turns.{TurnAgrees, TurnsAgree, maps, writes
 
 use crate::moment::BackendNow;
 use crate::words::word_at;
+use machine_state::layout::{MAPPING_TURN, WRITE_TURN};
 use machine_turns::{PlainHold, PlainStage};
-use machine_words::layout::{MAPPING_TURN, WRITE_TURN};
 
 pub(crate) fn turns_agree(words: &[u64], backends: &[BackendNow]) -> bool
     ensures { IsTrue result ↔ TurnsAgree words.now backends.now }

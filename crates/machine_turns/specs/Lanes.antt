@@ -6,7 +6,7 @@ use Rattle.wal_spelling.specs.Spelling.{Assembled}
 use Rattle.wal_page.specs.Order.{assembled_room_at}
 use Rattle.wal_page.specs.Placed.{entry_word}
 use Rattle.machine_state.specs.declared.setup.Setup.{Setup}
-use Rattle.machine_words.specs.Numbers.{WordsState}
+use Rattle.machine_state.specs.Numbers.{WordsState}
 use Rattle.machine_state.specs.Words.{down_word, lock_word, mapping_turn, position_word, write_turn, mapping_turn_number, write_turn_number, written_number, lock_number}
 use Rattle.machine_turns.specs.declared.doing.PlainDoing.{PlainDoing}
 use Rattle.machine_turns.specs.declared.doing.PlainDoing.TheVariants as doings

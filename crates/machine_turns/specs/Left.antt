@@ -1,6 +1,6 @@
 -- What a turn leaves of a backend's view and of the words, beside what it tells.
 use Rattle.std.specs.Prelude.{◌≡◌, ℕ, ◌+◌, ◌*◌, ◌/◌, false, List}
-use Rattle.machine_words.specs.Numbers.{WordsState}
+use Rattle.machine_state.specs.Numbers.{WordsState}
 use Rattle.machine_turns.specs.declared.event.Event.{Event}
 use Rattle.machine_turns.specs.declared.doing.PlainDoing.{PlainDoing}
 use Rattle.machine_turns.specs.declared.doing.Made.{Made}

@@ -12,8 +12,8 @@ ghost use Rattle.machine_turns.specs.Flushing.{at_flush_begins, at_gives_write_t
 use crate::doing::{Made, PlainDoing, PlainNext, PlainPurpose};
 use crate::event::Event;
 use crate::view::{PlainHold, PlainView};
-use machine_words::layout::LOCKS;
-use machine_words::{LogShape, MachineWords, Word};
+use machine_state::layout::LOCKS;
+use machine_state::{LogShape, MachineWords, Word};
 use wal_types::Lsn;
 
 impl PlainView {

@@ -6,7 +6,7 @@
 
 ghost use Rattle.std.specs.Prelude.{◌≡◌, ◌+◌, ◌%◌, ◌<◌, ◌^◌, ◌&&◌, ◌||◌, ◌==◌, not, length, slice_get, is_some, option_map, Some, IfSome};
 ghost use Rattle.machine_state.specs.Words.{lock_word, mapping_turn, position_word, mapping_turn_number, lock_number};
-ghost use Rattle.machine_words.specs.Numbers.{IsWord, number_of_word};
+ghost use Rattle.machine_state.specs.Numbers.{IsWord, number_of_word};
 ghost use Rattle.machine_turns.specs.Writer.{KeepsDisk, state_of};
 ghost use Rattle.machine_turns.specs.Lanes.{IsLockAwaited, IsOfFlush, LeavesLane, MayPlay, asked_by, finds_full, holds_back, is_away, is_free, lane_answered, lane_behind, loads_down, played, stepped, waits_if, word_awaited};
 
@@ -15,7 +15,7 @@ use crate::event::Turn;
 use crate::script::{PlainLine, Script};
 use crate::view::{PlainPlace, PlainStage, PlainView};
 use crate::writer::MachineWriter;
-use machine_words::{LogShape, MachineWords, Word};
+use machine_state::{LogShape, MachineWords, Word};
 
 /// A backend: its lines, how many are answered, its next step, what it knows, and which line's
 /// record it copies.

@@ -16,7 +16,7 @@ use crate::doing::{Made, PlainDoing, PlainPurpose};
 use crate::event::Event;
 use crate::view::{PlainStage, PlainView};
 use byte_position::PAGE_SIZE;
-use machine_words::{LogShape, MachineWords, Word};
+use machine_state::{LogShape, MachineWords, Word};
 
 const PAGE_WORDS: u32 = byte_position::PAGE_WORDS as u32;
 

@@ -17,7 +17,7 @@ ghost use Rattle.machine_turns.specs.Writer.{IsCreateDue, IsFreshWriter, KeepsDi
 ghost use Rattle.machine_turns.specs.Writing.{segment_waiting};
 
 use byte_position::{Geometry, PAGE_SIZE, Page};
-use machine_words::LogShape;
+use machine_state::LogShape;
 use segment_disk::{Disk, MemDisk, Memory, Pick};
 use std::alloc::Global;
 

@@ -17,8 +17,8 @@ use crate::insert::ring_place;
 use crate::view::{PlainHold, PlainView};
 use crate::writer::MachineWriter;
 use byte_position::{PAGE_SIZE, PAGE_WORDS};
-use machine_words::layout::LOCKS;
-use machine_words::{LogShape, MachineWords, Word};
+use machine_state::layout::LOCKS;
+use machine_state::{LogShape, MachineWords, Word};
 use wal_types::Lsn;
 
 impl PlainHold {

@@ -22,7 +22,7 @@ use Rattle.machine_turns.specs.Begun.{MayBeginRunning, first_backend, splitting_
 use Rattle.machine_turns.specs.Doing.{Ask, Inserts, Commits, Flushes, Backend, Machine}
 use Rattle.machine_turns.specs.Standing.{IsLine}
 use Rattle.machine_turns.proofs.FirstMachine.{runs_first, spares, split_at}
-use Rattle.machine_words.specs.Numbers.{WordsState}
+use Rattle.machine_state.specs.Numbers.{WordsState}
 use Rattle.machine_turns.specs.declared.lane.PlainBackend.{PlainBackend}
 use Rattle.machine_turns.specs.declared.script.PlainLine.{PlainLine}
 use Rattle.machine_turns.specs.declared.script.PlainLine.TheVariants.{Insert, Commit, Flush}

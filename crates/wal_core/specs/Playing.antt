@@ -9,7 +9,7 @@ use Rattle.machine_state.specs.Views.{HasAt, Copy, Copying, Plain, Lent, Out, Vi
 use Rattle.machine_turns.specs.Doing.{Ask, Backend, Machine}
 use Rattle.machine_turns.specs.Turned.{bytes_staged}
 use Rattle.machine_turns.specs.Standing.{HasBackend, HasLeft, IsRunning}
-use Rattle.machine_words.specs.Numbers.{WordsState}
+use Rattle.machine_state.specs.Numbers.{WordsState}
 use Rattle.machine_turns.specs.declared.doing.PlainDoing.{PlainDoing}
 use Rattle.machine_turns.specs.declared.doing.PlainDoing.TheVariants as doings
 use Rattle.machine_turns.specs.declared.doing.PlainPurpose.{PlainPurpose}

@@ -8,11 +8,11 @@ ghost use Rattle.machine_state.specs.Words.{log_limit, log_start};
 ghost use Rattle.machine_turns.specs.Scripts.{InsertsLogRecord, flushes_of_line, flushes_of_lines, rooms_of_lines};
 ghost use Rattle.wal_core.specs.Cores.{first_lane, first_lanes, first_plain_view, flushes_of_scripts, lines_of_scripts, rooms_of_scripts};
 
+use machine_state::LogShape;
 use machine_turns::{
     PlainBackend, PlainDoing, PlainFlight, PlainHold, PlainLine, PlainPlace, PlainStage, PlainView,
     PlainWatching, Script,
 };
-use machine_words::LogShape;
 use std::alloc::{AllocError, Global};
 
 /// A lane for each script, whose passes have the numbers from 1 on.

@@ -8,8 +8,8 @@ pub mod laws;
 mod machine;
 
 pub use machine::{Core, CoreErr};
+pub use machine_state::Word;
 pub use machine_turns::{
     Event, PlainDoing, PlainFlight, PlainHold, PlainLine as Line, PlainPlace, PlainPurpose,
     PlainStage, PlainView, PlainWatching, Script, Turn,
 };
-pub use machine_words::Word;

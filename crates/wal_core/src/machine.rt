@@ -15,16 +15,15 @@ ghost use Rattle.machine_state.specs.Views.{HasAt, Plain, View};
 ghost use Rattle.machine_turns.specs.Doing.{Ask, Backend, Machine};
 ghost use Rattle.machine_turns.specs.Standing.{HasBackend};
 ghost use Rattle.machine_turns.specs.Turned.{turned};
-ghost use Rattle.machine_words.specs.Numbers.{IsWord, word_named};
+ghost use Rattle.machine_state.specs.Numbers.{IsWord, word_named};
 ghost use Rattle.wal_core.specs.Cores.{HasBegun, HasWriter, IsPlayed, core_of, machine_begun};
 ghost use Rattle.wal_core.specs.Lines.{AreScriptsFor, InsertsNoSwitch};
 ghost use Rattle.wal_core.specs.PlainData.{plain_view, turn_of};
 ghost use Rattle.wal_core.specs.Playing.{PlaysMachine};
 
 use crate::beginning::{flush_count, lanes_of, line_count, log_end};
-use machine_state::Setup;
+use machine_state::{LogShape, MachineWords, Setup, Word};
 use machine_turns::{MachineWriter, PlainBackend, PlainView, Script, Turn};
-use machine_words::{LogShape, MachineWords, Word};
 use segment_disk::{MemDisk, Memory, Pick};
 use std::alloc::{AllocError, Global};
 

@@ -1,7 +1,7 @@
 -- The position of a closed log is far below the last number of 64 bits.
 use Rattle.std.proofs.Common.{ℕ, ◌<◌, ◌^◌, Option, arith}
 use Rattle.segment_disk.specs.Tape.{Tape}
-use Rattle.machine_words.proofs.Bounds.{limit_low}
+use Rattle.machine_state.proofs.Bounds.{limit_low}
 use Rattle.machine_state.specs.Words.{Opening}
 use Rattle.wal_rule.specs.declared.writer.LogWriter.{LogWriter}
 use Rattle.wal_rule.specs.Closing.{ClosesWith}

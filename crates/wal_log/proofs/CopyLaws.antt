@@ -8,7 +8,7 @@ use Rattle.byte_position.specs.Geometry.{IsSegmentSize}
 use Rattle.byte_position.specs.Position.{end_address_of}
 use Rattle.byte_position.proofs.EndAddresses.{end_address_of-le_address_of, end_address_of-mono}
 use Rattle.byte_position.proofs.Rising.{address_of-bound}
-use Rattle.machine_words.proofs.Bounds.{limit_low}
+use Rattle.machine_state.proofs.Bounds.{limit_low}
 use Rattle.wal_page.specs.Order.{Entry, finish_of, position_behind, rooms_of}
 use Rattle.wal_page.specs.EntryWords.{address_of_word, words_owned}
 use Rattle.wal_page.specs.Placed.{PlacedState, placed_end}

@@ -22,8 +22,8 @@ use Rattle.machine_state.specs.Opened.{AreFirstWords, IsOpenable}
 use Rattle.machine_state.specs.Paged.{HoldsPage}
 use Rattle.machine_state.specs.Sound.{IsSetup}
 use Rattle.machine_state.specs.Words.{Opening, found_end, log_limit, initialised_number, written_number, flushed_number, moment_number, down_number, ends_number}
-use Rattle.machine_words.specs.declared.first.LogEnd.{LogEnd}
-use Rattle.machine_words.specs.FirstWords.{IsEndOf, IsLastPage}
+use Rattle.machine_state.specs.declared.first.LogEnd.{LogEnd}
+use Rattle.machine_state.specs.FirstWords.{IsEndOf, IsLastPage}
 use Rattle.wal_rule.specs.Founded.{found_log_opening}
 use Rattle.wal_log.specs.Reopening.{IsFoundWithin, IsOpenedBehind}
 

@@ -12,8 +12,7 @@ ghost use Rattle.wal_rule.specs.Opening.{TellsOpenErr};
 ghost use Rattle.wal_log.specs.Opening.{IsOpened, RefusesOpening};
 
 use crate::wal::Wal;
-use machine_state::Setup;
-use machine_words::{LogShape, MachineWords};
+use machine_state::{LogShape, MachineWords, Setup};
 use segment_disk::Disk;
 use std::alloc::Global;
 use wal_reader::Stopped;

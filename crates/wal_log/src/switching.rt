@@ -25,7 +25,7 @@ use crate::landing::land;
 use crate::wal::Wal;
 use crossbeam_utils::Backoff;
 use insert_locks::{Held, advance, release, see_reserved, try_take_lock};
-use machine_words::layout::LOCKS;
+use machine_state::layout::LOCKS;
 use reserve_lock::{ReserveErr, Reserved, SwitchTry, try_reserve_switch};
 use segment_disk::Disk;
 use std::sync::Wait;

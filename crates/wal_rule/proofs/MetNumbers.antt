@@ -3,7 +3,7 @@ use Rattle.std.proofs.Common.{◌≡◌, ◌≢◌, ℕ, ◌<◌, ◌≤◌, ◌
 use Rattle.std.proofs.lemmas.List.Elements.{All-weaker}
 use Rattle.atomic_table.proofs.Lists.{at_map}
 use Rattle.segment_disk.specs.Cause.{Rose}
-use Rattle.machine_words.proofs.Bounds.{limit_low}
+use Rattle.machine_state.proofs.Bounds.{limit_low}
 use Rattle.machine_state.specs.Words.{down_word, flushed_word, moment_word, position_word, prev_word}
 use Rattle.machine_state.specs.Views.{FlushPromise, async_met_of, reserving_of, receipts_of, View}
 use Rattle.machine_state.specs.Durable.{IsPromised, IsToldRightly}

@@ -1,5 +1,5 @@
 // Where each shared word lies in the table's memory. Words are known by their numbers (layout.rt of
-// machine_words); their places are the table's own matter. Each of the words before the buffers'
+// machine_state); their places are the table's own matter. Each of the words before the buffers'
 // ends that backends store into on their own begins a pair of lines of memory, sixteen words; the
 // buffers' ends and all behind follow one another (`place_of_word`). So the place of a word is a
 // constant, or lies a constant behind its number.

@@ -20,7 +20,7 @@ use crate::memory::{DOWN, FLUSHED, MOMENT, POSITION, WRITTEN, place_behind};
 use crate::plays::OfKind;
 use crate::quiet::{NO_OPERANDS, Operands};
 use crate::seated::SeatedPass;
-use machine_words::layout::async_number;
+use machine_state::layout::async_number;
 use segment_disk::Disk;
 use std::marker::Brand;
 

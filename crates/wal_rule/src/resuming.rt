@@ -20,7 +20,7 @@ use crate::seats::Founding;
 use crate::table::{LogSeat, LogTable};
 use crate::writer::LogWriter;
 use flush_core::SettlePlan;
-use machine_words::LogShape;
+use machine_state::LogShape;
 use segment_disk::Disk;
 use std::alloc::Global;
 use std::marker::Brand;

@@ -16,7 +16,7 @@ use crate::plays::OfKind;
 use crate::quiet::{NO_OPERANDS, Operands};
 use crate::seated::SeatedPass;
 use crate::table::LogTable;
-use machine_words::layout::BUFFER_ENDS;
+use machine_state::layout::BUFFER_ENDS;
 use segment_disk::Disk;
 use std::marker::Brand;
 

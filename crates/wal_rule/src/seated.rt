@@ -8,7 +8,7 @@ ghost use Rattle.wal_rule.specs.Stepping.{IsSeatOf};
 ghost use Rattle.wal_rule.specs.Tables.{opening_of_table, table_number};
 
 use crate::table::{LogSeat, LogTable};
-use machine_words::LogShape;
+use machine_state::LogShape;
 use segment_disk::Disk;
 
 /// A pass at work at the table of its log. It has the writer in its seat's slot while it has that

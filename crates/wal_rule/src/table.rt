@@ -15,7 +15,7 @@ ghost use Rattle.wal_rule.specs.WordPlaces.{places_between, words_of};
 use crate::seats::{Founding, PassView};
 use crate::writer::LogWriter;
 use atomic_table::{Seat, Table, TableRule};
-use machine_words::LogShape;
+use machine_state::LogShape;
 use segment_disk::Disk;
 use std::alloc::Global;
 use std::marker::PhantomData;

@@ -22,7 +22,7 @@ use crate::seats::Founding;
 use crate::table::{LogSeat, LogTable};
 use crate::writer::LogWriter;
 use atomic_table::{Refused, Table};
-use machine_words::LogShape;
+use machine_state::LogShape;
 use segment_disk::Disk;
 use std::alloc::{AllocFailed, Global};
 

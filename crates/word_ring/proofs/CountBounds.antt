@@ -7,7 +7,7 @@ use Rattle.atomic_table.proofs.Lists.{at_map}
 use Rattle.byte_position.specs.Position.{end_address_of}
 use Rattle.byte_position.proofs.EndAddresses.{end_address_of-le_address_of}
 use Rattle.byte_position.proofs.Rising.{address_of-bound}
-use Rattle.machine_words.proofs.Bounds.{limit_low}
+use Rattle.machine_state.proofs.Bounds.{limit_low}
 use Rattle.machine_state.specs.Words.{Opening, write_turn, order_end}
 use Rattle.machine_state.specs.Aligned.{IsKnownAligned}
 use Rattle.machine_state.specs.Locked.{StandsTo}

@@ -13,8 +13,8 @@ ghost use Rattle.word_ring.specs.Copied.{CopiesPage, IsPlaceOf, IsRestOf, copied
 ghost use Rattle.word_ring.specs.CopyRuns.{CopiesPresent, HasCopied, MayCopy, MayStoreRun, MayStoreWords, chunk_word};
 
 use byte_position::{PAGE_SIZE, PAGE_WORDS, WORD};
-use machine_words::LogShape;
-use machine_words::layout::BUFFER_ENDS;
+use machine_state::LogShape;
+use machine_state::layout::BUFFER_ENDS;
 use segment_disk::Disk;
 use wal_page::Placed;
 use wal_rule::{LogTable, SeatedPass};

@@ -14,8 +14,8 @@ ghost use Rattle.machine_state.specs.Steps.{IsPageLoaded, IsToBeWritten, ring_nu
 ghost use Rattle.wal_rule.specs.SeatedPasses.{setup_of, view_of};
 
 use byte_position::{PAGE_WORDS, Page};
-use machine_words::LogShape;
-use machine_words::layout::BUFFER_ENDS;
+use machine_state::LogShape;
+use machine_state::layout::BUFFER_ENDS;
 use segment_disk::Disk;
 use wal_rule::{LogTable, SeatedPass};
 

@@ -17,8 +17,8 @@ ghost use Rattle.word_ring.specs.Mapped.{LooksAt, MapsAhead, MapsMany, MapsOn, T
 ghost use Rattle.word_ring.specs.Ring.{confirmed_view};
 
 use byte_position::PAGE_SIZE;
-use machine_words::LogShape;
-use machine_words::layout::BUFFER_ENDS;
+use machine_state::LogShape;
+use machine_state::layout::BUFFER_ENDS;
 use segment_disk::Disk;
 use wal_rule::{LogTable, SeatedPass};
 

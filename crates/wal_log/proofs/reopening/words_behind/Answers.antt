@@ -1,5 +1,5 @@
 use Rattle.std.proofs.Common.{List, ℕ, subst, sym}
-use Rattle.machine_words.specs.FirstWords.{IsLastPage}
+use Rattle.machine_state.specs.FirstWords.{IsLastPage}
 use Rattle.wal_log.proofs.Reopens.{ends_there, last_page_there, placed_there}
 use Rattle.wal_log.proofs.reopening.words_behind.Goals as goal
 

@@ -1,7 +1,7 @@
 use Rattle.std.proofs.Common.{◌≡◌, ℕ, ◌+◌, ◌<◌, ◌^◌, List, refl, sym, ap, ◌∙◌, subst}
 use Rattle.flush_core.specs.Planned.{IsPlanOf, call_count}
 use Rattle.flush_core.specs.Settled.{HasSettled}
-use Rattle.machine_words.specs.Numbers.{WordsState}
+use Rattle.machine_state.specs.Numbers.{WordsState}
 use Rattle.wal_page.specs.LogPlace.{LogPlace}
 use Rattle.found_log.specs.Found.{place_of_log}
 use Rattle.machine_state.specs.declared.setup.Setup.{Setup}

@@ -3,9 +3,9 @@ use Rattle.wal_page.specs.LogPlace.{IsPlace, new_place}
 use Rattle.wal_page.proofs.PlaceLaws.{new_place-stands}
 use Rattle.machine_state.specs.declared.setup.Setup.{Setup}
 use Rattle.machine_state.specs.Sound.{IsSetup}
-use Rattle.machine_words.specs.FirstWords.{first_end, IsEndOf}
-use Rattle.machine_words.proofs.FirstWords.{no_word_below, nothing_ends_first}
-use Rattle.machine_words.proofs.words.MachineWords.first.Goals as goal
+use Rattle.machine_state.specs.FirstWords.{first_end, IsEndOf}
+use Rattle.machine_state.proofs.FirstWords.{no_word_below, nothing_ends_first}
+use Rattle.machine_state.proofs.words.MachineWords.first.Goals as goal
 
 pub returns-clause-first : goal.returns-clause-first
 returns-clause-first c = λ opening setup_is moment_is fresh.

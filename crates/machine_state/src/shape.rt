@@ -4,9 +4,8 @@ ghost use Rattle.byte_position.specs.Position.{first_position, usable_bytes_in_s
 ghost use Rattle.machine_state.specs.Sound.{IsSetup};
 ghost use Rattle.machine_state.specs.Words.{log_limit, log_start};
 
-use crate::setup::is_setup;
+use crate::setup::{Setup, is_setup};
 use byte_position::{Geometry, LONG_HEADER_LEN, PAGE_SIZE, SHORT_HEADER_LEN};
-use machine_state::Setup;
 use std::marker::Model;
 
 /// A log's setup, with what each turn needs of it; contracts see the setup.

@@ -1,7 +1,7 @@
 -- The words below the next one are copied; no other word changed.
 use Rattle.std.proofs.Common.{◌≡◌, ℕ, ◌+◌, ◌<◌, ◌≤◌, List, length, slice_index}
 use Rattle.wal_spelling.specs.Spelling.{word_at}
-use Rattle.machine_words.proofs.first.copy_words.Given as goal
+use Rattle.machine_state.proofs.first.copy_words.Given as goal
 
 -- after some turns: `old` are the words before, `new` those now
 pub record HaveWords (to place : ℕ) (page old new : List ℕ) : Type 0 where

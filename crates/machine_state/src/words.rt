@@ -3,17 +3,17 @@ ghost use Rattle.wal_page.specs.LogPlace.{IsPlace, new_place};
 ghost use Rattle.machine_state.specs.Words.{Opening};
 ghost use Rattle.machine_state.specs.Sound.{IsSetup};
 ghost use Rattle.machine_state.specs.Opened.{AreFirstWords};
-ghost use Rattle.machine_words.specs.FirstWords.{GoOnBehind, IsEndOf, IsLastPage};
-ghost use Rattle.machine_words.specs.Numbers.{IsWord, number_of_word, word_named};
+ghost use Rattle.machine_state.specs.FirstWords.{GoOnBehind, IsEndOf, IsLastPage};
+ghost use Rattle.machine_state.specs.Numbers.{IsWord, number_of_word, word_named};
 
 use crate::first::{LogEnd, set_first_words};
 use crate::layout::{
     BUFFER_ENDS, DOWN, FLUSHED, INITIALISED_END, LAST_START, MAPPING_TURN, MOMENT, POSITION,
     WRITE_TURN, WRITTEN, async_number, number_of_lock,
 };
+use crate::setup::Setup;
 use crate::word::Word;
 use byte_position::{PAGE_SIZE, Page};
-use machine_state::Setup;
 use std::alloc::{AllocError, Global};
 use std::marker::Model;
 
@@ -28,7 +28,7 @@ pub struct MachineWords {
 impl Model for MachineWords {
     ghost use Rattle.std.specs.Prelude.{◌≡◌, ◌+◌, ◌*◌, ◌≤◌, length};
     ghost use Rattle.machine_state.specs.Words.{ends_number};
-    ghost use Rattle.machine_words.specs.Numbers.{WordsState};
+    ghost use Rattle.machine_state.specs.Numbers.{WordsState};
 
     ghost Value = { WordsState };
 

@@ -5,7 +5,7 @@ use Rattle.wal_spelling.specs.Spelling.{word_at}
 use Rattle.machine_state.specs.Words.{Opening, position_word, prev_word, initialised_word, written_word, flushed_word, moment_word, down_word, end_word, found_position, found_end, initialised_number, ends_number}
 use Rattle.machine_state.specs.Paged.{HoldsPage}
 use Rattle.machine_state.specs.Ringed.{log_word_of}
-use Rattle.machine_words.specs.declared.first.LogEnd.{LogEnd}
+use Rattle.machine_state.specs.declared.first.LogEnd.{LogEnd}
 
 -- how many whole words of its page lie below an address, and where the page's words stand in a ring
 -- of so many pages

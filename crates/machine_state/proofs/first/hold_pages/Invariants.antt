@@ -2,7 +2,7 @@
 use Rattle.std.proofs.Common.{◌≡◌, ℕ, ◌+◌, ◌<◌, ◌≤◌, List, length, slice_index}
 use Rattle.machine_state.specs.Words.{ends_number}
 use Rattle.machine_state.specs.Paged.{HoldsPage}
-use Rattle.machine_words.proofs.first.hold_pages.Given as goal
+use Rattle.machine_state.proofs.first.hold_pages.Given as goal
 
 -- after some turns: `old` are the words before, `new` those now
 pub record HaveEnds (pages first buffer : ℕ) (old new : List ℕ) : Type 0 where

@@ -1,6 +1,6 @@
 use Rattle.std.proofs.Common.{sym}
 use Rattle.byte_position.proofs.Segments.{first_position-usable}
-use Rattle.machine_words.proofs.shape.usable_bytes.Goals as goal
+use Rattle.machine_state.proofs.shape.usable_bytes.Goals as goal
 
 pub returns-clause-value : goal.returns-clause-value
 returns-clause-value c = sym (first_position-usable c.args.segment_size c.requires)

@@ -15,8 +15,8 @@ use Rattle.machine_state.specs.Opened.{AreFirstWords}
 use Rattle.machine_state.specs.Ringed.{log_word_of}
 use Rattle.machine_state.specs.Sound.{IsSetup}
 use Rattle.machine_state.proofs.NothingFound.{nothing_ends, nothing_stands}
-use Rattle.machine_words.specs.declared.first.LogEnd.{LogEnd}
-use Rattle.machine_words.specs.FirstWords.{first_end, GoOnBehind, IsEndOf, IsLastPage, words_below}
+use Rattle.machine_state.specs.declared.first.LogEnd.{LogEnd}
+use Rattle.machine_state.specs.FirstWords.{first_end, GoOnBehind, IsEndOf, IsLastPage, words_below}
 
 apart_by : (n a b r p q : ℕ) → a * n + r ≡ p → b * n + r ≡ q → p < q → q < p + n → ⊥
 apart_by n a b r p q is_p is_q less near = elim (cases_lt a b) [

@@ -6,7 +6,7 @@ ghost use Rattle.byte_position.specs.Position.{first_position};
 ghost use Rattle.wal_spelling.specs.Spelling.{word_at};
 ghost use Rattle.machine_state.specs.Words.{ends_number};
 ghost use Rattle.machine_state.specs.Paged.{HoldsPage};
-ghost use Rattle.machine_words.specs.FirstWords.{GoOnBehind, first_end};
+ghost use Rattle.machine_state.specs.FirstWords.{GoOnBehind, first_end};
 
 use crate::layout::{
     BUFFER_ENDS, FLUSHED, INITIALISED_END, LAST_START, MOMENT, POSITION, WRITTEN, async_number,

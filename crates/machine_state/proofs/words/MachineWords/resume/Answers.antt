@@ -2,9 +2,9 @@ use Rattle.std.proofs.Common.{ℕ, sym, subst}
 use Rattle.wal_page.specs.LogPlace.{IsPlace}
 use Rattle.machine_state.specs.declared.setup.Setup.{Setup}
 use Rattle.machine_state.specs.Sound.{IsSetup}
-use Rattle.machine_words.specs.FirstWords.{GoOnBehind}
-use Rattle.machine_words.proofs.FirstWords.{words_are_first}
-use Rattle.machine_words.proofs.words.MachineWords.resume.Goals as goal
+use Rattle.machine_state.specs.FirstWords.{GoOnBehind}
+use Rattle.machine_state.proofs.FirstWords.{words_are_first}
+use Rattle.machine_state.proofs.words.MachineWords.resume.Goals as goal
 
 pub returns-clause-first : goal.returns-clause-first
 returns-clause-first c = λ opening setup_is moment_is placed ends page.

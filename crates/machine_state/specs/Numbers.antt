@@ -1,8 +1,8 @@
 -- The numbers of the words that all share.
 use Rattle.machine_state.specs.Words.{mapping_turn_number, write_turn_number, initialised_number, written_number, flushed_number, moment_number, down_number, ends_number, lock_number, position_word, prev_word, lock_word, mapping_turn, write_turn, initialised_word, written_word, flushed_word, moment_word, down_word, end_word}
 use Rattle.std.specs.Prelude.{◌≡◌, ℕ, ◌+◌, ◌*◌, ◌<◌, List, slice_index}
-use Rattle.machine_words.specs.declared.word.Word.{Word}
-use Rattle.machine_words.specs.declared.word.Word.TheVariants.{Position, LastStart, Lock, MappingTurn, WriteTurn, InitialisedEnd, Written, Flushed, Moment, Down, BufferEnd, Ring, Async}
+use Rattle.machine_state.specs.declared.word.Word.{Word}
+use Rattle.machine_state.specs.declared.word.Word.TheVariants.{Position, LastStart, Lock, MappingTurn, WriteTurn, InitialisedEnd, Written, Flushed, Moment, Down, BufferEnd, Ring, Async}
 
 -- the words, and how many pages the ring has
 pub record WordsState : Type 0 where
