@@ -117,7 +117,7 @@ stream_from_bytes : (size prev position : ℕ) (es : List Entry) → FollowsFrom
 stream_from_bytes size prev position [] chain = record { each = All-nil (λ b. b < 256) }
 stream_from_bytes size prev position (e ∷ es) chain =
     let own : AreBytes (filled (assembled e.value) prev) = record { each = bytes_filled (assembled e.value) prev (ready e.value chain.1) } in
-    let padding = padding_at size e.start (assembled e.value) in
+    let padding = padding_at size e.start e.value in
     let zeros : AreBytes (replicate padding 0) = record { each = All-replicate (λ b. b < 256) padding 0 (omega arith) } in
     bytes_and (bytes_and own zeros) (stream_from_bytes size (address_of size e.start) (position_behind size e) es chain.2)
 

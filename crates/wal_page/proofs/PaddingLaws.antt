@@ -12,16 +12,16 @@ use Rattle.wal_types.specs.declared.record.Record.{Record}
 use Rattle.wal_spelling.specs.Record.{switch_record}
 use Rattle.wal_spelling.specs.Spelling.{Assembled, assembled, assembled_room, assembled_size, is_assembled_switch, IsWritable, room_of, size_of}
 use Rattle.wal_spelling.proofs.SwitchLaws.{ends_its_segment, is_assembled_switch-inserted, size-switch}
-use Rattle.wal_page.specs.Order.{Entry, finish_of, next_segment, padding_at, position_behind, assembled_room_at, room_at}
+use Rattle.wal_page.specs.Order.{Entry, assembled_padding_at, assembled_room_at, finish_of, next_segment, position_behind, room_at}
 use Rattle.wal_page.proofs.NextSegmentLaws.{lt-next_segment, next_segment-whole, end_of_switch}
 
 -- ---- a record that can be inserted has none
 
-pub padding_at-inserted : (size start : ℕ) (a : Assembled) → is_assembled_switch a ≡ false → padding_at size start a ≡ 0
-padding_at-inserted size start a plain = cond-false (is_assembled_switch a) (next_segment size (start + assembled_size a - 1) - (start + assembled_room a)) 0 plain
+pub assembled_padding_at-inserted : (size start : ℕ) (a : Assembled) → is_assembled_switch a ≡ false → assembled_padding_at size start a ≡ 0
+assembled_padding_at-inserted size start a plain = cond-false (is_assembled_switch a) (next_segment size (start + assembled_size a - 1) - (start + assembled_room a)) 0 plain
 
 pub assembled_room_at-inserted : (size start : ℕ) (a : Assembled) → is_assembled_switch a ≡ false → assembled_room_at size start a ≡ assembled_room a
-assembled_room_at-inserted size start a plain = omega (arith, padding_at-inserted size start a plain)
+assembled_room_at-inserted size start a plain = omega (arith, assembled_padding_at-inserted size start a plain)
 
 pub room_at-inserted : (size start : ℕ) (value : Record) → IsWritable value → room_at size start value ≡ room_of value
 room_at-inserted size start value writable = assembled_room_at-inserted size start (assembled value) (is_assembled_switch-inserted value writable)
@@ -33,8 +33,8 @@ le-assembled_room_at size start a = (omega arith, omega arith)
 
 -- ---- behind a switch its segment is filled
 
-pub padding_at-switch : (size start : ℕ) (a : Assembled) → is_assembled_switch a ≡ true → padding_at size start a ≡ next_segment size (start + assembled_size a - 1) - (start + assembled_room a)
-padding_at-switch size start a switches = cond-true (is_assembled_switch a) (next_segment size (start + assembled_size a - 1) - (start + assembled_room a)) 0 switches
+pub assembled_padding_at-switch : (size start : ℕ) (a : Assembled) → is_assembled_switch a ≡ true → assembled_padding_at size start a ≡ next_segment size (start + assembled_size a - 1) - (start + assembled_room a)
+assembled_padding_at-switch size start a switches = cond-true (is_assembled_switch a) (next_segment size (start + assembled_size a - 1) - (start + assembled_room a)) 0 switches
 
 module _ (size : ℕ) (valid : IsSegmentSize size) where
   -- a position's segment has at most a segment's usable bytes from there on
@@ -47,8 +47,8 @@ module _ (size : ℕ) (valid : IsSegmentSize size) where
   pub assembled_room_at-bound : (start : ℕ) (a : Assembled) → assembled_room_at size start a ≤ assembled_room a + usable_bytes_in_segment size
   assembled_room_at-bound start a =
       elim (cases_Bool (is_assembled_switch a)) [
-        | inl switches ↦ omega (arith, padding_at-switch size start a switches, next_segment-bound (start + assembled_size a - 1))
-        | inr plain ↦ omega (arith, padding_at-inserted size start a plain)
+        | inl switches ↦ omega (arith, assembled_padding_at-switch size start a switches, next_segment-bound (start + assembled_size a - 1))
+        | inr plain ↦ omega (arith, assembled_padding_at-inserted size start a plain)
       ]
 
   -- which are fewer than 1 GiB
@@ -62,21 +62,21 @@ module _ (size : ℕ) (valid : IsSegmentSize size) where
         omega (arith, whole, lt-next_segment size valid last, next_segment-whole size valid last)
 
     pub position_behind_switch : is_assembled_switch a ≡ true → start + assembled_room_at size start a ≡ next_segment size (start + assembled_size a - 1)
-    position_behind_switch switches = omega (arith, room_in_segment, padding_at-switch size start a switches)
+    position_behind_switch switches = omega (arith, room_in_segment, assembled_padding_at-switch size start a switches)
 
     -- in end form that is the segment's start
     pub end_behind_switch : is_assembled_switch a ≡ true → end_address_of size (start + assembled_room_at size start a) ≡ size * (address_of size (start + assembled_size a - 1) / size + 1)
     end_behind_switch switches = ap (end_address_of size) (position_behind_switch switches) ∙ end_of_switch size valid (start + assembled_size a - 1)
 
-    pub padding_at-whole : padding_at size start a % 8 ≡ 0
-    padding_at-whole =
+    pub assembled_padding_at-whole : assembled_padding_at size start a % 8 ≡ 0
+    assembled_padding_at-whole =
         elim (cases_Bool (is_assembled_switch a)) [
-          | inl switches ↦ omega (arith, whole, padding_at-switch size start a switches, next_segment-whole size valid (start + assembled_size a - 1))
-          | inr plain ↦ omega (arith, padding_at-inserted size start a plain)
+          | inl switches ↦ omega (arith, whole, assembled_padding_at-switch size start a switches, next_segment-whole size valid (start + assembled_size a - 1))
+          | inr plain ↦ omega (arith, assembled_padding_at-inserted size start a plain)
         ]
 
     pub assembled_room_at-whole : assembled_room_at size start a % 8 ≡ 0
-    assembled_room_at-whole = omega (arith, padding_at-whole)
+    assembled_room_at-whole = omega (arith, assembled_padding_at-whole)
 
   pub room_at-whole : (start : ℕ) (value : Record) → start % 8 ≡ 0 → room_at size start value % 8 ≡ 0
   room_at-whole start value whole = assembled_room_at-whole start (assembled value) whole

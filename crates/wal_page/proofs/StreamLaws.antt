@@ -13,7 +13,7 @@ use Rattle.wal_page.proofs.OrderLaws.{rooms_of_cons}
 
 pub length-bytes_of_entry : (size prev : ℕ) (e : Entry) → length (bytes_of_entry size prev e) ≡ room_at size e.start e.value
 length-bytes_of_entry size prev e =
-    let padding = padding_at size e.start (assembled e.value) in
+    let padding = padding_at size e.start e.value in
     omega (arith, length-append (filled (assembled e.value) prev) (replicate padding 0), length-filled (assembled e.value) prev, length-replicate {A = ℕ} padding 0)
 
 zeros_read : (n k : ℕ) → get_or (replicate {A = ℕ} n 0) k 0 ≡ 0
@@ -23,7 +23,7 @@ zeros_read n k = elim (cases_lt k n) [ inl lt ↦ get_or-replicate n k 0 0 lt | 
 pub bytes_of_entry-reads : (size prev : ℕ) (e : Entry) (k : ℕ) → get_or (bytes_of_entry size prev e) k 0 ≡ get_or (filled (assembled e.value) prev) k 0
 bytes_of_entry-reads size prev e k =
     let own = filled (assembled e.value) prev in
-    let padding = padding_at size e.start (assembled e.value) in
+    let padding = padding_at size e.start e.value in
     let long = length-filled (assembled e.value) prev in
     elim (cases_lt k (room_of e.value)) [
       | inl lt ↦ get_or_append_left own (replicate padding 0) 0 k (omega (arith, long))

@@ -3,14 +3,14 @@
 use Rattle.std.specs.Prelude.{◌≡◌, ℕ, ◌+◌, ◌-◌, ◌/◌, ◌%◌, ◌&&◌, ◌⊎◌, List, [], ◌∷◌, ◌++◌, replicate, slice_index, Option, Some, None, nat_lt, nat_le, if◌then◌else◌}
 use Rattle.std.specs.Int.{w64, from_le_bytes, to_le_bytes}
 use Rattle.byte_position.specs.Position.{is_in_header, position_of, address_of, first_position}
-use Rattle.wal_spelling.specs.Spelling.{assembled, filled, room_of, size_of}
+use Rattle.wal_spelling.specs.Spelling.{filled_spelling, room_of, size_of}
 use Rattle.wal_page.specs.Order.{Entry, padding_at, position_behind}
 use Rattle.wal_page.specs.Page.{page_header}
 
 -- an entry's bytes behind a record that starts at `prev`: its record's, and the zeros that follow
 abbrev pub bytes_of_entry : ℕ → ℕ → Entry → List ℕ
 bytes_of_entry size prev e =
-    filled (assembled e.value) prev ++ replicate (padding_at size e.start (assembled e.value)) 0
+    filled_spelling e.value prev ++ replicate (padding_at size e.start e.value) 0
 
 -- those of entries, one behind another; `prev` is the start of the record before the first
 abbrev pub stream_from : ℕ → ℕ → List Entry → List ℕ

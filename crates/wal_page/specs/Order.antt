@@ -3,7 +3,8 @@
 use Rattle.std.specs.Prelude.{◌≡◌, ℕ, ◌+◌, ◌-◌, ◌*◌, ◌/◌, List, [], ◌∷◌, Option, sum_by, nat_lt, if◌then◌else◌}
 use Rattle.byte_position.specs.Position.{position_of, address_of, end_address_of, first_position}
 use Rattle.wal_types.specs.declared.record.Record.{Record}
-use Rattle.wal_spelling.specs.Spelling.{Assembled, assembled, assembled_room, assembled_size, is_assembled_switch, IsLogRecord}
+use Rattle.wal_spelling.specs.Record.{is_switch}
+use Rattle.wal_spelling.specs.Spelling.{Assembled, assembled_room, assembled_size, is_assembled_switch, IsLogRecord, room_of, size_of}
 
 -- an entry of the log: the pass that reserved it (none where a restart found it), its record, and
 -- the byte position at which it starts
@@ -18,18 +19,24 @@ next_segment size position = position_of size (size * (address_of size position 
 
 -- how many bytes of zeros follow a record that starts at a byte position: behind a switch those
 -- that are left of the segment in which its last byte stands, behind another record none
-abbrev pub padding_at : ℕ → ℕ → Assembled → ℕ
-padding_at size start a =
-    if is_assembled_switch a
-    then next_segment size (start + assembled_size a - 1) - (start + assembled_room a) else 0
+abbrev pub padding_at : ℕ → ℕ → Record → ℕ
+padding_at size start value =
+    if is_switch value
+    then next_segment size (start + size_of value - 1) - (start + room_of value) else 0
 
 -- how many bytes of the log a record takes up that starts at a byte position: its room there, from
 -- its start to where the next record starts
-abbrev pub assembled_room_at : ℕ → ℕ → Assembled → ℕ
-assembled_room_at size start a = assembled_room a + padding_at size start a
-
 abbrev pub room_at : ℕ → ℕ → Record → ℕ
-room_at size start value = assembled_room_at size start (assembled value)
+room_at size start value = room_of value + padding_at size start value
+
+-- both of what is assembled
+abbrev pub assembled_padding_at : ℕ → ℕ → Assembled → ℕ
+assembled_padding_at size start a =
+    if is_assembled_switch a
+    then next_segment size (start + assembled_size a - 1) - (start + assembled_room a) else 0
+
+abbrev pub assembled_room_at : ℕ → ℕ → Assembled → ℕ
+assembled_room_at size start a = assembled_room a + assembled_padding_at size start a
 
 -- the byte position behind an entry
 abbrev pub position_behind : ℕ → Entry → ℕ

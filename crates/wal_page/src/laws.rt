@@ -53,6 +53,12 @@ pub fn records_take_up_their_rooms()
     ensures { (size : ℕ) (es : List Entry) → length (stream_of size es) ≡ rooms_of size es }
 {}
 
+/// What is assembled of a record takes up as much of the log as the record.
+pub fn bodies_take_up_their_records_rooms()
+    ensures { (size start : ℕ) (value : Record)
+        → assembled_room_at size start (assembled value) ≡ room_at size start value }
+{}
+
 /// Who owns an address: each entry those from its start's end form up to its finish, and so all
 /// entries together those from segment 1 on up to the order's end.
 pub fn entries_own_stretches()

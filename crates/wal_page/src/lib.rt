@@ -12,7 +12,7 @@ mod room;
 
 pub use checks::{PageErr, PageInfo, check_page};
 pub use laws::{
-    entries_own_stretches, entries_start_behind_those_before,
+    bodies_take_up_their_records_rooms, entries_own_stretches, entries_start_behind_those_before,
     further_entries_change_only_their_own, logs_go_on_at_a_place, orders_grow_entry_by_entry,
     owned_words_are_numbered, records_take_up_their_rooms, switches_fill_their_segments,
     words_and_pages_are_their_bytes, words_are_their_owners,

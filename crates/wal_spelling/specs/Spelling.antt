@@ -107,6 +107,29 @@ after_header r =
 abbrev pub plain_after_header : List ℕ → List ℕ
 plain_after_header main = after_header (plain_record (record { 0 = 0 }) 0 0 main)
 
+-- how many bytes a record is spelled in, and how many it takes up: the next multiple of 8
+abbrev pub size_of : Record → ℕ
+size_of r = record_header_size + length (after_header r)
+
+abbrev pub room_of : Record → ℕ
+room_of r = (size_of r + 7) / 8 * 8
+
+-- the writer's spelling of a record behind one that starts at `prev`: the header up to its CRC; the
+-- CRC, which runs over what stands behind the header, and then over the header's front; the rest
+abbrev pub spelling : Record → ℕ → List ℕ
+spelling r prev =
+    let front =
+    to_le_bytes w32 (size_of r)
+    ++ to_le_bytes w32 r.xid.0
+    ++ to_le_bytes w64 prev
+    ++ r.info ∷ r.rmid ∷ 0 ∷ 0 ∷ [] in
+    let crc = crc32c (after_header r ++ front) in
+    front ++ to_le_bytes w32 crc ++ after_header r
+
+-- filled with zeros up to its room
+abbrev pub filled_spelling : Record → ℕ → List ℕ
+filled_spelling r prev = spelling r prev ++ replicate (room_of r - size_of r) 0
+
 -- a record as it is ready to be written: all of its spelling but what depends on its place
 pub record Assembled : Type 0 where
   pub xid : ℕ
@@ -130,12 +153,6 @@ assembled_size a = record_header_size + length a.after_header
 abbrev pub assembled_room : Assembled → ℕ
 assembled_room a = (assembled_size a + 7) / 8 * 8
 
-abbrev pub size_of : Record → ℕ
-size_of r = assembled_size (assembled r)
-
-abbrev pub room_of : Record → ℕ
-room_of r = assembled_room (assembled r)
-
 -- the header up to its CRC
 abbrev pub header_front : Assembled → ℕ → List ℕ
 header_front a prev =
@@ -154,10 +171,6 @@ spelled a prev = header_front a prev ++ to_le_bytes w32 (crc_of a prev) ++ a.aft
 -- filled with zeros up to its room
 abbrev pub filled : Assembled → ℕ → List ℕ
 filled a prev = spelled a prev ++ replicate (assembled_room a - assembled_size a) 0
-
--- the writer's spelling of a record behind one that starts at `prev`
-abbrev pub spelling : Record → ℕ → List ℕ
-spelling r prev = spelled (assembled r) prev
 
 -- the n-th word of bytes, eight of them, the lowest first
 abbrev pub word_at : List ℕ → ℕ → ℕ

@@ -8,7 +8,7 @@ ghost use Rattle.wal_types.specs.declared.record.Record.{Record};
 ghost use Rattle.wal_spelling.specs.Header.{HasHeader};
 ghost use Rattle.wal_spelling.specs.Record.{Fits, are_right_blocks, is_switch, switch_record};
 ghost use Rattle.wal_spelling.specs.Refusal.{first_bad_block, refusal_of};
-ghost use Rattle.wal_spelling.specs.Spelling.{Assembled, AssembledFits, IsLogRecord, IsReadable, IsWritable, assembled, assembled_room, assembled_size, crc_of, filled, size_of, spelled, word_at};
+ghost use Rattle.wal_spelling.specs.Spelling.{Assembled, AssembledFits, IsLogRecord, IsReadable, IsWritable, assembled, assembled_room, assembled_size, crc_of, filled, filled_spelling, room_of, size_of, spelled, spelling, word_at};
 
 /// A record's length, and the room that it takes up.
 pub fn spelled_lengths()
@@ -19,6 +19,15 @@ pub fn spelled_lengths()
         × (24 ≤ assembled_room a)
         × (assembled_size a ≤ assembled_room a)
         × (assembled_room a < assembled_size a + 8) }
+{}
+
+/// What is assembled of a record is spelled as the record is.
+pub fn bodies_are_spelled_as_their_records()
+    ensures size { (r : Record) → assembled_size (assembled r) ≡ size_of r }
+    ensures room { (r : Record) → assembled_room (assembled r) ≡ room_of r }
+    ensures spelled { (r : Record) (prev : ℕ) → spelled (assembled r) prev ≡ spelling r prev }
+    ensures filled { (r : Record) (prev : ℕ)
+        → filled (assembled r) prev ≡ filled_spelling r prev }
 {}
 
 /// A record's bytes and its CRC fit, and its words are its bytes.

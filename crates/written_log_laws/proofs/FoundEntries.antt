@@ -22,7 +22,7 @@ use Rattle.wal_page.specs.Page.{first_fault, is_continued, is_overwritten, page_
 use Rattle.wal_page.specs.Log.{header_byte, log_byte, owner_of, remaining_at}
 use Rattle.wal_page.proofs.LogByteLaws.{header_byte-own, header_byte-padding, log_byte-header}
 use Rattle.wal_page.proofs.OwnerLaws.{owner_of-entry}
-use Rattle.wal_page.proofs.PaddingLaws.{padding_at-inserted, position_behind_switch}
+use Rattle.wal_page.proofs.PaddingLaws.{assembled_padding_at-inserted, position_behind_switch}
 use Rattle.wal_page.proofs.WordPositions.{position_of-whole}
 use Rattle.wal_reader.specs.declared.record_place.RecordPlace.{RecordPlace}
 use Rattle.wal_reader.specs.declared.found.FoundRecord.{FoundRecord}
@@ -343,7 +343,7 @@ module _ (size sysid : ℕ) (pages : Pages) (es : List Entry) (upto : ℕ) (vali
                 low = omega (arith, low, end_address_of-next size last);
                 marked = page_marked (address_of size last) from inside;
               }
-              | inr plain ↦ absurd (omega (arith, behind, within, padding_at-inserted size e.start (assembled e.value) plain))
+              | inr plain ↦ absurd (omega (arith, behind, within, assembled_padding_at-inserted size e.start (assembled e.value) plain))
             ]
 
       -- so each byte of the entry's room is its own

@@ -160,8 +160,8 @@ module _ (size sysid : ℕ) (pages : Pages) (es : List Entry) (w : IsWritten siz
         let p = first_position size + k in
         let small = logged_size e.value logged in
         record {
-          rest = replicate (padding_at size e.start (assembled e.value)) 0 ++ stream_from size (address_of size e.start) others;
-          bytes = λ n fits. bytes_from-log size sysid pages es w n k (omega (arith, within)) ∙ ap (take n) (stand.bytes ∙ append_assoc (filled (assembled e.value) prev) (replicate (padding_at size e.start (assembled e.value)) 0) (stream_from size (address_of size e.start) others));
+          rest = replicate (padding_at size e.start e.value) 0 ++ stream_from size (address_of size e.start) others;
+          bytes = λ n fits. bytes_from-log size sysid pages es w n k (omega (arith, within)) ∙ ap (take n) (stand.bytes ∙ append_assoc (filled (assembled e.value) prev) (replicate (padding_at size e.start e.value) 0) (stream_from size (address_of size e.start) others));
           header_pages = rows_between p (p + 24 - 1) (omega (arith, start_is)) (omega (arith, start_is));
           last_pages = rows_between (p + 24 - 1) (p + size_of e.value - 1) (omega (arith, start_is)) (omega (arith, start_is));
           manager = not-true (is_free_manager e.value.rmid) (logged_readable e.value logged).manager;

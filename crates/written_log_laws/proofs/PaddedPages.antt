@@ -9,7 +9,7 @@ use Rattle.byte_position.proofs.Segments.{segment_start}
 use Rattle.wal_spelling.specs.Spelling.{assembled, is_assembled_switch, room_of, size_of}
 use Rattle.wal_page.specs.Order.{Entry, position_behind}
 use Rattle.wal_page.specs.Log.{owner_of}
-use Rattle.wal_page.proofs.PaddingLaws.{padding_at-inserted, position_behind_switch}
+use Rattle.wal_page.proofs.PaddingLaws.{assembled_padding_at-inserted, position_behind_switch}
 use Rattle.written_log_laws.proofs.LogPositions.{page_begins}
 
 -- the owner of a position is one of the order's entries
@@ -47,5 +47,5 @@ module _ (size : ℕ) (valid : IsSegmentSize size) where
             (let n = address_of size (e.start + size_of e.value - 1) / size + 1 in
             let behind : position_behind size e ≡ position_of size (size * n) = position_behind_switch size valid e.start a whole switches in
             (omega (arith, from, begins, first), omega (arith, behind, page_below n page p (omega (arith, below, behind)) on)))
-        | inr plain ↦ absurd (omega (arith, from, below, padding_at-inserted size e.start a plain))
+        | inr plain ↦ absurd (omega (arith, from, below, assembled_padding_at-inserted size e.start a plain))
       ]

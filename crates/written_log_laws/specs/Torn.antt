@@ -2,7 +2,7 @@
 use Rattle.std.specs.Prelude.{◌≡◌, ◌≢◌, ℕ, ◌*◌, ◌<◌, ◌⊎◌, List, ◌++◌, take, drop, Some, slice_get}
 use Rattle.std.specs.Int.{w32, w64}
 use Rattle.wal_crc32c.specs.Crc32c.{crc32c}
-use Rattle.wal_spelling.specs.Spelling.{assembled, filled, room_of, word_at, size_of}
+use Rattle.wal_spelling.specs.Spelling.{filled_spelling, room_of, size_of, word_at}
 use Rattle.wal_spelling.specs.Numbers.{number_at}
 use Rattle.wal_page.specs.Order.{Entry, prev_of}
 use Rattle.wal_reader.specs.Pages.{Pages, bytes_from}
@@ -14,10 +14,10 @@ bytes_in size pages e = bytes_from size pages (room_of e.value) e.start
 -- each word of the entry's record is its own or 0, and one is not its own
 pub record IsTorn (size : ℕ) (pages : Pages) (e : Entry) (prev : ℕ) : Type 0 where
   pub words : (k : ℕ) → 8 * k < room_of e.value
-      → (word_at (bytes_in size pages e) k ≡ word_at (filled (assembled e.value) prev) k)
+      → (word_at (bytes_in size pages e) k ≡ word_at (filled_spelling e.value prev) k)
       ⊎ (word_at (bytes_in size pages e) k ≡ 0)
   pub missing : (k : ℕ) × (8 * k < room_of e.value)
-      × (word_at (bytes_in size pages e) k ≢ word_at (filled (assembled e.value) prev) k)
+      × (word_at (bytes_in size pages e) k ≢ word_at (filled_spelling e.value prev) k)
 
 -- the reader sees that it is torn: its first word is 0, it names another record before it, or the
 -- CRC that stands there is not that of its bytes
