@@ -1,8 +1,9 @@
 -- The record of a commit that was told to be durable was promised to be so.
-use Rattle.std.proofs.Common.{ℕ, ◌++◌, Option, sym}
+use Rattle.std.proofs.Common.{ℕ, ◌++◌, Option, sym, ap, ◌∙◌}
 use Rattle.std.proofs.lemmas.List.Elements.{Contains-append_right}
 use Rattle.segment_disk.specs.Tape.{Tape}
-use Rattle.wal_page.specs.Order.{finish_of}
+use Rattle.wal_spelling.specs.Spelling.{assembled}
+use Rattle.wal_page.specs.Order.{Entry, finish_of}
 use Rattle.written_log_laws.specs.Written.{found_entry}
 use Rattle.wal_rule.specs.Passes.{view_of_pass}
 use Rattle.wal_log.specs.Logs.{opening_of_log, setup_of_log}
@@ -34,6 +35,7 @@ module _ {D : Type 0} (tape : D → Option Tape) (moment faults : D → ℕ) whe
         found_entry size there.0 s.entry,
         sym s.start_is,
         sym s.end_is,
+        ap (λ (e : Entry). assembled e.value) s.own.entry_is ∙ s.own.of_body,
         (
           there.1,
           (told.0).entries,

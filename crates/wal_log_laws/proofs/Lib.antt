@@ -8,3 +8,4 @@ pub mod Promised
 pub mod Closes
 pub mod Survivors
 pub mod LoneCalls
+pub mod LoneOrders

@@ -4,7 +4,7 @@ use Rattle.std.specs.Prelude.{IsSome}
 use Rattle.std.proofs.lemmas.List.{length-append, take_all}
 use Rattle.std.proofs.lemmas.List.Elements.{All-cons, All-head, All-nil}
 use Rattle.std.proofs.lemmas.Bool.{cases_lt}
-use Rattle.wal_spelling.specs.Spelling.{Assembled}
+use Rattle.wal_spelling.specs.Spelling.{Assembled, assembled}
 use Rattle.wal_types.specs.declared.answers.Sealed.{Sealed}
 use Rattle.segment_disk.specs.declared.disk.Call.{Call}
 use Rattle.segment_disk.specs.DiskImage.{image_as_read}
@@ -115,6 +115,7 @@ module _ {D : Type 0} (tape : D → Option Tape) (moment faults : D → ℕ)
   -- ---- the life
 
   commit : (f : FoundRecord) × (f.start.0 ≡ sealed.start.0) × (f.end.0 ≡ sealed.end.0)
+      × (assembled f.value ≡ body)
       × IsPromisedDurable (setup_of_log wal).seg_size
       (length (behind.0).calls + sealed.moment)
       (order_of tape moment faults wal pass closed closes) (view_of_pass pass) f
@@ -124,7 +125,7 @@ module _ {D : Type 0} (tape : D → Option Tape) (moment faults : D → ℕ)
   promised : IsPromisedDurable setup.seg_size (length (behind.0).calls + sealed.moment)
       (order_of tape moment faults wal pass closed closes) (view_of_pass pass) commit.0
   promised = subst (λ (x : Setup). IsPromisedDurable x.seg_size at its_order
-      (view_of_pass pass) commit.0) setup_is commit.3
+      (view_of_pass pass) commit.0) setup_is commit.4
 
   module _ (none_torn : NoTornPass setup.seg_size
       (pages_in setup.seg_size (image_as_read (state_now behind.0)))
@@ -184,7 +185,7 @@ module _ {D : Type 0} (tape : D → Option Tape) (moment faults : D → ℕ)
           All-head (Contains (found_of setup.seg_size is.0)) commit.0 [] is.4.has,
         )
 
-  pub finds_commit : FindsCommit tape moment faults setup again next found sealed
+  pub finds_commit : FindsCommit tape moment faults setup body again next found sealed
   finds_commit = record {
     wal = wal;
     pass = pass;
@@ -196,6 +197,7 @@ module _ {D : Type 0} (tape : D → Option Tape) (moment faults : D → ℕ)
     commit = commit.0;
     start_is = commit.1;
     end_is = commit.2;
+    body_is = commit.3;
     in_order = promised.0;
     found = finds;
   }

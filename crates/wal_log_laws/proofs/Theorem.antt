@@ -1,8 +1,9 @@
 -- Over all lives of a log what was promised to be durable is kept.
-use Rattle.std.proofs.Common.{◌≡◌, ℕ, All, List, [], ◌++◌, length, Option, IfSome, sym, ap, subst, ◌∙◌}
+use Rattle.std.proofs.Common.{◌≡◌, ℕ, All, List, [], ◌++◌, length, Option, IfSome, sym, ap, subst, ◌∙◌, arith}
 use Rattle.std.specs.Prelude.{IsSome}
 use Rattle.std.proofs.lemmas.List.Elements.{All-nil}
 use Rattle.segment_disk.specs.Tape.{Tape, state_now}
+use Rattle.byte_position.specs.Position.{first_position}
 use Rattle.wal_page.specs.Order.{Entry}
 use Rattle.wal_reader.specs.declared.found.FoundRecord.{FoundRecord}
 use Rattle.wal_reader.specs.declared.found.Stopped.{Stopped}
@@ -31,6 +32,7 @@ use Rattle.reopened_log_laws.proofs.KeptRecords.{IsSureRecord}
 use Rattle.reopened_log_laws.proofs.OwnAnswers.{left_logs_are_not_foreign}
 use Rattle.wal_log_laws.specs.History.{WalHistory, IsHandedIn, opens, reopens, ends_reopening, fails_to_reopen, starts_empty, order_of, rests}
 use Rattle.wal_log_laws.specs.Lives.{KeepsPromised, PromisedRecordsStay, ThreeLivesKeepPromised}
+use Rattle.wal_log_laws.proofs.LoneOrders.{starts_rise}
 use Rattle.wal_log_laws.proofs.Lives.{at_some, begins_keeps, continues_keeps, ends_reopening_keeps, fails_to_reopen_keeps, lies_as_asked, place_as_asked, rests_keeps}
 
 module _ {D : Type 0} (tape : D → Option Tape) (moment faults : D → ℕ)
@@ -112,6 +114,8 @@ module _ {D : Type 0} (tape : D → Option Tape) (moment faults : D → ℕ)
 
     keeps_hard : KeepsPromised tape moment faults size sysid t left.order hard
     keeps_hard = record {
+      apart = starts_rise size 0 (first_position size) 0 left.order left.has_found.may.valid
+          left.has_found.may.chained (omega arith);
       reads = sure_reads size sysid t found left hard kept;
       crash = sure_crash size sysid t found left hard kept;
       not_foreign = refused_at;

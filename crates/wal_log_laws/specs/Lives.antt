@@ -1,9 +1,9 @@
 -- One theorem over all lives of a log that a program embeds: a record that was promised to be
 -- durable is in the log for ever, through any number of openings, crashes, kills, failed disks and
 -- reopenings.
-use Rattle.std.specs.Prelude.{◌≡◌, ℕ, ◌^◌, ◌<◌, ◌≤◌, All, List, ◌++◌, length, Option, IsSome, Some}
+use Rattle.std.specs.Prelude.{◌≡◌, ℕ, ◌+◌, ◌^◌, ◌<◌, ◌≤◌, All, List, [], ◌∷◌, ◌++◌, length, Option, IsSome, Some}
 use Rattle.byte_position.specs.Geometry.{IsSegmentSize}
-use Rattle.wal_spelling.specs.Spelling.{Assembled}
+use Rattle.wal_spelling.specs.Spelling.{Assembled, assembled}
 use Rattle.wal_types.specs.declared.answers.Sealed.{Sealed}
 use Rattle.segment_disk.specs.DiskImage.{DiskImage, MayLeave}
 use Rattle.segment_disk.specs.Tape.{Tape, state_now}
@@ -35,10 +35,17 @@ use Rattle.reopened_log_laws.specs.FoundFirst.{AreFoundEntries}
 use Rattle.reopened_log_laws.specs.Lives.{IsFrontWith}
 use Rattle.wal_log_laws.specs.History.{BeginsWal, ContinuesWal, WalHistory, IsHandedIn, IsPromisedDurable, order_of}
 
+-- the first record starts at an address or behind it, and each other one behind the one before it
+abbrev pub StartsRise : ℕ → List FoundRecord → Type 0
+StartsRise low [] = Unit {0}
+StartsRise low (r ∷ records) = (low ≤ r.start.0) × StartsRise (r.start.0 + 1) records
+
 module _ {D : Type 0} (tape : D → Option Tape) (moment faults : D → ℕ) where
   pub record KeepsPromised (size sysid : ℕ) (t : Tape) (order : List Entry)
       (hard : List FoundRecord) : Type 0 where
-    -- the reader finds a front of the log on the disk, each record whole, with all that was
+    -- no two of the log's records start at one address
+    pub apart : StartsRise 0 (found_of size order)
+    -- The reader finds a front of the log on the disk, each record whole, with all that was
     -- promised,
     pub reads : (records : List FoundRecord) → FindsRecords size (log_of t size) size records
         → IsFrontWith size order hard records
@@ -76,8 +83,9 @@ module _ {D : Type 0} (tape : D → Option Tape) (moment faults : D → ℕ) whe
       → KeepsPromised size sysid t order hard
 
   -- of each commit that was told to be durable by a moment, where the closing pass has the log of
-  -- the commit's pass, grown since, the record that its receipt names was promised to be durable:
-  -- that of the log which goes on behind these entries, whichever they are
+  -- the commit's pass, grown since, the record that its receipt names is the one that was
+  -- committed, and was promised to be durable: that of the log which goes on behind these entries,
+  -- whichever they are
   abbrev pub CommitsArePromised : Type 0
   CommitsArePromised =
       (wal : Wal D) (front : List Entry) (pass : Pass) (closed : Closed D)
@@ -85,8 +93,17 @@ module _ {D : Type 0} (tape : D → Option Tape) (moment faults : D → ℕ) whe
       (sealed : Sealed) (at : ℕ) → IsSealed (setup_of_log wal) body old new sealed
       → HasGrown (log_of_pass new) (view_of_pass pass) → sealed.moment ≤ at
       → (r : FoundRecord) × (r.start.0 ≡ sealed.start.0) × (r.end.0 ≡ sealed.end.0)
+      × (assembled r.value ≡ body)
       × IsPromisedDurable (setup_of_log wal).seg_size at
       (front ++ order_of tape moment faults wal pass closed c) (view_of_pass pass) r
+
+  -- where the closing pass took no other one in, what was reserved are its own entries
+  abbrev pub LonePassesMakeTheOrder : Type 0
+  LonePassesMakeTheOrder =
+      (wal : Wal D) (pass : Pass) (closed : Closed D)
+      (c : ClosesLog tape moment faults wal pass closed)
+      → ((view_of_pass pass).reserving).joined ≡ []
+      → order_of tape moment faults wal pass closed c ≡ (log_of_pass (view_of_pass pass)).entries
 
   -- so three lives of a log have all that was promised in any of them, each of which may have been
   -- killed or ended by a crash

@@ -1,5 +1,6 @@
 -- That a commit is found where its log is reopened.
 use Rattle.std.specs.Prelude.{◌≡◌, ℕ, Contains, List, Option, Some}
+use Rattle.wal_spelling.specs.Spelling.{Assembled, assembled}
 use Rattle.wal_types.specs.declared.answers.Sealed.{Sealed}
 use Rattle.segment_disk.specs.DiskImage.{image_as_read}
 use Rattle.segment_disk.specs.Tape.{Tape, state_now}
@@ -21,11 +22,12 @@ use Rattle.reopened_log_laws.specs.FoundFirst.{AreFoundEntries}
 use Rattle.wal_log_laws.specs.History.{order_of}
 
 -- a log was closed, and reopened on the disk that came back, which told this tape then; the closed
--- order has a record at the place that a commit told. If no torn record passed its CRC as the disk
--- was read then, the entries of the records that the reader finds there lie below the place of the
--- reopening, and have it too
+-- order has the record of a commit, at the place that this told. If no torn record passed its CRC as
+-- the disk was read then, the entries of the records that the reader finds there lie below the place
+-- of the reopening, and have it too
 pub record FindsCommit {D : Type 0} (tape : D → Option Tape) (moment faults : D → ℕ)
-    (setup : Setup) (again : Wal D) (first : Pass) (met : Found) (sealed : Sealed) : Type 0 where
+    (setup : Setup) (body : Assembled) (again : Wal D) (first : Pass) (met : Found)
+    (sealed : Sealed) : Type 0 where
   pub wal : Wal D
   pub pass : Pass
   pub closed : Closed D
@@ -36,6 +38,7 @@ pub record FindsCommit {D : Type 0} (tape : D → Option Tape) (moment faults : 
   pub commit : FoundRecord
   pub start_is : commit.start.0 ≡ sealed.start.0
   pub end_is : commit.end.0 ≡ sealed.end.0
+  pub body_is : assembled commit.value ≡ body
   pub in_order : Contains (found_of setup.seg_size
       (order_of tape moment faults wal pass closed closes)) commit
   pub found : NoTornPass setup.seg_size

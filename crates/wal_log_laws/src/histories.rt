@@ -1,4 +1,4 @@
-ghost use Rattle.wal_log_laws.specs.Lives.{CommitsArePromised, PromisedRecordsStay, ThreeLivesKeepPromised};
+ghost use Rattle.wal_log_laws.specs.Lives.{CommitsArePromised, LonePassesMakeTheOrder, PromisedRecordsStay, ThreeLivesKeepPromised};
 
 use segment_disk::Disk;
 
@@ -9,9 +9,14 @@ pub fn promised_records_stay<D: Disk>()
 {}
 
 /// A law: of each commit that was told to be durable by a moment, the record that its receipt names
-/// is one of these.
+/// is one of these, and is the one that was committed.
 pub fn commits_are_promised<D: Disk>()
     ensures { CommitsArePromised D.tape D.moment D.faults }
+{}
+
+/// A law: where the closing pass took no other one in, the log has its entries alone.
+pub fn lone_passes_make_the_order<D: Disk>()
+    ensures { LonePassesMakeTheOrder D.tape D.moment D.faults }
 {}
 
 /// A caller of the law who has nothing but clauses of `Wal`, for three lives.

@@ -9,6 +9,9 @@ mod one_commit;
 mod one_reopening;
 pub mod unhindered;
 
-pub use histories::{commits_are_promised, promised_records_stay, three_lives_keep_promised};
+pub use histories::{
+    commits_are_promised, lone_passes_make_the_order, promised_records_stay,
+    three_lives_keep_promised,
+};
 pub use one_commit::commit_one;
 pub use one_reopening::commit_and_reopen;

@@ -30,7 +30,7 @@ pub fn commit_and_reopen<D: Disk + Drop, R: Wait>(
     requires tells { IsSome (D.tape disk) }
     requires inserted { is_assembled_switch body.now ≡ false }
     ensures { IfSome result
-        (λ r. FindsCommit D.tape D.moment D.faults setup r.1 r.2 r.3 r.0) }
+        (λ r. FindsCommit D.tape D.moment D.faults setup body.now r.1 r.2 r.3 r.0) }
 {
     seats_keep_numbers();
     calls_keep_numbers();
