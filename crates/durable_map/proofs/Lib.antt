@@ -1,5 +1,9 @@
+pub mod Begun
 pub mod Changed
+pub mod Fronts
 pub mod Keys
+pub mod Logged
+pub mod MapLives
 pub mod Mains
 pub mod ReadLaws
 pub mod Spelled

@@ -1,4 +1,6 @@
 pub mod Changes
+pub mod History
+pub mod Lives
 pub mod Opening
 pub mod Reading
 pub mod Records

@@ -71,10 +71,11 @@ map_held map = map_in map.entries
 abbrev pub Holds : {D : Type 0} → DurableMap D → List MapChange → Type 0
 Holds map changes = AreOf changes map.entries
 
--- between two calls its pass is about nothing, and has all numbers of its log
+-- between two calls its pass is about nothing, has all numbers of its log, and took no other one in
 pub record IsOpenMap {D : Type 0} (map : DurableMap D) : Type 0 where
   pub pass : IsPassOfLog map.log map.pass
   pub numbers : ShareNumbers (setup_of_log map.log).passes (view_under map) []
+  pub alone : ((view_under map).reserving).joined ≡ []
 
 -- ---- what a change is answered
 
@@ -93,7 +94,8 @@ abbrev pub Refuses : {D : Type 0} → MapChange → DurableMap D → DurableMap 
 Refuses change old new Memory = view_under new ≡ view_under old
 Refuses change old new TooLong = (IsLoggable change → ⊥) × (view_under new ≡ view_under old)
 Refuses change old new (Refused refused) =
-    RefusesCommit (setup_of_log old.log) (assembled (change_record change)) (view_under old)
+    IsLoggable change
+    × RefusesCommit (setup_of_log old.log) (assembled (change_record change)) (view_under old)
     (view_under new) refused.cause refused.reserved
 
 abbrev pub AnswersChange : {D : Type 0} → MapChange → DurableMap D → DurableMap D

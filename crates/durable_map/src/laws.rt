@@ -4,12 +4,16 @@ ghost use Rattle.std.specs.Prelude.{◌≡◌, List, Result};
 ghost use Rattle.wal_types.specs.declared.answers.Sealed.{Sealed};
 ghost use Rattle.wal_types.specs.declared.record.Record.{Record};
 ghost use Rattle.durable_map.specs.Changes.{MapChange};
+ghost use Rattle.durable_map.specs.Lives.{AnsweredChangesStay};
 ghost use Rattle.durable_map.specs.Records.{IsLoggable, SaysChange, change_record};
 ghost use Rattle.durable_map.specs.Stores.{AnswersChange, Holds, changes_behind};
 ghost use Rattle.durable_map.specs.declared.fault.ChangeErr.{ChangeErr};
 ghost use Rattle.durable_map.specs.declared.store.DurableMap.{DurableMap};
 
 use segment_disk::Disk;
+use wal_log_laws::laws::logs_only_grow;
+use wal_log_laws::{commits_are_promised, lone_passes_make_the_order, promised_records_stay};
+use wal_reader::{decoding_is_settled, finding_is_decoding};
 
 /// Each change that can be logged is said by its record, and a record says one change at most: so
 /// what is read of a record is what was spelled.
@@ -27,3 +31,17 @@ pub fn changes_grow_by_one<D: Disk>()
         (answer : Result Sealed ChangeErr) → AnswersChange change old new answer
         → Holds old changes → Holds new (changes_behind change changes answer) }
 {}
+
+/// The law: behind any number of openings, crashes, kills and failed disks the map that an opening
+/// gives is that of a front of all changes that were begun, in their order, and this front holds
+/// each one that was answered Ok.
+pub fn answered_changes_stay<D: Disk>()
+    ensures { AnsweredChangesStay D.tape D.moment D.faults }
+{
+    promised_records_stay::<D>();
+    commits_are_promised::<D>();
+    lone_passes_make_the_order::<D>();
+    logs_only_grow::<D>();
+    finding_is_decoding();
+    decoding_is_settled();
+}

@@ -103,7 +103,8 @@ module _ {D : Type 0} (tape : D → Option Tape) (moment faults : D → ℕ) whe
       (wal : Wal D) (pass : Pass) (closed : Closed D)
       (c : ClosesLog tape moment faults wal pass closed)
       → ((view_of_pass pass).reserving).joined ≡ []
-      → order_of tape moment faults wal pass closed c ≡ (log_of_pass (view_of_pass pass)).entries
+      → order_of tape moment faults wal pass closed c
+      ≡ (log_of_pass (view_of_pass pass)).entries
 
   -- so three lives of a log have all that was promised in any of them, each of which may have been
   -- killed or ended by a crash

@@ -22,9 +22,9 @@ use Rattle.reopened_log_laws.specs.FoundFirst.{AreFoundEntries}
 use Rattle.wal_log_laws.specs.History.{order_of}
 
 -- a log was closed, and reopened on the disk that came back, which told this tape then; the closed
--- order has the record of a commit, at the place that this told. If no torn record passed its CRC as
--- the disk was read then, the entries of the records that the reader finds there lie below the place
--- of the reopening, and have it too
+-- order has a commit's record, at the place that this told. If no torn record passed its CRC as the
+-- disk was read then, the entries of the records that the reader finds there lie below the place of
+-- the reopening, and have it too
 pub record FindsCommit {D : Type 0} (tape : D → Option Tape) (moment faults : D → ℕ)
     (setup : Setup) (body : Assembled) (again : Wal D) (first : Pass) (met : Found)
     (sealed : Sealed) : Type 0 where

@@ -1,3 +1,4 @@
+use Rattle.std.proofs.Common.{◌∙◌}
 use Rattle.wal_rule.specs.Passes.{view_of_pass}
 use Rattle.wal_log.specs.Logs.{setup_of_log}
 use Rattle.durable_map.proofs.store.DurableMap.commit.Goals as goal
@@ -12,4 +13,5 @@ returns-clause-kept g c =
       pass = c.commit.ensures.pass;
       numbers = c.passes_share_numbers.ensures.none passes new (λ number low.
           c.calls_keep_numbers.ensures old new c.commit.ensures.keeps number (all number low));
+      alone = c.commit.ensures.keeps.joined ∙ c.requires.kept.alone;
     }

@@ -1,0 +1,246 @@
+-- What a map's calls add to the log of its pass.
+use Rattle.std.proofs.Common.{◌≡◌, ℕ, ◌≤◌, List, [], ◌∷◌, ◌++◌, append_assoc, Option, Some, None, Result, Ok, Err, inl, refl, sym, ap, subst, ◌∙◌}
+use Rattle.std.proofs.lemmas.List.{append-nil}
+use Rattle.wal_spelling.specs.Spelling.{Assembled, assembled}
+use Rattle.wal_types.specs.declared.answers.Cause.{Cause}
+use Rattle.wal_types.specs.declared.answers.Cause.TheVariants as causes
+use Rattle.wal_types.specs.declared.answers.Refused.{Refused}
+use Rattle.wal_types.specs.declared.answers.Sealed.{Sealed}
+use Rattle.wal_types.specs.declared.lsn.Lsn.{Lsn}
+use Rattle.wal_page.specs.Order.{Entry}
+use Rattle.machine_state.specs.declared.setup.Setup.{Setup}
+use Rattle.machine_state.specs.Views.{View}
+use Rattle.wal_log.specs.declared.wal.Wal.{Wal}
+use Rattle.wal_log.specs.Committing.{AnswersCommit, IsSealed, RefusesCommit}
+use Rattle.wal_log.specs.Inserting.{IsOwnEntry, IsStarted}
+use Rattle.wal_log.specs.Logs.{setup_of_log}
+use Rattle.wal_log.specs.PassLogs.{PassLog, log_of_pass}
+use Rattle.wal_log_laws.specs.Growing.{GrowsTo, HasGrown}
+use Rattle.durable_map.specs.Changes.{MapChange}
+use Rattle.durable_map.specs.History.{AnswersCall, ChangeCall, HasCalled, WasAnswered, begun_at, begun_by, begun_in}
+use Rattle.durable_map.specs.Records.{IsLoggable, SaysChange, change_record}
+use Rattle.durable_map.specs.Stores.{AnswersChange, IsOpenMap, log_under, view_under}
+use Rattle.durable_map.specs.declared.fault.ChangeErr.{ChangeErr}
+use Rattle.durable_map.specs.declared.fault.ChangeErr.TheVariants as changes
+use Rattle.durable_map.specs.declared.store.DurableMap.{DurableMap}
+use Rattle.durable_map.proofs.Fronts.{SayEach, say_each_append}
+use Rattle.durable_map.proofs.Logged.{says_own}
+
+abbrev pub entries_of : View → List Entry
+entries_of v = (log_of_pass v).entries
+
+abbrev entries_in : PassLog → List Entry
+entries_in l = l.entries
+
+-- a pass's entries grew by those of some changes
+abbrev AddsChanges : View → View → List MapChange → Type 0
+AddsChanges old new changes =
+    (more : List Entry) × (entries_of new ≡ entries_of old ++ more) × SayEach more changes
+
+-- ---- one call
+
+none_added : (old new : View) → entries_of new ≡ entries_of old → AddsChanges old new []
+none_added old new same = ([], same ∙ sym (append-nil (entries_of old)), tt)
+
+says_entry : (setup : Setup) (change : MapChange) (old : View) (e : Entry) → IsLoggable change
+    → IsOwnEntry setup (assembled (change_record change)) old e → SaysChange e.value change
+says_entry setup change old e loggable own =
+    subst (λ (x : Entry). SaysChange x.value change) (sym own.entry_is)
+    (says_own own.value change own.logged loggable own.of_body)
+
+one_added : (setup : Setup) (change : MapChange) (old new : View) (e : Entry) → IsLoggable change
+    → IsOwnEntry setup (assembled (change_record change)) old e
+    → entries_of new ≡ entries_of old ++ e ∷ [] → AddsChanges old new (change ∷ [])
+one_added setup change old new e loggable own is =
+    (e ∷ [], is, (says_entry setup change old e loggable own, tt))
+
+started : (setup : Setup) (change : MapChange) (old new : View) (start : ℕ) → IsLoggable change
+    → IsStarted setup (assembled (change_record change)) old new start
+    → AddsChanges old new (change ∷ [])
+started setup change old new start loggable is =
+    one_added setup change old new is.entry loggable is.reserved.own
+    (ap entries_in is.reserved.log_is)
+
+refused_added : (setup : Setup) (change : MapChange) (old new : View) (cause : Cause)
+    (reserved : Option Lsn) → IsLoggable change
+    → RefusesCommit setup (assembled (change_record change)) old new cause reserved
+    → AddsChanges old new (begun_at change reserved)
+refused_added setup change old new (causes.Full free) None loggable refuses =
+    none_added old new (ap entries_in (refuses.0).log_is)
+refused_added setup change old new (causes.Full free) (Some start) loggable refuses =
+    absurd refuses
+refused_added setup change old new (causes.Disk faults) None loggable refuses = absurd refuses
+refused_added setup change old new (causes.Disk faults) (Some start) loggable refuses =
+    started setup change old new start.0 loggable refuses.0
+refused_added setup change old new (causes.Down faults) None loggable refuses =
+    none_added old new (ap entries_in refuses.0)
+refused_added setup change old new (causes.Down faults) (Some start) loggable refuses =
+    started setup change old new start.0 loggable refuses.0
+
+-- ---- two calls
+
+adds_on : (a b c : View) (xs ys : List MapChange) → AddsChanges a b xs → AddsChanges b c ys
+    → AddsChanges a c (xs ++ ys)
+adds_on a b c xs ys first second = (
+  first.0 ++ second.0,
+  second.1 ∙ ap (λ (es : List Entry). es ++ second.0) first.1
+      ∙ append_assoc (entries_of a) first.0 second.0,
+  say_each_append first.0 second.0 xs ys first.2 second.2,
+)
+
+same_grows : ((l : PassLog) → GrowsTo l l) → (old new : View) → new ≡ old
+    → GrowsTo (log_of_pass old) (log_of_pass new)
+same_grows stays old new same = subst (λ (v : View). GrowsTo (log_of_pass old) (log_of_pass v))
+    (sym same) (stays (log_of_pass old))
+
+-- ---- of a map
+
+module _ {D : Type 0} where
+  one_call : (change : MapChange) (old new : DurableMap D) (answer : Result Sealed ChangeErr)
+      → AnswersChange change old new answer
+      → AddsChanges (view_under old) (view_under new) (begun_by change answer)
+  one_call change old new (Ok sealed) answers =
+      one_added (setup_of_log (log_under old)) change (view_under old) (view_under new)
+      (answers.told).entry answers.loggable (answers.told).own
+      (ap entries_in (answers.told).log_is)
+  one_call change old new (Err changes.Memory) answers =
+      none_added (view_under old) (view_under new) (ap entries_of answers.0)
+  one_call change old new (Err changes.TooLong) answers =
+      none_added (view_under old) (view_under new) (ap entries_of (answers.0).1)
+  one_call change old new (Err (changes.Refused refused)) answers =
+      refused_added (setup_of_log (log_under old)) change (view_under old) (view_under new)
+      refused.cause refused.reserved (answers.0).0 (answers.0).1
+
+  -- ---- calls
+
+  pub all_added : (calls : List ChangeCall) (first last : DurableMap D)
+      → HasCalled calls first last
+      → AddsChanges (view_under first) (view_under last) (begun_in calls)
+  all_added [] first last called =
+      none_added (view_under first) (view_under last)
+      (ap (λ (map : DurableMap D). entries_of (view_under map)) called)
+  all_added (call ∷ calls) first last called =
+      adds_on (view_under first) (view_under called.0) (view_under last)
+      (begun_by call.change call.answer) (begun_in calls)
+      (one_call call.change first called.0 call.answer (called.1).answers)
+      (all_added calls called.0 last called.2)
+
+  pub same_log : (calls : List ChangeCall) (first last : DurableMap D)
+      → HasCalled calls first last → log_under last ≡ log_under first
+  same_log [] first last called = ap (λ (map : DurableMap D). log_under map) called
+  same_log (call ∷ calls) first last called =
+      same_log calls called.0 last called.2 ∙ (called.1).log
+
+  pub still_open : (calls : List ChangeCall) (first last : DurableMap D)
+      → HasCalled calls first last → IsOpenMap first → IsOpenMap last
+  still_open [] first last called kept =
+      subst (λ (map : DurableMap D). IsOpenMap map) (sym called) kept
+  still_open (call ∷ calls) first last called kept =
+      still_open calls called.0 last called.2 (called.1).kept
+
+  -- those before a call, it, and those behind it
+  split_calls : (before : List ChangeCall) (call : ChangeCall) (others : List ChangeCall)
+      (first last : DurableMap D) → HasCalled (before ++ call ∷ others) first last
+      → (old new : DurableMap D) × HasCalled before first old × AnswersCall call old new
+      × HasCalled others new last
+  split_calls [] call others first last called =
+      (first, called.0, refl, called.1, called.2)
+  split_calls (one ∷ before) call others first last called =
+      let rest = split_calls before call others called.0 last called.2 in
+      (rest.0, rest.1, (called.0, called.1, rest.2), rest.3, rest.4)
+
+  -- ---- a call that was answered
+
+  -- a commit of this log told by a moment that an entry is durable, which the last pass has; up to
+  -- it these changes are said
+  pub record IsCommitted (first last : DurableMap D) (at : ℕ) (changes : List MapChange) : Type 0
+    where
+      pub setup : Setup
+      pub same : setup_of_log (log_under last) ≡ setup
+      pub body : Assembled
+      pub old : View
+      pub new : View
+      pub sealed : Sealed
+      pub by : sealed.moment ≤ at
+      pub told : IsSealed setup body old new sealed
+      pub grown : HasGrown (log_of_pass new) (view_under last)
+      pub more : List Entry
+      pub rest : List Entry
+      pub entries : entries_of (view_under last)
+          ≡ entries_of (view_under first) ++ (more ++ told.entry ∷ rest)
+      pub said : SayEach (more ++ told.entry ∷ []) changes
+
+  module _ (commits : (setup : Setup) (body : Assembled) (old new : View)
+      (answer : Result Sealed Refused) → AnswersCommit setup body old answer new
+      → GrowsTo (log_of_pass old) (log_of_pass new))
+      (stays : (l : PassLog) → GrowsTo l l)
+      (again : (one two three : PassLog) → GrowsTo one two → GrowsTo two three
+      → GrowsTo one three) where
+    one_grows : (change : MapChange) (old new : DurableMap D) (answer : Result Sealed ChangeErr)
+        → AnswersChange change old new answer
+        → GrowsTo (log_of_pass (view_under old)) (log_of_pass (view_under new))
+    one_grows change old new (Ok sealed) answers =
+        commits (setup_of_log (log_under old)) (assembled (change_record change))
+        (view_under old) (view_under new) (Ok sealed) answers.told
+    one_grows change old new (Err changes.Memory) answers =
+        same_grows stays (view_under old) (view_under new) answers.0
+    one_grows change old new (Err changes.TooLong) answers =
+        same_grows stays (view_under old) (view_under new) (answers.0).1
+    one_grows change old new (Err (changes.Refused refused)) answers =
+        commits (setup_of_log (log_under old)) (assembled (change_record change))
+        (view_under old) (view_under new) (Err refused) (answers.0).1
+
+    all_grow : (calls : List ChangeCall) (first last : DurableMap D) → HasCalled calls first last
+        → GrowsTo (log_of_pass (view_under first)) (log_of_pass (view_under last))
+    all_grow [] first last called =
+        subst (λ (map : DurableMap D).
+        GrowsTo (log_of_pass (view_under first)) (log_of_pass (view_under map))) (sym called)
+        (stays (log_of_pass (view_under first)))
+    all_grow (call ∷ calls) first last called =
+        again (log_of_pass (view_under first)) (log_of_pass (view_under called.0))
+        (log_of_pass (view_under last))
+        (one_grows call.change first called.0 call.answer (called.1).answers)
+        (all_grow calls called.0 last called.2)
+
+    pub committed : (calls : List ChangeCall) (first last : DurableMap D) (at : ℕ)
+        (found upto : List MapChange) → HasCalled calls first last
+        → (a : WasAnswered at found calls upto)
+        → IsCommitted first last at (begun_in a.before ++ a.change ∷ [])
+    committed calls first last at found upto called a =
+        let call : ChangeCall = record { change = a.change; answer = Ok a.sealed } in
+        let parts = split_calls a.before call a.others first last
+        (subst (λ (cs : List ChangeCall). HasCalled cs first last) a.are called) in
+        let old = view_under parts.0 in
+        let new = view_under parts.1 in
+        let answers = (parts.3).answers in
+        let e = (answers.told).entry in
+        let added = all_added a.before first parts.0 parts.2 in
+        let behind = all_added a.others parts.1 last parts.4 in
+        let logs = same_log a.others parts.1 last parts.4 ∙ (parts.3).log in
+        record {
+          setup = setup_of_log (log_under parts.0);
+          same = ap (λ (wal : Wal D). setup_of_log wal) logs;
+          body = assembled (change_record a.change);
+          old = old;
+          new = new;
+          sealed = a.sealed;
+          by = a.by;
+          told = answers.told;
+          grown = (
+            log_of_pass (view_under last),
+            all_grow a.others parts.1 last parts.4,
+            inl refl,
+          );
+          more = added.0;
+          rest = behind.0;
+          entries = behind.1
+              ∙ ap (λ (es : List Entry). es ++ behind.0) (ap entries_in (answers.told).log_is)
+              ∙ append_assoc (entries_of old) (e ∷ []) behind.0
+              ∙ ap (λ (es : List Entry). es ++ (e ∷ behind.0)) added.1
+              ∙ append_assoc (entries_of (view_under first)) added.0 (e ∷ behind.0);
+          said = say_each_append added.0 (e ∷ []) (begun_in a.before) (a.change ∷ []) added.2 (
+            says_entry (setup_of_log (log_under parts.0)) a.change old e answers.loggable
+                (answers.told).own,
+            tt,
+          );
+        }

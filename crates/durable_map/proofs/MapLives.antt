@@ -1,0 +1,555 @@
+-- Over all lives of a map what was answered Ok is kept.
+use Rattle.std.proofs.Common.{◌≡◌, ◌⊎◌, ℕ, ◌≤◌, All, Contains, List, [], ◌∷◌, ◌++◌, append_assoc, drop, length, take, Option, Some, None, Result, IfSome, inl, inr, sym, ap, subst, ◌∙◌, arith}
+use Rattle.std.proofs.lemmas.List.{take-append-drop}
+use Rattle.std.proofs.lemmas.List.Elements.{All-append, All-cons, All-contains, All-head, All-nil, All-tail, All-weaker, Contains-append_left, Contains-append_right, Contains-push}
+use Rattle.byte_position.specs.Geometry.{IsSegmentSize}
+use Rattle.segment_disk.specs.DiskImage.{image_as_read}
+use Rattle.segment_disk.specs.Tape.{IsUncalled, Tape, state_now}
+use Rattle.wal_spelling.specs.Spelling.{Assembled}
+use Rattle.wal_types.specs.declared.answers.Refused.{Refused}
+use Rattle.wal_types.specs.declared.answers.Sealed.{Sealed}
+use Rattle.wal_page.specs.Order.{Entry, finish_of, prev_of, start_of}
+use Rattle.wal_reader.specs.Cache.{log_of}
+use Rattle.wal_reader.specs.Finds.{FindingIsDecoding, FindsRecords}
+use Rattle.wal_reader.specs.Settled.{DecodingIsSettled}
+use Rattle.wal_reader.specs.declared.found.FoundRecord.{FoundRecord}
+use Rattle.written_log_laws.specs.Written.{found_entry, found_from, found_of}
+use Rattle.machine_state.specs.declared.setup.Setup.{Setup}
+use Rattle.machine_state.specs.Views.{View}
+use Rattle.machine_state.specs.Words.{Opening}
+use Rattle.wal_log.specs.declared.wal.Wal.{Wal}
+use Rattle.wal_log.specs.Committing.{AnswersCommit, IsSealed}
+use Rattle.wal_log.specs.Logs.{setup_of_log}
+use Rattle.wal_log.specs.PassLogs.{PassLog, log_of_pass}
+use Rattle.wal_log.specs.Reopening.{IsReopened, TellsReopenFault}
+use Rattle.wal_log.specs.declared.opening.OpenFaultKind.{OpenFaultKind}
+use Rattle.reopened_log_laws.specs.Lives.{IsFrontWith, LifeEndsAt}
+use Rattle.wal_log_laws.specs.Growing.{GrowsTo, IsFrontOf}
+use Rattle.wal_log_laws.specs.History.{ContinuesWal, IsHandedIn, IsLived, IsPromisedDurable, WalHistory, order_of}
+use Rattle.wal_log_laws.specs.History as wal_lives
+use Rattle.wal_log_laws.specs.Lives.{CommitsArePromised, LonePassesMakeTheOrder, PromisedRecordsStay, StartsRise}
+use Rattle.durable_map.specs.Changes.{MapChange}
+use Rattle.durable_map.specs.History.{EndsOpening, FailsToOpen, LivesMap, MapHistory, WasAnswered, begun_in}
+use Rattle.durable_map.specs.History.{starts_empty, lives, ends_opening, fails_to_open, rests}
+use Rattle.durable_map.specs.Lives.{AnsweredChangesStay}
+use Rattle.durable_map.specs.Opening.{AreSaid, IsAllOfLog, OpensMap, TellsMapFault}
+use Rattle.durable_map.specs.Stores.{log_under, view_under}
+use Rattle.durable_map.specs.declared.fault.MapFaultKind.{MapFaultKind}
+use Rattle.durable_map.specs.declared.fault.MapFaultKind.TheVariants.{Memory, Disk, Foreign, Log}
+use Rattle.durable_map.specs.declared.store.DurableMap.{DurableMap}
+use Rattle.durable_map.proofs.Begun.{IsCommitted, all_added, committed, entries_of, same_log, still_open}
+use Rattle.durable_map.proofs.Fronts.{SayEach, are_said_append, found_from-append, front_said, reaches, said_each}
+
+some_tape : (a b : Tape) → Some a ≡ Some b → a ≡ b
+some_tape a b same = cc
+
+at_some : (P : Tape → Type 0) (o : Option Tape) (t : Tape) → o ≡ Some t → IfSome o P → P t
+at_some P o t is holds = subst (λ (x : Option Tape). IfSome x P) is holds
+
+-- ---- what is kept
+
+-- a record that was promised, up to which these changes are said
+record IsMarked (size : ℕ) (order : List Entry) (hard : List FoundRecord) (upto : List MapChange)
+    : Type 0 where
+  pub before : List FoundRecord
+  pub mark : FoundRecord
+  pub behind : List FoundRecord
+  pub are : found_of size order ≡ before ++ mark ∷ behind
+  pub promised : Contains hard mark
+  pub said : AreSaid (before ++ mark ∷ []) upto
+
+more_hard : (size : ℕ) (order : List Entry) (hard all : List FoundRecord)
+    → ((r : FoundRecord) → Contains hard r → Contains all r) → (upto : List MapChange)
+    → IsMarked size order hard upto → IsMarked size order all upto
+more_hard size order hard all goes upto m = record {
+  before = m.before;
+  mark = m.mark;
+  behind = m.behind;
+  are = m.are;
+  promised = goes m.mark m.promised;
+  said = m.said;
+}
+
+-- what is found on the disk of a log
+module _ (finding : FindingIsDecoding) (settled : DecodingIsSettled) (size : ℕ)
+    (valid : IsSegmentSize size) (t : Tape) (records : List FoundRecord)
+    (whole : IsAllOfLog size records t) where
+  read_is_found : FindsRecords size (log_of t size) size records
+  read_is_found = (finding size (image_as_read (state_now t)) size valid records).1
+      (whole.answer, whole.decodes)
+
+  found_is_read : (found : List FoundRecord) → FindsRecords size (log_of t size) size found
+      → found ≡ records
+  found_is_read found finds =
+      let one = settled size (image_as_read (state_now t)) size None valid in
+      let read = (finding size (image_as_read (state_now t)) size valid found).0 finds in
+      (one.3 found read.0 read.1).0 ∙ sym (one.3 records whole.answer whole.decodes).0
+
+-- records that are found are a front of the log
+found_front : (size : ℕ) (order : List Entry) (hard records : List FoundRecord)
+    (f : IsFrontWith size order hard records)
+    → (back : List FoundRecord) × (found_of size order ≡ records ++ back)
+found_front size order hard records f =
+    let first = take f.count order in
+    let rest = drop f.count order in (
+      found_from size (prev_of size 0 first) rest,
+      ap (found_of size) (sym (take-append-drop f.count order))
+          ∙ found_from-append size 0 first rest
+          ∙ ap (λ (l : List FoundRecord). l ++ found_from size (prev_of size 0 first) rest)
+          (sym f.front),
+    )
+
+module _ {D : Type 0} (tape : D → Option Tape) (moment faults : D → ℕ)
+    (counts : (disk : D) → IfSome (tape disk) (λ t. moment disk ≡ length t.calls))
+    (stay : PromisedRecordsStay tape moment faults)
+    (promised : CommitsArePromised tape moment faults)
+    (lone : LonePassesMakeTheOrder tape moment faults)
+    (commits : (setup : Setup) (body : Assembled) (old new : View)
+    (answer : Result Sealed Refused) → AnswersCommit setup body old answer new
+    → GrowsTo (log_of_pass old) (log_of_pass new))
+    (stays : (l : PassLog) → GrowsTo l l)
+    (again : (one two three : PassLog) → GrowsTo one two → GrowsTo two three
+    → GrowsTo one three)
+    (finding : FindingIsDecoding) (settled : DecodingIsSettled) where
+  -- a history of the log, whose records say the changes
+  record KeepsChanges (size sysid : ℕ) (t : Tape) (order : List Entry) (begun : List MapChange)
+      (answered : List (List MapChange)) : Type 0 where
+    pub valid : IsSegmentSize size
+    pub hard : List FoundRecord
+    pub history : WalHistory tape moment faults size sysid t order hard
+    pub said : AreSaid (found_of size order) begun
+    pub marks : All (IsMarked size order hard) answered
+
+  -- ---- what an opening finds
+
+  module _ (size sysid : ℕ) (t : Tape) (order : List Entry) (begun : List MapChange)
+      (answered : List (List MapChange))
+      (k : KeepsChanges size sysid t order begun answered) (setup : Setup) (disk : D)
+      (map : DurableMap D) (handed : IsHandedIn tape moment faults size sysid t setup disk)
+      (opened : OpensMap tape moment faults setup disk map) where
+    abbrev records : List FoundRecord
+    records = opened.read.records
+
+    abbrev found : List MapChange
+    found = opened.read.changes
+
+    whole : IsAllOfLog size opened.read.records t
+    whole = subst (λ (n : ℕ). IsAllOfLog n records t) handed.sized
+        (at_some (IsAllOfLog setup.seg_size records) (tape disk) t handed.before
+        opened.read.whole)
+
+    front : IsFrontWith size order k.hard opened.read.records
+    front = (stay size sysid t order k.hard k.history).reads records
+        (read_is_found finding settled size k.valid t records whole)
+
+    all_front : (back : List FoundRecord) × (found_of size order ≡ opened.read.records ++ back)
+    all_front = found_front size order k.hard records front
+
+    found_begun : IsFrontOf opened.read.changes begun
+    found_begun = front_said records all_front.0 found begun opened.read.said
+        (subst (λ (rs : List FoundRecord). AreSaid rs begun) all_front.1 k.said)
+
+    -- they reach up to each mark
+    mark_found : (upto : List MapChange) (m : IsMarked size order k.hard upto)
+        → (rest : List FoundRecord) × (opened.read.records ≡ m.before ++ m.mark ∷ rest)
+    mark_found upto m = reaches 0 records all_front.0 m.before m.behind m.mark
+        (subst (StartsRise 0) all_front.1 (stay size sysid t order k.hard k.history).apart)
+        (sym all_front.1 ∙ m.are)
+        (All-contains (Contains records) k.hard m.mark front.has m.promised)
+
+    answered_found : (upto : List MapChange) → IsMarked size order k.hard upto
+        → IsFrontOf upto opened.read.changes
+    answered_found upto m =
+        let rest = mark_found upto m in
+        front_said (m.before ++ m.mark ∷ []) rest.0 upto found m.said
+        (subst (λ (rs : List FoundRecord). AreSaid rs found)
+        (rest.1 ∙ sym (append_assoc m.before (m.mark ∷ []) rest.0)) opened.read.said)
+
+    all_answered : All (λ upto. IsFrontOf upto opened.read.changes) answered
+    all_answered = All-weaker (IsMarked size order k.hard)
+        (λ upto. IsFrontOf upto found) answered_found answered k.marks
+
+    -- and so in an order that goes on behind them
+    still_marked : (whole_order : List Entry) (back : List FoundRecord)
+        → found_of size whole_order ≡ opened.read.records ++ back → (upto : List MapChange)
+        → IsMarked size order k.hard upto → IsMarked size whole_order k.hard upto
+    still_marked whole_order back goes upto m =
+        let rest = mark_found upto m in
+        record {
+          before = m.before;
+          mark = m.mark;
+          behind = rest.0 ++ back;
+          are = goes ∙ ap (λ (rs : List FoundRecord). rs ++ back) rest.1
+              ∙ append_assoc m.before (m.mark ∷ rest.0) back;
+          promised = m.promised;
+          said = m.said;
+        }
+
+  -- ---- a life
+
+  module _ (size sysid : ℕ) (t next : Tape) (before order : List Entry)
+      (old begun : List MapChange) (answered more : List (List MapChange))
+      (k : KeepsChanges size sysid t before old answered)
+      (life : LivesMap tape moment faults size sysid t next order begun more) where
+    abbrev its_records : List FoundRecord
+    its_records = life.opened.read.records
+
+    abbrev its_found : List MapChange
+    its_found = life.opened.read.changes
+
+    abbrev wal : Wal D
+    wal = log_under life.last
+
+    abbrev own : List Entry
+    own = order_of tape moment faults (log_under life.last) (life.last).pass
+        (life.ended).closed (life.ended).closes
+
+    its_log : log_under life.last ≡ log_under life.map
+    its_log = same_log life.calls life.map life.last life.called
+
+    reopened : IsReopened tape moment faults life.setup life.opened.handed
+        (log_under life.last) (life.map).pass life.opened.found
+    reopened = subst (λ (w : Wal D). IsReopened tape moment faults life.setup life.opened.handed w
+        (life.map).pass life.opened.found) (sym its_log) life.opened.reopened
+
+    sized : (setup_of_log (log_under life.last)).seg_size ≡ size
+    sized = ap (λ (o : Opening). (o.setup).seg_size) reopened.opening ∙ (life.handed).sized
+
+    -- ---- the order
+
+    front_is : found_of size life.front ≡ life.opened.read.records
+    front_is = found_is_read finding settled size k.valid t its_records
+        (whole size sysid t before old answered k life.setup life.disk life.map life.handed
+        life.opened) (found_of size life.front) (life.below).finds
+
+    none_yet : entries_of (view_under life.map) ≡ []
+    none_yet = ap entries_of life.opened.reopened.view
+
+    own_is : own ≡ entries_of (view_under life.last)
+    own_is = lone (log_under life.last) (life.last).pass (life.ended).closed
+        (life.ended).closes (still_open life.calls life.map life.last life.called life.kept).alone
+
+    order_is : (es : List Entry) → entries_of (view_under life.last)
+        ≡ entries_of (view_under life.map) ++ es → order ≡ life.front ++ es
+    order_is es added = (life.ended).order_is
+        ∙ ap (λ (l : List Entry). life.front ++ l)
+        (own_is ∙ added ∙ ap (λ (l : List Entry). l ++ es) none_yet)
+
+    all_said : (es : List Entry) (changes : List MapChange) → SayEach es changes
+        → AreSaid (found_of size (life.front ++ es)) (life.opened.read.changes ++ changes)
+    all_said es changes said =
+        subst (λ (rs : List FoundRecord). AreSaid rs (its_found ++ changes))
+        (sym (found_from-append size 0 life.front es
+        ∙ ap (λ (rs : List FoundRecord). rs ++ found_from size (prev_of size 0 life.front) es)
+        front_is))
+        (are_said_append its_records (found_from size (prev_of size 0 life.front) es) its_found
+        changes life.opened.read.said
+        (said_each size (prev_of size 0 life.front) es changes said))
+
+    order_said : AreSaid (found_of size order) begun
+    order_said =
+        let added = all_added life.calls life.map life.last life.called in
+        subst (λ (cs : List MapChange). AreSaid (found_of size order) cs) (sym life.begun_is)
+        (subst (λ (es : List Entry).
+        AreSaid (found_of size es) (its_found ++ begun_in life.calls))
+        (sym (order_is added.0 added.1)) (all_said added.0 (begun_in life.calls) added.2))
+
+    -- ---- what was answered
+
+    module _ (upto : List MapChange) (a : WasAnswered life.at life.opened.read.changes life.calls
+        upto) where
+      done : IsCommitted life.map life.last life.at (begun_in a.before ++ a.change ∷ [])
+      done = committed commits stays again life.calls life.map life.last life.at its_found upto
+          life.called a
+
+      abbrev e : Entry
+      e = (done.told).entry
+
+      abbrev below : List Entry
+      below = life.front ++ done.more
+
+      abbrev mark : FoundRecord
+      mark = found_entry size (prev_of size 0 (life.front ++ done.more)) (done.told).entry
+
+      abbrev behind : List FoundRecord
+      behind = found_from size (start_of size (done.told).entry) done.rest
+
+      order_there : order ≡ (life.front ++ done.more) ++ (done.told).entry ∷ done.rest
+      order_there = order_is (done.more ++ e ∷ done.rest) done.entries
+          ∙ sym (append_assoc life.front done.more (e ∷ done.rest))
+
+      found_there : found_of size order ≡ found_of size (life.front ++ done.more)
+          ++ found_entry size (prev_of size 0 (life.front ++ done.more)) (done.told).entry
+          ∷ found_from size (start_of size (done.told).entry) done.rest
+      found_there = ap (found_of size) order_there
+          ∙ found_from-append size 0 below (e ∷ done.rest)
+
+      upto_said : AreSaid (found_of size (life.front ++ done.more)
+          ++ found_entry size (prev_of size 0 (life.front ++ done.more)) (done.told).entry ∷ [])
+          upto
+      upto_said =
+          subst (λ (cs : List MapChange). AreSaid (found_of size below ++ mark ∷ []) cs)
+          (sym a.upto_is)
+          (subst (λ (rs : List FoundRecord).
+          AreSaid rs (its_found ++ (begun_in a.before ++ a.change ∷ [])))
+          (ap (found_of size) (sym (append_assoc life.front done.more (e ∷ [])))
+          ∙ found_from-append size 0 below (e ∷ []))
+          (all_said (done.more ++ e ∷ []) (begun_in a.before ++ a.change ∷ []) done.said))
+
+      mark_promised : IsPromisedDurable size life.at order (view_under life.last)
+          (found_entry size (prev_of size 0 (life.front ++ done.more)) (done.told).entry)
+      mark_promised =
+          let told = promised (log_under life.last) life.front (life.last).pass
+          (life.ended).closed (life.ended).closes done.body done.old done.new done.sealed life.at
+          (subst (λ (s : Setup). IsSealed s done.body done.old done.new done.sealed)
+          (sym done.same) done.told) done.grown done.by in
+          let there : Contains (found_of size order) mark =
+          subst (λ (rs : List FoundRecord). Contains rs mark) (sym found_there)
+          (Contains-append_right (found_of size below) (mark ∷ behind) mark
+          (Contains-append_left (mark ∷ []) behind mark (Contains-push [] mark))) in
+          let same_size = sym (ap (λ (s : Setup). s.seg_size) done.same) ∙ sized in
+          let ends : finish_of size e ≡ told.0.end.0 =
+          ap (λ (n : ℕ). finish_of n e) (sym same_size) ∙ sym (done.told).end_is ∙ sym told.2 in (
+            there,
+            told.4.1,
+            told.4.2,
+            told.4.3,
+            told.4.4,
+            omega (arith, ends, told.4.5),
+          )
+
+      is_marked : IsMarked size order (found_entry size
+          (prev_of size 0 (life.front ++ done.more)) (done.told).entry ∷ []) upto
+      is_marked = record {
+        before = found_of size below;
+        mark = mark;
+        behind = behind;
+        are = found_there;
+        promised = Contains-push [] mark;
+        said = upto_said;
+      }
+
+    all_marked : (uptos : List (List MapChange))
+        → All (WasAnswered life.at life.opened.read.changes life.calls) uptos
+        → (hard : List FoundRecord)
+        × All (IsPromisedDurable size life.at order (view_under life.last)) hard
+        × All (IsMarked size order hard) uptos
+    all_marked [] told = (
+      [],
+      All-nil (IsPromisedDurable size life.at order (view_under life.last)),
+      All-nil (IsMarked size order []),
+    )
+    all_marked (upto ∷ uptos) told =
+        let a = All-head (WasAnswered life.at its_found life.calls) upto uptos told in
+        let rest = all_marked uptos
+        (All-tail (WasAnswered life.at its_found life.calls) upto uptos told) in
+        let one = mark upto a in
+        let all = one ∷ rest.0 in (
+          all,
+          All-cons (IsPromisedDurable size life.at order (view_under life.last)) one rest.0
+              (mark_promised upto a) rest.1,
+          All-cons (IsMarked size order all) upto uptos
+              (more_hard size order (one ∷ []) all
+              (λ r. Contains-append_left (one ∷ []) rest.0 r) upto (is_marked upto a))
+              (All-weaker (IsMarked size order rest.0) (IsMarked size order all)
+              (more_hard size order rest.0 all
+              (λ r. Contains-append_right (one ∷ []) rest.0 r)) uptos rest.2),
+        )
+
+    -- ---- the log's life
+
+    module _ (hard : List FoundRecord)
+        (kept : All (IsPromisedDurable size life.at order (view_under life.last)) hard) where
+      lived : IsLived tape moment faults size (log_under life.last) life.front next order hard
+      lived = record {
+        pass = (life.last).pass;
+        closed = (life.ended).closed;
+        closes = (life.ended).closes;
+        order_is = (life.ended).order_is;
+        now = (life.ended).now;
+        after = (life.ended).after;
+        at = life.at;
+        since = (life.ended).since;
+        ends = (life.ended).ends;
+        promised = kept;
+      }
+
+      continues : ContinuesWal tape moment faults size sysid t next order hard
+      continues = record {
+        setup = life.setup;
+        disk = life.opened.handed;
+        wal = log_under life.last;
+        first = (life.map).pass;
+        found = life.opened.found;
+        handed = record {
+          sized = (life.handed).sized;
+          named = (life.handed).named;
+          before = life.opened.only_read.uncalled.same_tape ∙ (life.handed).before;
+        };
+        reopened = reopened;
+        front = life.front;
+        below = life.below;
+        lived = lived;
+      }
+
+    its_back : (back : List FoundRecord)
+        × (found_of size order ≡ life.opened.read.records ++ back)
+    its_back = (
+      found_from size (prev_of size 0 life.front) own,
+      ap (found_of size) (life.ended).order_is ∙ found_from-append size 0 life.front own
+          ∙ ap (λ (rs : List FoundRecord). rs
+          ++ found_from size (prev_of size 0 life.front) own) front_is,
+    )
+
+    life_keeps : KeepsChanges size sysid next order begun (answered ++ more)
+    life_keeps =
+        let new = all_marked more life.told in
+        let all = k.hard ++ new.0 in
+        record {
+          valid = k.valid;
+          hard = all;
+          history = wal_lives.reopens k.history (continues new.0 new.1);
+          said = order_said;
+          marks = All-append (IsMarked size order all) answered more
+              (All-weaker (IsMarked size before k.hard) (IsMarked size order all)
+              (λ upto m. more_hard size order k.hard all
+              (λ r. Contains-append_left k.hard new.0 r) upto
+              (still_marked size sysid t before old answered k life.setup life.disk life.map
+              life.handed life.opened order its_back.0 its_back.1 upto m)) answered k.marks)
+              (All-weaker (IsMarked size order new.0) (IsMarked size order all)
+              (more_hard size order new.0 all
+              (λ r. Contains-append_right k.hard new.0 r)) more new.2);
+        }
+
+  -- ---- an opening that gives no map
+
+  -- nothing was called, or the log was handed to a reopening, which was refused
+  refused_how : (setup : Setup) (old new : D) (kind : MapFaultKind)
+      → TellsMapFault tape moment faults setup old new kind → IsUncalled tape moment old new
+      ⊎ ((handed : D) × (why : OpenFaultKind) × IsUncalled tape moment old handed
+      × TellsReopenFault tape moment faults setup handed new why)
+  refused_how setup old new Memory tells = inl tells.uncalled
+  refused_how setup old new (Disk told) tells = inl tells.0
+  refused_how setup old new (Foreign at) tells = inl tells.0.uncalled
+  refused_how setup old new (Log why) tells =
+      inr (tells.0, why, tells.1.uncalled, tells.2)
+
+  -- a disk on which nothing was called is handed on
+  module _ (size sysid : ℕ) (t : Tape) (setup : Setup) (disk later_disk : D)
+      (handed : IsHandedIn tape moment faults size sysid t setup disk)
+      (none : IsUncalled tape moment disk later_disk) where
+    still_handed : IsHandedIn tape moment faults size sysid t setup later_disk
+    still_handed = record {
+      sized = handed.sized;
+      named = handed.named;
+      before = none.same_tape ∙ handed.before;
+    }
+
+    still_since : (at : ℕ) → moment disk ≤ at → moment later_disk ≤ at
+    still_since at since = omega (arith, since, none.same_moment)
+
+  module _ (size sysid : ℕ) (t next : Tape) (order : List Entry) (hard : List FoundRecord)
+      (history : WalHistory tape moment faults size sysid t order hard) where
+    ends_so : EndsOpening tape moment faults size sysid t next order
+        → WalHistory tape moment faults size sysid next order hard
+    ends_so life = wal_lives.ends_reopening history (record {
+      setup = life.setup;
+      disk = life.opened.handed;
+      wal = log_under life.map;
+      first = (life.map).pass;
+      found = life.opened.found;
+      handed = still_handed size sysid t life.setup life.disk life.opened.handed life.handed
+          life.opened.only_read.uncalled;
+      reopened = life.opened.reopened;
+      began = life.began;
+      began_is = life.began_is;
+      at = life.at;
+      since = still_since size sysid t life.setup life.disk life.opened.handed life.handed
+          life.opened.only_read.uncalled life.at life.since;
+      early = life.early;
+      ends = life.ends;
+    })
+
+    fails_so : FailsToOpen tape moment faults size sysid t next order
+        → WalHistory tape moment faults size sysid next order hard
+    fails_so life = elim (refused_how life.setup life.disk (life.fault).disk (life.fault).kind
+        life.refused) [
+          | inl none ↦
+              let told = some_tape life.now t (sym life.after ∙ none.same_tape
+              ∙ (life.handed).before) in
+              let last : life.at ≡ length t.calls = omega (
+                arith,
+                life.since,
+                life.upto,
+                none.same_moment,
+                at_some (λ (t : Tape). moment life.disk ≡ length t.calls) (tape life.disk) t
+                    (life.handed).before (counts life.disk),
+              ) in
+              wal_lives.rests history (subst (λ (m : ℕ). LifeEndsAt size order t m next) last
+              (subst (λ (d : Tape). LifeEndsAt size order d life.at next) told life.ends))
+          | inr refused ↦ wal_lives.fails_to_reopen history (record {
+            setup = life.setup;
+            disk = refused.0;
+            fault = record { disk = (life.fault).disk; kind = refused.1 };
+            handed = still_handed size sysid t life.setup life.disk refused.0 life.handed refused.2;
+            refused = refused.3;
+            now = life.now;
+            after = life.after;
+            at = life.at;
+            since = still_since size sysid t life.setup life.disk refused.0 life.handed refused.2
+                life.at life.since;
+            upto = life.upto;
+            ends = life.ends;
+          })
+        ]
+
+  -- ---- all lives
+
+  keeps : {size sysid : ℕ} {t : Tape} {order : List Entry} {begun : List MapChange}
+      {answered : List (List MapChange)}
+      → MapHistory tape moment faults size sysid t order begun answered
+      → KeepsChanges size sysid t order begun answered
+  keeps {size} {sysid} {t} (starts_empty valid known narrow nothing) = record {
+    valid = valid;
+    hard = [];
+    history = wal_lives.starts_empty valid known narrow nothing;
+    said = tt;
+    marks = All-nil (IsMarked size [] []);
+  }
+  keeps {size} {sysid} (lives {t} {next} {before} {order} {old} {begun} {answered} {more} history
+      life) = life_keeps size sysid t next before order old begun answered more (keeps history) life
+  keeps {size} {sysid} (ends_opening {t} {next} {order} {begun} {answered} history life) =
+      let k = keeps history in
+      record {
+        valid = k.valid;
+        hard = k.hard;
+        history = ends_so size sysid t next order k.hard k.history life;
+        said = k.said;
+        marks = k.marks;
+      }
+  keeps {size} {sysid} (fails_to_open {t} {next} {order} {begun} {answered} history life) =
+      let k = keeps history in
+      record {
+        valid = k.valid;
+        hard = k.hard;
+        history = fails_so size sysid t next order k.hard k.history life;
+        said = k.said;
+        marks = k.marks;
+      }
+  keeps (rests history ends) =
+      let k = keeps history in
+      record {
+        valid = k.valid;
+        hard = k.hard;
+        history = wal_lives.rests k.history ends;
+        said = k.said;
+        marks = k.marks;
+      }
+
+  pub answered_changes_stay : AnsweredChangesStay tape moment faults
+  answered_changes_stay size sysid t order begun answered history setup disk map handed opened =
+      let k = keeps history in (
+        opened.read.held,
+        found_begun size sysid t order begun answered k setup disk map handed opened,
+        all_answered size sysid t order begun answered k setup disk map handed opened,
+      )
