@@ -11,7 +11,7 @@ use Rattle.durable_map.specs.declared.fault.ChangeErr.{ChangeErr}
 use Rattle.durable_map.specs.declared.store.DurableMap.{DurableMap}
 use Rattle.wal_types.specs.declared.answers.Sealed.{Sealed}
 
-after_all_push : (map : MapMeaning) (changes : List MapChange) (change : MapChange)
+pub after_all_push : (map : MapMeaning) (changes : List MapChange) (change : MapChange)
     → map_behind_all map (changes ++ change ∷ []) ≡ map_behind (map_behind_all map changes) change
 after_all_push map [] change = refl
 after_all_push map (c ∷ changes) change = after_all_push (map_behind map c) changes change

@@ -6,4 +6,5 @@ pub mod Logged
 pub mod MapLives
 pub mod Mains
 pub mod ReadLaws
+pub mod SetAgain
 pub mod Spelled

@@ -11,6 +11,7 @@ mod change;
 mod entries;
 mod fault;
 pub mod laws;
+mod one_set;
 mod opening;
 mod store;
 #[cfg(test)]
@@ -19,4 +20,5 @@ mod tests;
 pub use change::{LONGEST, MANAGER, ReadChange, del_body, read_change, set_body};
 pub use entries::Entries;
 pub use fault::{ChangeErr, MapFault, MapFaultKind};
+pub use one_set::set_and_reopen;
 pub use store::DurableMap;
