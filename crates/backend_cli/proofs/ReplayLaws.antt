@@ -1,5 +1,6 @@
 -- A replay from its first machine to what it prints.
-use Rattle.std.proofs.Common.{◌≡◌, inl, inr, ℕ, ◌<◌, ◌≤◌, IfOk, List, [], length, map, Option, Some, IfSome, Result, Err, Vec, sym, ap, subst, ◌∙◌}
+use Rattle.std.proofs.Common.{◌≡◌, inl, inr, ℕ, ◌<◌, ◌≤◌, All, IfOk, List, [], length, map, Option, Some, IfSome, Result, Err, Vec, sym, ap, subst, ◌∙◌}
+use Rattle.std.proofs.lemmas.List.{length-map}
 use Rattle.std.specs.declared.alloc.Global.{Global}
 use Rattle.segment_disk.specs.Stream.{with_behind}
 use Rattle.segment_disk.specs.Tape.{DiskState, Tape, empty_state}
@@ -13,7 +14,7 @@ use Rattle.waldump_text.specs.declared.putting.SinkFault.{SinkFault}
 use Rattle.cli_line.specs.declared.commands.ReplayOptions.{ReplayOptions}
 use Rattle.machine_state.specs.declared.setup.Setup.{Setup}
 use Rattle.machine_state.specs.Opened.{AreFirstWords, IsFirstWriter}
-use Rattle.machine_turns.specs.Begun.{first_machine}
+use Rattle.machine_turns.specs.Begun.{first_backend, first_machine}
 use Rattle.machine_turns.specs.Doing.{Ask, Machine}
 use Rattle.machine_turns.specs.Turned.{machine_behind}
 use Rattle.wal_core.specs.Cores.{HasBegun, IsPlayed, core_of, first_opening, machine_begun}
@@ -23,11 +24,13 @@ use Rattle.wal_core.specs.declared.machine.Core.{Core}
 use Rattle.machine_turns.specs.declared.script.PlainLine.{PlainLine as MachineLine}
 use Rattle.run_script.specs.declared.line.Line.{Line}
 use Rattle.run_script.specs.Asked.{AskedLine}
+use Rattle.run_script.specs.Turns.{backends_in_turn}
+use Rattle.run_script.specs.declared.item.Item.{Item}
 use Rattle.run_script.specs.Replay.{ReplayMeaning, most_backends}
 use Rattle.run_script.specs.ReplayReading.{AreBackendsOf}
 use Rattle.run_script.specs.declared.line.Refusal.{Refusal}
 use Rattle.run_script.specs.declared.replay.Replay.{Replay}
-use Rattle.run_script.proofs.ReplayLaws.{some_backends_are_there}
+use Rattle.run_script.proofs.ReplayLaws.{some_backends_are_there, turns_are_of_backends}
 use Rattle.backend_cli.specs.Outside.{SourceView}
 use Rattle.backend_cli.specs.declared.replay.ReplayBegun.{ReplayBegun}
 use Rattle.backend_cli.specs.ReplayBegun.{DoesMeaning, IsReplayBegun, PlaysBackends}
@@ -93,3 +96,14 @@ few_backends before after replay meaning does =
     let means = does.means in
     let few = subst (λ (r : Result ReplayMeaning Refusal). IfOk r (λ m. (0 < length m.backends) × (length m.backends ≤ most_backends))) means.2 (some_backends_are_there means.0) in
     subst (λ (n : ℕ). n ≤ most_backends) (as_many_backends meaning.backends replay.backends.items does.backends) few.1
+
+-- each turn of its schedule is one of a backend that the core has
+pub turns_are_there : (before after : SourceView) (replay : Replay) (meaning : ReplayMeaning) (options : ReplayOptions) (begun : ReplayBegun) → DoesMeaning before after replay meaning → IsReplayBegun options meaning.backends begun
+    → All (λ backend. backend < length (core_of begun.core).lanes) (backends_in_turn replay.schedule)
+turns_are_there before after replay meaning options begun does is =
+    let means = does.means in
+    let there = subst (λ (r : Result ReplayMeaning Refusal). IfOk r (λ m. All (λ backend. backend < length m.backends) (backends_in_turn m.schedule))) means.2 (turns_are_of_backends means.0) in
+    let asked : length (is.first).backends ≡ length meaning.backends = ap (λ (m : Machine). length m.backends) (is.begins).machine_is
+    ∙ length-map (map asks_of meaning.backends) first_backend ∙ length-map meaning.backends asks_of in
+    let same : length meaning.backends ≡ length (core_of begun.core).lanes = sym (((is.counted).plays).count ∙ asked) in
+    subst (λ (x : ℕ × List Item). All (λ backend. backend < x.0) (backends_in_turn x.1)) (λ i. (same i, does.schedule i)) there

@@ -1,7 +1,8 @@
 -- Turns of a machine one after another, and what they leave of its backends.
-use Rattle.std.proofs.Common.{◌≡◌, ℕ, zero, suc, ◌+◌, ◌<◌, drop, get_or, List, [], ◌∷◌, ◌++◌, length, map, replicate, set, slice_get, Option, Some, None, Bool, cond, eqb, not, ◌&&◌, ◌||◌, slice_index, refl, sym, ap, ◌∙◌}
+use Rattle.std.proofs.Common.{◌≡◌, ℕ, zero, suc, ◌+◌, ◌<◌, All, drop, get_or, List, [], ◌∷◌, ◌++◌, length, map, replicate, set, slice_get, Option, Some, None, Bool, cond, eqb, not, ◌&&◌, ◌||◌, slice_index, refl, sym, subst, ap, ◌∙◌, arith}
 use Rattle.std.proofs.lemmas.List.{drop_more}
 use Rattle.std.proofs.lemmas.List.Concat.{flat_map-cons}
+use Rattle.std.proofs.lemmas.List.Elements.{All-cons, All-head, All-nil, All-tail}
 use mathlib.Core.Option.{none, some}
 use lib.ListN.{get_elem?}
 use Rattle.run_script.specs.declared.item.Item.{Item}
@@ -34,6 +35,39 @@ next_item end now schedule items i item same low left =
     let next = get_or items i item in
     let split = drop_more items i item low in
     item_first now next (drop (i + 1) schedule) ∙ (ap (λ (rest : List Item). machine_behind now (backends_in_turn (next ∷ rest))) (ap (drop (i + 1)) (sym same)) ∙ (ap (λ (rest : List Item). machine_behind now (backends_in_turn rest)) (sym split ∙ ap (drop i) same) ∙ left))
+
+-- ---- whose turns there are
+
+-- what holds of each of some equal ones holds of one
+pub one_of_many : (P : ℕ → Type 0) (count x : ℕ) → 0 < count → All P (replicate count x) → P x
+one_of_many P zero x many all = absurd (omega (arith, many))
+one_of_many P (suc count) x many all = All-head P x (replicate count x) all
+
+front_holds : (P : ℕ → Type 0) (xs ys : List ℕ) → All P (xs ++ ys) → All P xs
+front_holds P [] ys all = All-nil P
+front_holds P (x ∷ xs) ys all = All-cons P x xs (All-head P x (xs ++ ys) all) (front_holds P xs ys (All-tail P x (xs ++ ys) all))
+
+rest_holds : (P : ℕ → Type 0) (xs ys : List ℕ) → All P (xs ++ ys) → All P ys
+rest_holds P [] ys all = all
+rest_holds P (x ∷ xs) ys all = rest_holds P xs ys (All-tail P x (xs ++ ys) all)
+
+-- what holds of the backends of all turns that are left holds of the next item's, and of those
+-- behind it
+pub next_there : (P : ℕ → Type 0) (schedule items : List Item) (i : ℕ) (item : Item) → items ≡ schedule → i < length items → All P (backends_in_turn (drop i schedule))
+    → All P (replicate (get_or items i item).turns (get_or items i item).backend) × All P (backends_in_turn (drop (i + 1) schedule))
+next_there P schedule items i item same low all =
+    let next = get_or items i item in
+    let split : drop i schedule ≡ next ∷ drop (i + 1) items = ap (drop i) (sym same) ∙ drop_more items i item low in
+    let parted = ap backends_in_turn split ∙ flat_map-cons (λ (i : Item). replicate i.turns i.backend) next (drop (i + 1) items) in
+    let each = subst (All P) parted all in (
+      front_holds P (replicate next.turns next.backend) (backends_in_turn (drop (i + 1) items)) each,
+      subst (λ (s : List Item). All P (backends_in_turn (drop (i + 1) s))) same (rest_holds P (replicate next.turns next.backend) (backends_in_turn (drop (i + 1) items)) each),
+    )
+
+-- and so of all behind the next item
+pub behind_there : (P : ℕ → Type 0) (schedule items : List Item) (i : ℕ) → items ≡ schedule → i < length items → All P (backends_in_turn (drop i schedule))
+    → All P (backends_in_turn (drop (i + 1) schedule))
+behind_there P schedule items i same low all = (next_there P schedule items i (record { backend = 0; turns = 0 }) same low all).1
 
 -- ---- how many lines each backend has
 

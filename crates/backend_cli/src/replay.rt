@@ -1,4 +1,4 @@
-ghost use Rattle.std.specs.Prelude.{◌≡◌, ◌≤◌, ℕ, List, [], Option, Some, Ok, IfOk, length, map, replicate};
+ghost use Rattle.std.specs.Prelude.{◌≡◌, ◌<◌, ◌≤◌, ℕ, All, List, [], Option, Some, Ok, IfOk, length, map, replicate};
 ghost use Rattle.segment_disk.specs.First.{first_state};
 ghost use Rattle.segment_disk.specs.MemDisk.{tape_of};
 ghost use Rattle.segment_disk.specs.Tape.{Tape};
@@ -121,10 +121,13 @@ fn begin(
 }
 
 fn take_turns(core: &mut Core, item: Item)
-    requires { IsPlayed core.old }
+    requires there { All (λ backend. backend < length (core_of core.old).lanes)
+        (replicate item.turns item.backend) }
+    requires played { IsPlayed core.old }
     ensures plays { (m : Machine) → PlaysMachine (core_of core.old) m
         → PlaysMachine (core_of core.new) (machine_behind m (replicate item.turns item.backend)) }
     ensures played { IsPlayed core.new }
+    ensures lanes { length (core_of core.new).lanes ≡ length (core_of core.old).lanes }
 {
     for _ in 0..item.turns {
         core.turn(item.backend);
@@ -132,7 +135,9 @@ fn take_turns(core: &mut Core, item: Item)
 }
 
 fn take_all_turns(core: &mut Core, schedule: &Schedule)
-    requires { IsPlayed core.old }
+    requires there { All (λ backend. backend < length (core_of core.old).lanes)
+        (backends_in_turn schedule.now) }
+    requires played { IsPlayed core.old }
     ensures plays { (m : Machine) → PlaysMachine (core_of core.old) m
         → PlaysMachine (core_of core.new) (machine_behind m (backends_in_turn schedule.now)) }
     ensures played { IsPlayed core.new }
@@ -155,7 +160,7 @@ fn pick_of(crash: CrashPick) -> Pick
 fn put_backend<O: Sink>(
     out: &mut O,
     number: u32,
-    answered: u64,
+    answered: u32,
     lines: u64,
 ) -> Result<(), SinkFault>
     ensures { Puts (O.taken out.old) (O.taken out.new) (O.faults out.old) (O.faults out.new)
@@ -241,7 +246,10 @@ fn finish<O: Sink>(
     schedule: &Schedule,
     out: &mut O,
 ) -> Outcome
-    requires { (asked : List (List AskedLine)) × IsReplayBegun options.now asked begun }
+    requires begun { (asked : List (List AskedLine)) × IsReplayBegun options.now asked begun }
+    // Each turn is one of a backend that is there, as of each schedule that is read.
+    requires there { All (λ backend. backend < length (core_of begun.core).lanes)
+        (backends_in_turn schedule.now) }
     ensures { (before after : SourceView) (meaning : ReplayMeaning)
         → ScriptMeansBy replay_meaning before after (Ok meaning) → meaning.schedule ≡ schedule.now
         → IsReplayBegun options.now meaning.backends begun

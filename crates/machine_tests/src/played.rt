@@ -64,12 +64,22 @@ impl Played {
         })
     }
 
+    /// A turn of a backend; where it is not there nothing is changed, as where its lines are done.
     pub fn turn(&mut self, backend: u32) -> Turn {
-        self.core.turn(backend)
+        if backend < self.core.backends() {
+            self.core.turn(backend)
+        } else {
+            Turn::Done
+        }
     }
 
-    pub fn answered(&self, backend: u32) -> u64 {
-        self.core.answered(backend)
+    /// How many lines of a backend are answered; 0 where it is not there.
+    pub fn answered(&self, backend: u32) -> u32 {
+        if backend < self.core.backends() {
+            self.core.answered(backend)
+        } else {
+            0
+        }
     }
 
     pub fn full(&self) -> bool {

@@ -111,7 +111,7 @@ impl Schedule {
         Ok(matches!(turn, Turn::Moved { .. }))
     }
 
-    fn note(&mut self, alloc: Global, backend: u32, line: u64, event: Event) -> Result<(), Fail> {
+    fn note(&mut self, alloc: Global, backend: u32, line: u32, event: Event) -> Result<(), Fail> {
         let view = self.core.view(backend).ok_or("a backend")?;
         if let Some(now) = self.backends.get_mut(backend as usize) {
             now.view = view;
@@ -138,7 +138,7 @@ impl Schedule {
         &mut self,
         alloc: Global,
         backend: u32,
-        line: u64,
+        line: u32,
         flight: PlainFlight,
     ) -> Result<(), Fail> {
         let planned = self.planned(backend, line).ok_or("a line")?;
@@ -152,13 +152,13 @@ impl Schedule {
         Ok(())
     }
 
-    fn planned(&self, backend: u32, line: u64) -> Option<Planned> {
-        let number = (u64::from(backend) * u64::from(LINES)).wrapping_add(line);
+    fn planned(&self, backend: u32, line: u32) -> Option<Planned> {
+        let number = (u64::from(backend) * u64::from(LINES)).wrapping_add(u64::from(line));
         self.plan.get(number as usize).copied()
     }
 
     // A line is answered. All records of its backend are promised where it flushes.
-    fn note_answer(&mut self, backend: u32, line: u64) {
+    fn note_answer(&mut self, backend: u32, line: u32) {
         self.answered = self.answered.wrapping_add(1);
         let reserved = self.reserved.get(backend as usize).copied();
         let planned = self.planned(backend, line);

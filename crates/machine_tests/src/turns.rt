@@ -31,7 +31,7 @@ struct Step {
     // What the last one told, where it is looked at.
     told: Option<Turn>,
     // How many lines of the backend are answered, and how far it is with a reservation.
-    answered: u64,
+    answered: u32,
     place: PlainPlace,
     is_full: bool,
     // What some of the shared words hold, by their numbers.

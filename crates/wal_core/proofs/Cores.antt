@@ -1,5 +1,5 @@
 -- A core: its lanes are the machine's backends, its writer is the machine's.
-use Rattle.std.proofs.Common.{◌≡◌, inl, inr, ⊎_elim, ℕ, ◌+◌, ◌<◌, List, [], ◌∷◌, ◌++◌, length, slice_get, slice_index_or, Some, Result, Ok, Err, IfOk, refl, sym, ap, ◌∙◌, subst, arith}
+use Rattle.std.proofs.Common.{◌≡◌, inl, inr, ⊎_elim, ℕ, ◌+◌, ◌^◌, ◌<◌, List, [], ◌∷◌, ◌++◌, length, slice_get, slice_index_or, Some, Result, Ok, Err, IfOk, refl, sym, ap, ◌∙◌, subst, arith}
 use Rattle.std.proofs.lemmas.Bool.{cases_lt}
 use Rattle.std.proofs.lemmas.List.{append_assoc}
 use Rattle.std.proofs.lemmas.Option.{slice_get_read}
@@ -73,7 +73,19 @@ module _ (core : CoreState) (m : Machine) (k : PlaysMachine core m) (number : �
       (slice_get_read core.lanes (length core.lanes) number lane refl (omega (arith, low, k.count))
       is)
 
-  -- and so is what is read of its view
+  -- 32 bits count the lines that it has answered
+  pub few_answered : (lane : PlainBackend) → HasBackend m number b
+      → lane ≡ slice_index_or core.lanes number lane → lane.answered < 2 ^ 32
+  few_answered lane there is =
+      let low = got_below m.backends number b there in
+      let at = slice_get_read core.lanes (length core.lanes) number lane refl
+      (omega (arith, low, k.count)) is in
+      let found = k.lanes number b there in
+      let same : found.0 ≡ lane = cc in
+      let counted = (found.2.2).counted in
+      subst (λ (l : PlainBackend). l.answered < 2 ^ 32) same (omega (arith, counted.0, counted.1))
+
+  -- and what is read of its view is the view's
   pub view_read : (lane : PlainBackend) (v : View) → HasBackend m number b
       → HasAt (m.state).views (number + 1) v → lane ≡ slice_index_or core.lanes number lane
       → lane.view ≡ plain_view v
@@ -90,12 +102,6 @@ module _ (core : CoreState) (m : Machine) (k : PlaysMachine core m) (number : �
   pub none_there : HasBackend m number b → (number < length core.lanes → ⊥) → ⊥
   none_there there none =
       let low = got_below m.backends number b there in none (omega (arith, low, k.count))
-
-  pub none_answered : (answered : ℕ) → HasBackend m number b
-      → (number < length core.lanes → ⊥) → b.answered ≡ answered
-  none_answered answered there none_there =
-      let low = got_below m.backends number b there in
-      absurd (none_there (omega (arith, low, k.count)))
 
 -- ---- the disk
 

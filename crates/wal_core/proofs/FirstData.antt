@@ -1,5 +1,5 @@
 -- Plain data begin as the machine's.
-use Rattle.std.proofs.Common.{◌≡◌, ⊎_elim, ℕ, zero, suc, ◌+◌, ◌-◌, ◌*◌, ◌/◌, ◌%◌, ◌≤◌, ◌<◌, All, false, List, [], ◌∷◌, length, map, min, take, slice_get, slice_index_or, Option, Some, None, IfSome, refl, sym, ap, ◌∙◌, subst, arith}
+use Rattle.std.proofs.Common.{◌≡◌, ⊎_elim, ℕ, zero, suc, ◌+◌, ◌-◌, ◌*◌, ◌/◌, ◌%◌, ◌^◌, ◌≤◌, ◌<◌, All, false, List, [], ◌∷◌, length, map, min, take, slice_get, slice_index_or, Option, Some, None, IfSome, refl, sym, ap, ◌∙◌, subst, arith}
 use Rattle.std.proofs.lemmas.List.{take_all, take_more}
 use Rattle.std.proofs.lemmas.List.Elements.{All-cons, All-head, All-tail, All-push}
 use mathlib.Core.Option.{some-injective, some-ne-none}
@@ -80,6 +80,12 @@ same_count (ask ∷ asks) [] are size base = absurd are
 same_count (ask ∷ asks) (script ∷ scripts) are size base =
     ap suc (same_count asks scripts are.1 size (base + 1))
 
+pub lanes_are_scripts : (size base : ℕ) (scripts : List (List PlainLine))
+    → length (first_lanes size base scripts) ≡ length scripts
+lanes_are_scripts size base [] = refl
+lanes_are_scripts size base (script ∷ scripts) =
+    ap suc (lanes_are_scripts size (base + 1) scripts)
+
 -- the backend with this number has its lines, and its lane their script
 record HasFirst (asks : List (List Ask)) (scripts : List (List PlainLine)) (size base number : ℕ)
     (b : Backend) : Type 0 where
@@ -89,6 +95,7 @@ record HasFirst (asks : List (List Ask)) (scripts : List (List PlainLine)) (size
   lane_at : slice_get (first_lanes size base scripts) number
       ≡ Some (first_lane size (base + number) script)
   are : AreLinesFor lines script
+  short : length script ≤ lines_of_scripts scripts
   low : number < length asks
 
 lane_first : (asks : List (List Ask)) (scripts : List (List PlainLine)) → AreScriptsFor asks scripts
@@ -103,11 +110,13 @@ lane_first (ask ∷ asks) (script ∷ scripts) are size base zero b there = reco
   lane_at = let same : base ≡ base + 0 = omega arith in
       ap (λ (n : ℕ). Some (first_lane size n script)) same;
   are = are.0;
+  short = omega arith;
   low = omega arith;
 }
 lane_first (ask ∷ asks) (script ∷ scripts) are size base (suc number) b there =
     let rest = lane_first asks scripts are.1 size (base + 1) number b there in
     let low = rest.low in
+    let short = rest.short in
     let same : base + 1 + number ≡ base + suc number = omega arith in record {
       lines = rest.lines;
       script = rest.script;
@@ -115,6 +124,7 @@ lane_first (ask ∷ asks) (script ∷ scripts) are size base (suc number) b ther
       lane_at = subst (λ (n : ℕ). slice_get (first_lanes size (base + 1) scripts) number
           ≡ Some (first_lane size n rest.script)) same rest.lane_at;
       are = rest.are;
+      short = omega (arith, short);
       low = omega arith;
     }
 
@@ -224,7 +234,7 @@ module _ (setup : Setup) (is : IsSetup setup) (words : WordsState) (w : WriterSt
     (failing : List ℕ) (scripts : List (List PlainLine)) (few : length scripts < setup.passes)
     (first_words : AreFirstWords (first_opening setup) words.words)
     (pages_are : words.pages ≡ setup.ring_pages) (end lines flushes : ℕ)
-    (lines_are : lines ≡ lines_of_scripts scripts)
+    (lines_are : lines ≡ lines_of_scripts scripts) (few_lines : lines < 2 ^ 32)
     (flushes_are : flushes ≡ flushes_of_scripts scripts)
     (end_is : end ≡ end_address_of setup.seg_size
     (min (log_start setup + rooms_of_scripts scripts) (log_limit setup)))
@@ -313,6 +323,10 @@ module _ (setup : Setup) (is : IsSetup setup) (words : WordsState) (w : WriterSt
             subst (λ (c : Backend). IsLaneOf w.page lane c v) found.backend_is (record {
               lines = found.are;
               answered = refl;
+              counted = (
+                omega arith,
+                omega (arith, found.short, lines_are, few_lines),
+              );
               doing = begins_alike found.lines found.script found.are 0;
               view = ap (first_plain_view setup.seg_size) same
                   ∙ sym (first_view_is opening number);

@@ -51,11 +51,6 @@ module _ {A : Type 0} where
   below_got (z ∷ zs) zero low = (z, refl)
   below_got (z ∷ zs) (suc i) low = below_got zs i (omega arith)
 
-  pub none_above : (xs : List A) (i : ℕ) → slice_get xs i ≡ None → i < length xs → ⊥
-  none_above [] i e low = absurd (omega arith)
-  none_above (z ∷ zs) zero e low = absurd (cc)
-  none_above (z ∷ zs) (suc i) e low = none_above zs i e (omega arith)
-
 -- a line and what it asks for stand at the same number, or neither does
 pub lines_agree : (asks : List Ask) (lines : List PlainLine) → AreLinesFor asks lines → (i : ℕ)
     → ((slice_get asks i ≡ None) × (slice_get lines i ≡ None))

@@ -1,5 +1,5 @@
 -- A lane behind a turn is its backend's behind the machine's.
-use Rattle.std.proofs.Common.{◌≡◌, ⊎_elim, ℕ, ◌+◌, List, slice_get, Option, Some, None, refl, sym, ap, ◌∙◌}
+use Rattle.std.proofs.Common.{◌≡◌, ⊎_elim, ℕ, ◌+◌, ◌≤◌, ◌<◌, ◌^◌, List, length, slice_get, Option, Some, None, refl, sym, ap, ◌∙◌, arith}
 use Rattle.machine_state.specs.Views.{Copy, Copying, View}
 use Rattle.machine_turns.specs.Doing.{Ask, Inserts, Commits, Flushes, Backend}
 use Rattle.machine_turns.specs.Turned.{line_start, with_answer, with_next}
@@ -15,7 +15,7 @@ use Rattle.wal_core.proofs.Keeping.{NextHas}
 use Rattle.wal_core.specs.Lines.{AreLinesFor, HasRecord, IsLineFor}
 use Rattle.wal_core.specs.PlainData.{doing_of, next_of_plain, plain_view}
 use Rattle.wal_core.specs.Playing.{HoldsPageFor, IsLaneOf, TriesFew}
-use Rattle.wal_core.proofs.Lists.{lines_agree}
+use Rattle.wal_core.proofs.Lists.{got_below, lines_agree}
 
 starts_alike : (ask : Ask) (line : PlainLine) → IsLineFor ask line
     → line_start (Some ask) ≡ doing_of (start_of_line (Some line))
@@ -58,7 +58,8 @@ few_at_begin (Some Flush) = tt
 module _ (page : List ℕ) (view : PlainView) (script : List PlainLine) (copied answered : ℕ)
     (d : PlainDoing) (asks : List Ask) (w : View) (lines : AreLinesFor asks script)
     (same : view ≡ plain_view w)
-    (copies : (c : Copy) → (w.working).flight ≡ Copying c → HasRecord script copied (c.entry).value) where
+    (copies : (c : Copy) → (w.working).flight ≡ Copying c → HasRecord script copied (c.entry).value)
+    (counted : (answered ≤ length script) × (length script < 2 ^ 32)) where
   abbrev lane : PlainBackend
   lane = record {
     view = view;
@@ -71,10 +72,12 @@ module _ (page : List ℕ) (view : PlainView) (script : List PlainLine) (copied 
   abbrev backend : Backend
   backend = record { asks = asks; answered = answered; doing = doing_of d }
 
-  pub lane_answers : IsLaneOf page (lane_answered lane) (with_answer backend) w
-  lane_answers = record {
+  pub lane_answers : (line : PlainLine) → slice_get script answered ≡ Some line
+      → IsLaneOf page (lane_answered lane) (with_answer backend) w
+  lane_answers line left = let low = got_below script answered line left in record {
     lines = lines;
     answered = refl;
+    counted = (omega (arith, low), counted.1);
     doing = begins_alike asks script lines (answered + 1);
     view = same;
     copies = copies;
@@ -89,6 +92,7 @@ module _ (page : List ℕ) (view : PlainView) (script : List PlainLine) (copied 
   lane_follows line left (GoesOn later) few holds = record {
     lines = lines;
     answered = refl;
+    counted = counted;
     doing = refl;
     view = same;
     copies = copies;
@@ -96,4 +100,4 @@ module _ (page : List ℕ) (view : PlainView) (script : List PlainLine) (copied 
     few = few;
     ended = λ none_left. absurd (cc);
   }
-  lane_follows line left (Answers full) few holds = lane_answers
+  lane_follows line left (Answers full) few holds = lane_answers line left

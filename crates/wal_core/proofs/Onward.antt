@@ -141,6 +141,7 @@ module _ (core : CoreState) (m : Machine) (k : PlaysMachine core m) (number : â„
               record {
                 lines = is.lines;
                 answered = is.answered;
+                counted = is.counted;
                 doing = is.doing;
                 view = is.view;
                 copies = is.copies;

@@ -4,7 +4,6 @@ use Rattle.std.proofs.Common.{◌≡◌, inl, ⊎_elim, ℕ, ◌+◌, Bool, true
 use Rattle.wal_types.specs.declared.record.Record.{Record}
 use Rattle.byte_position.specs.Geometry.{IsSegmentSize}
 use Rattle.wal_page.specs.Order.{Entry}
-use lib.ListN.{get_elem?}
 use Rattle.machine_state.specs.declared.setup.Setup.{Setup}
 use Rattle.machine_state.specs.Words.{Opening, down_word, position_word, down_number}
 use Rattle.machine_state.proofs.Lists.{at_same}
@@ -13,7 +12,7 @@ use Rattle.machine_state.specs.Views.{Copy, Copying, View}
 use Rattle.machine_state.specs.Steps.{IsLive, load_down, word_of_step, view_behind}
 use Rattle.machine_state.proofs.WordLists.{word_again}
 use Rattle.machine_turns.specs.Doing.{Ask, Inserts, Commits, Backend, Machine}
-use Rattle.machine_turns.specs.Turned.{TurnMade, AllDone, Waits, Next, can_step, event_named, looks_down, word_waited, fallen, moved_on, next_of, outcome, state_stepped, tells_full, turned, turned_by, turned_for, turned_of, with_answer, with_next}
+use Rattle.machine_turns.specs.Turned.{TurnMade, Waits, Next, can_step, event_named, looks_down, word_waited, fallen, moved_on, next_of, outcome, state_stepped, tells_full, turned, turned_by, turned_for, turned_of, with_answer, with_next}
 use Rattle.machine_turns.specs.Standing.{HasBackend, IsRunning, StandsFor}
 use Rattle.machine_turns.proofs.Poses.{bool_cases}
 use Rattle.machine_turns.proofs.Schedules.{turned_good}
@@ -35,7 +34,7 @@ use Rattle.wal_core.specs.Lines.{HasRecord, InsertsRecord, IsLineFor}
 use Rattle.wal_core.specs.PlainData.{doing_of, next_of_plain, plain_view, turn_of}
 use Rattle.wal_core.specs.Playing.{CoreState, HasCallRoom, HasRoomFor, IsLaneOf, PlaysMachine, core_behind}
 use Rattle.wal_core.proofs.EachPlace.{step_follows, step_keeps}
-use Rattle.wal_core.proofs.Lists.{below_got, got_below, lines_agree, none_above, set_same}
+use Rattle.wal_core.proofs.Lists.{below_got, got_below, lines_agree, set_same}
 use Rattle.wal_core.proofs.NextLanes.{lane_answers, lane_follows}
 use Rattle.wal_core.proofs.Onward.{plays_on}
 use Rattle.wal_core.proofs.Rooms.{answered_needs_none, lane_keeps_room, lanes_keep_room, step_moves_room}
@@ -178,7 +177,8 @@ module _ (m : Machine) (number : ℕ) (v : View) (live : IsLive m.state (number 
           m.full (word_again words down_number) refl (inl refl) (k.writer_is).at_home
           (λ l is. (k.writer_is).in_hand (number + 1) v l live.0 is)
           (lane_answers (core.writer).page (plain_view v) script copied answered d asks
-          (view_behind v load_down (slice_index words down_number) (m.state).home) of.lines refl of.copies)
+          (view_behind v load_down (slice_index words down_number) (m.state).home) of.lines refl of.copies of.counted
+          line line_left)
           refl number_is (same_writer k.page_whole) (k.full_is ∙ sym (off core.full)) room_fallen calls_fallen running,
     )
 
@@ -294,7 +294,7 @@ module _ (m : Machine) (number : ℕ) (v : View) (live : IsLive m.state (number 
             (subst (λ (n : Next). IsLaneOf (st.writer).page moved.lane (with_next n backend)
             (view_left m v ask d)) follows.next
             (lane_follows (st.writer).page (st.left).view script (copied_behind d lane) answered d
-            asks (view_left m v ask d) of.lines follows.view copies_on line line_left next
+            asks (view_left m v ask d) of.lines follows.view copies_on of.counted line line_left next
             keeps.few keeps.page))
             keeps.number_kept number_is keeps.like
             (full_on (sym follows.next))
@@ -551,14 +551,3 @@ module _ (core : CoreState) (m : Machine) (k : PlaysMachine core m) (number : �
       × ((y.1.reserving).number ≡ number + 1)) (λ i. (same i, same_view i))
       (found.2.2, found.2.3) in
       turns_here b there.1 lane at v run.1 run.2 of.0 of.1
-
-  pub no_lane_is_done : slice_get core.lanes number ≡ None → turned m number ≡ (AllDone, m)
-  no_lane_is_done none_there = by_backend (slice_get m.backends number) refl
-    where
-      by_backend : (x : Option Backend) → slice_get m.backends number ≡ x
-          → turned m number ≡ (AllDone, m)
-      by_backend None is = ap (λ (y : Option Backend). turned_of m number y
-          (get_elem? (m.state).views (number + 1))) is
-      by_backend (Some b) is =
-          let low = got_below m.backends number b is in
-          absurd (none_above core.lanes number none_there (omega (arith, low, k.count)))

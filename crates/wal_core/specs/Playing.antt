@@ -1,5 +1,5 @@
 -- When plain data are those of a machine that runs.
-use Rattle.std.specs.Prelude.{◌≡◌, ℕ, ◌+◌, ◌-◌, ◌*◌, ◌/◌, ◌<◌, ◌≤◌, Bool, ◌||◌, List, [], ◌∷◌, length, take, drop, min, set, slice_get, Some, None}
+use Rattle.std.specs.Prelude.{◌≡◌, ℕ, ◌+◌, ◌-◌, ◌*◌, ◌/◌, ◌<◌, ◌≤◌, ◌^◌, Bool, ◌||◌, List, [], ◌∷◌, length, take, drop, min, set, slice_get, Some, None}
 use mathlib.Core.Option.{Option, none, some}
 use Rattle.byte_position.specs.Position.{end_address_of}
 use Rattle.machine_state.specs.declared.setup.Setup.{Setup}
@@ -59,11 +59,13 @@ abbrev pub TriesFew : PlainDoing → Type 0
 TriesFew (doings.Tries taken) = taken < 8
 TriesFew other = Unit {0}
 
--- a lane has its backend's lines, and knows what the view knows; the record that it copies is that
--- of one of its lines; a backend whose lines are all answered begins nothing
+-- a lane has its backend's lines, which a number of 32 bits counts, since the disk has room for a
+-- call for each; it knows what the view knows; the record that it copies is that of one of its
+-- lines; a backend whose lines are all answered begins nothing
 pub record IsLaneOf (page : List ℕ) (lane : PlainBackend) (b : Backend) (v : View) : Type 0 where
   pub lines : AreLinesFor b.asks lane.script
   pub answered : b.answered ≡ lane.answered
+  pub counted : (lane.answered ≤ length lane.script) × (length lane.script < 2 ^ 32)
   pub doing : b.doing ≡ doing_of lane.doing
   pub view : lane.view ≡ plain_view v
   pub copies : (c : Copy) → (v.working).flight ≡ Copying c

@@ -72,6 +72,9 @@ impl Core {
             → AreScriptsFor asks scripts.items
             → PlaysMachine (core_of core) (machine_begun (core_of core) asks)) }
         ensures played { IfOk result (λ core. IsPlayed core) }
+        // There is a backend for each script.
+        ensures lanes { IfOk result (λ core.
+            length (core_of core).lanes ≡ length scripts.items) }
     {
         let Some(shape) = LogShape::new(setup) else {
             return Err(CoreErr::BadSetup);
@@ -94,11 +97,11 @@ impl Core {
         })
     }
 
-    /// One turn of a backend: the step that the order of steps names for it. A turn of a backend
-    /// that waits, whose lines are all answered, or that is not there, changes nothing. It takes no
-    /// memory.
+    /// One turn of a backend that is there: the step that the order of steps names for it. Where
+    /// that waits, or its lines are all answered, nothing is changed. It takes no memory.
     pub fn turn(&mut self, backend: u32) -> Turn
-        requires { IsPlayed self.old }
+        requires there { backend < length (core_of self.old).lanes }
+        requires played { IsPlayed self.old }
         // What it tells and leaves is the machine's turn.
         ensures turned { (m : Machine) → PlaysMachine (core_of self.old) m
             → (result ≡ turn_of (turned m backend).0)
@@ -108,37 +111,36 @@ impl Core {
             → let n = (turned m backend).1 in
             IsSound n.first n.opening n.state.words n.state.home n.state.views }
         ensures played { IsPlayed self.new }
+        // All backends stay.
+        ensures lanes { length (core_of self.new).lanes ≡ length (core_of self.old).lanes }
     {
-        match self.lanes.get_mut(backend as usize) {
-            Some(lane) => lane.turn(
-                &self.shape,
-                &mut self.words,
-                &mut self.writer,
-                &mut self.full,
-            ),
-            None => Turn::Done,
-        }
+        self.lanes[backend as usize].turn(
+            &self.shape,
+            &mut self.words,
+            &mut self.writer,
+            &mut self.full,
+        )
     }
 
     /// How many backends there are.
     pub fn backends(&self) -> u32
         requires { IsPlayed self.now }
-        ensures { (m : Machine) → PlaysMachine (core_of self.now) m → length m.backends ≡ result }
+        ensures count { result ≡ length (core_of self.now).lanes }
+        ensures machine { (m : Machine) → PlaysMachine (core_of self.now) m
+            → length m.backends ≡ result }
     {
         self.lanes.len() as u32
     }
 
-    /// How many lines of a backend are answered; 0 where it is not there.
-    pub fn answered(&self, backend: u32) -> u64
-        ensures there { (m : Machine) (b : Backend) → PlaysMachine (core_of self.now) m
+    /// How many lines of a backend that is there are answered.
+    pub fn answered(&self, backend: u32) -> u32
+        requires { backend < length (core_of self.now).lanes }
+        ensures { (m : Machine) (b : Backend) → PlaysMachine (core_of self.now) m
             → HasBackend m backend b → b.answered ≡ result }
-        ensures absent { (m : Machine) → PlaysMachine (core_of self.now) m
-            → length m.backends ≤ backend → result ≡ 0 }
     {
-        match self.lanes.get(backend as usize) {
-            Some(lane) => lane.answered as u64,
-            None => 0,
-        }
+        let answered = self.lanes[backend as usize].answered;
+        // It fits: the disk has room for a call for each line.
+        u32::try_from(answered).unwrap_or(u32::MAX)
     }
 
     /// What a word that all backends share holds now.

@@ -40,7 +40,12 @@ impl PlayedCore {
         })
     }
 
+    /// A turn of a backend; where it is not there nothing is changed.
     pub fn turn(&mut self, backend: u32) -> Turn {
-        self.core.turn(backend)
+        if backend < self.core.backends() {
+            self.core.turn(backend)
+        } else {
+            Turn::Done
+        }
     }
 }

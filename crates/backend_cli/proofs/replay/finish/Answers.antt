@@ -12,7 +12,7 @@ use Rattle.backend_cli.proofs.replay.finish.Goals as goal
 
 pub print-listed-requires-clause-counted : goal.print-listed-requires-clause-counted
 print-listed-requires-clause-counted g c =
-    let begun = c.requires.1 in
+    let begun = c.requires.begun.1 in
     let turns = backends_in_turn c.args.schedule.now in
     let m = machine_behind begun.first turns in
     let core = c.take_all_turns.new.core in

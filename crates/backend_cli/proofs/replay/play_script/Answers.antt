@@ -1,6 +1,6 @@
 -- The schedule of the script that was read is played.
 use Rattle.backend_cli.specs.Outside.{source_view}
-use Rattle.backend_cli.proofs.ReplayLaws.{few_backends}
+use Rattle.backend_cli.proofs.ReplayLaws.{few_backends, turns_are_there}
 use Rattle.backend_cli.proofs.replay.play_script.Goals as goal
 
 pub begin-requires-clause-few : goal.begin-requires-clause-few
@@ -13,10 +13,15 @@ begin-requires-clause-asked g c =
     let read = c.in-Ok.ensures in
     (read.0.backends, read.1.backends)
 
-pub finish-requires : goal.finish-requires
-finish-requires g c =
+pub finish-requires-clause-begun : goal.finish-requires-clause-begun
+finish-requires-clause-begun g c =
     let read = c.in-Ok.ensures in
     (read.0.backends, c.in-Ok-begin.ensures read.0.backends read.1.backends)
+
+pub finish-requires-clause-there : goal.finish-requires-clause-there
+finish-requires-clause-there g c =
+    let read = c.in-Ok.ensures in
+    turns_are_there _ _ c.in-Ok.replay read.0 c.args.options.now _ read.1 (c.in-Ok-begin.ensures read.0.backends read.1.backends)
 
 pub returns-in-Ok-begin : goal.returns-in-Ok-begin
 returns-in-Ok-begin g c = λ tape moment faults.

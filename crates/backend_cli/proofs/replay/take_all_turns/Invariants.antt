@@ -1,4 +1,4 @@
-use Rattle.std.proofs.Common.{◌≡◌, drop}
+use Rattle.std.proofs.Common.{◌≡◌, ◌<◌, All, drop, length}
 use Rattle.run_script.specs.Turns.{backends_in_turn}
 use Rattle.machine_turns.specs.Doing.{Machine}
 use Rattle.machine_turns.specs.Turned.{machine_behind}
@@ -11,4 +11,5 @@ abbrev pub invariant-loop-item : goal.invariant-loop-item
 invariant-loop-item l = record {
   plays : (m : Machine) → PlaysMachine (core_of l.fn.core) m → (now : Machine) × PlaysMachine (core_of l.core) now × (machine_behind now (backends_in_turn (drop (l.item-index) l.schedule)) ≡ machine_behind m (backends_in_turn l.schedule));
   played : IsPlayed l.core;
+  there : All (λ backend. backend < length (core_of l.core).lanes) (backends_in_turn (drop l.item-index l.schedule));
 }

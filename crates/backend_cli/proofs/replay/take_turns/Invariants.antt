@@ -1,4 +1,4 @@
-use Rattle.std.proofs.Common.{replicate}
+use Rattle.std.proofs.Common.{◌≡◌, length, replicate}
 use Rattle.machine_turns.specs.Doing.{Machine}
 use Rattle.machine_turns.specs.Turned.{machine_behind}
 use Rattle.wal_core.specs.Cores.{IsPlayed, core_of}
@@ -10,4 +10,5 @@ abbrev pub invariant-loop : goal.invariant-loop
 invariant-loop l = record {
   plays : (m : Machine) → PlaysMachine (core_of l.fn.core) m → PlaysMachine (core_of l.core) (machine_behind m (replicate l.counter l.item.backend));
   played : IsPlayed l.core;
+  lanes : length (core_of l.core).lanes ≡ length (core_of l.fn.core).lanes;
 }

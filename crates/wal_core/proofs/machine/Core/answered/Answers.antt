@@ -1,33 +1,20 @@
--- A lane has answered as many lines as its backend.
-use Rattle.std.proofs.Common.{◌≡◌, List, length, slice_index_or, sym, ap, subst, ltb-true, arith}
-use Rattle.machine_turns.proofs.MapPlaces.{ltb-false}
-use Rattle.machine_turns.specs.declared.lane.PlainBackend.{PlainBackend}
+-- A lane has answered as many lines as its backend, and 32 bits count them.
+use Rattle.std.proofs.Common.{◌≡◌, ℕ, ◌<◌, Result, Ok, Err, sym, ◌∙◌}
+use Rattle.std.specs.Result.{OkIff, result_unwrap_or}
 use Rattle.wal_core.specs.Cores.{core_of}
-use Rattle.wal_core.proofs.Cores.{lane_read, none_answered}
+use Rattle.wal_core.proofs.Cores.{few_answered, lane_read}
 use Rattle.wal_core.proofs.machine.Core.answered.Goals as goal
 
-pub returns-in-Some-clause-there : goal.returns-in-Some-clause-there
-returns-in-Some-clause-there c = λ m b k there. lane_read (core_of c.args.self.now) m k c.args.backend b
-    c.in-Some.lane.now there
-    (subst (λ (lanes : List PlainBackend). c.in-Some.lane.now
-    ≡ slice_index_or lanes c.args.backend c.in-Some.lane.now) c.deref.ensures.value
-    c.in-Some.ensures.lookup.1)
+-- a number that fits is told as it is
+told : {E : Type 0} (r : Result ℕ E) (n : ℕ) → n < 4294967296 → OkIff r (n < 4294967296) n
+    → n ≡ result_unwrap_or r 4294967295
+told (Ok x) n fits is = sym is.1
+told (Err e) n fits is = absurd (is fits)
 
-pub returns-in-None-clause-there : goal.returns-in-None-clause-there
-returns-in-None-clause-there c = λ m b k there. none_answered (core_of c.args.self.now) m k c.args.backend b 0
-    there (λ low.
-    let above = ltb-false c.args.backend (length c.deref.result.now)
-    (sym c.in-None.ensures.lookup.0) in
-    omega (arith, low, above, ap (λ (lanes : List PlainBackend). length lanes) c.deref.ensures.value))
-
-pub returns-in-Some-clause-absent : goal.returns-in-Some-clause-absent
-returns-in-Some-clause-absent c = λ m k above.
-    let low = ltb-true c.args.backend (length c.deref.result.now)
-    (sym c.in-Some.ensures.lookup.0) in
-    absurd (omega (
-      arith,
-      low,
-      above,
-      k.count,
-      ap (λ (lanes : List PlainBackend). length lanes) c.deref.ensures.value,
-    ))
+pub returns : goal.returns
+returns c = λ m b k there.
+    let core = core_of c.args.self.now in
+    let lane = c.index.result.now in
+    let same = lane_read core m k c.args.backend b lane there c.index.ensures in
+    let fits = few_answered core m k c.args.backend b lane there c.index.ensures in
+    same ∙ (told c.try_from.result lane.answered fits c.try_from.ensures ∙ sym c.unwrap_or.ensures)

@@ -12,7 +12,7 @@ use Rattle.machine_turns.specs.Scripts.{InsertsLogRecord}
 use Rattle.machine_turns.specs.Writer.{state_of}
 use Rattle.wal_core.specs.Cores.{core_of, first_opening, flushes_of_scripts, lines_of_scripts, machine_begun, rooms_of_scripts}
 use Rattle.wal_core.specs.Playing.{PlaysMachine}
-use Rattle.wal_core.proofs.FirstData.{begins_playing, scripts_asked, writer_first}
+use Rattle.wal_core.proofs.FirstData.{begins_playing, lanes_are_scripts, scripts_asked, writer_first}
 use Rattle.wal_core.proofs.machine.Core.new.Goals as goal
 
 -- what the callees give, over the log's shape
@@ -68,7 +68,7 @@ returns-clause-plays c = λ asks are.
     ∙ ap (λ (s : Setup). s.ring_pages) (sym c.in-Some.ensures.1) in
     let plays = begins_playing shape (is_setup c) c.in_ok-words.words w c.args.fail.items
     c.args.scripts.items (few_scripts c) (words_first c) pages c.log_end-end.result c.line_count-lines.result
-    c.flush_count-flushes.result (lines_are c) (flushes_are c) (end_is c) c.in_ok-writer.ensures.first c.in_ok-writer.ensures.kept.1.whole asks are in
+    c.flush_count-flushes.result (lines_are c) c.in_ok-writer.ensures.few.0 (flushes_are c) (end_is c) c.in_ok-writer.ensures.first c.in_ok-writer.ensures.kept.1.whole asks are in
     subst (λ (lanes : List PlainBackend). PlaysMachine (record {
       setup = shape;
       words = c.in_ok-words.words;
@@ -94,7 +94,7 @@ returns-clause-begun c =
       writer = subst (λ (s : Setup). IsFirstWriter (first_opening s) w.plain) c.in-Some.ensures.1
           (writer_first shape (is_setup c) c.in_ok-words.words w c.args.fail.items
           c.args.scripts.items (few_scripts c) (words_first c) pages c.log_end-end.result
-          c.line_count-lines.result c.flush_count-flushes.result (lines_are c) (flushes_are c) (end_is c) c.in_ok-writer.ensures.first c.in_ok-writer.ensures.kept.1.whole);
+          c.line_count-lines.result c.flush_count-flushes.result (lines_are c) c.in_ok-writer.ensures.few.0 (flushes_are c) (end_is c) c.in_ok-writer.ensures.first c.in_ok-writer.ensures.kept.1.whole);
       first = (c.in_ok-writer.ensures.first).first;
       calls = (c.in_ok-writer.ensures.first).calls;
       failing_is = (c.in_ok-writer.ensures.first).failing_is;
@@ -116,3 +116,7 @@ returns-clause-played c =
         returns-clause-plays c asked.0 asked.1,
       ),
     )
+
+pub returns-clause-lanes : goal.returns-clause-lanes
+returns-clause-lanes c = ap (λ (lanes : List PlainBackend). length lanes) c.in_ok-lanes.ensures
+    ∙ lanes_are_scripts c.in-Some.shape.seg_size 1 c.args.scripts.items
