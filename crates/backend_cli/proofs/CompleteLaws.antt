@@ -177,7 +177,7 @@ rooms_found_of size valid prev (e ∷ es) =
     let found : List FoundRecord = found_from size (address_of size e.start) es in
     let here = ap (λ (p : ℕ). room_at size p e.value) (position_of-address_of size valid e.start) in
     let others = rooms_found_of size valid (address_of size e.start) es in
-    sum_by-cons (λ (f : FoundRecord). room_at size (position_of size f.start.0) f.value)
+    sum_by-cons (λ (f : FoundRecord). room_at size (position_of size f.head.start.0) f.value)
     (found_entry size prev e) found
     ∙ ap (λ (n : ℕ). n + rooms_found size found) here
     ∙ ap (λ (n : ℕ). room_at size e.start e.value + n) others ∙ sym (rooms_of_cons size e es)

@@ -44,7 +44,7 @@ MeansThese writer script outside =
 
 -- how many bytes of the log records take up that were found
 abbrev pub rooms_found : ℕ → List FoundRecord → ℕ
-rooms_found size found = sum_by (λ f. room_at size (position_of size f.start.0) f.value) found
+rooms_found size found = sum_by (λ f. room_at size (position_of size f.head.start.0) f.value) found
 
 -- the log has room for what was found and for all that a script asks for
 abbrev pub LogHasRoom : RunOptions → List FoundRecord → List (List AskedLine) → Type 0

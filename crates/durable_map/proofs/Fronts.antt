@@ -78,10 +78,10 @@ same_rest r s rs ss same = cc
 
 -- one behind others starts behind them
 later : (low : ℕ) (before behind : List FoundRecord) (r : FoundRecord)
-    → StartsRise low (before ++ r ∷ behind) → low ≤ r.start.0
+    → StartsRise low (before ++ r ∷ behind) → low ≤ r.head.start.0
 later low [] behind r rise = rise.0
 later low (b ∷ before) behind r rise =
-    let more = later (b.start.0 + 1) before behind r rise.1 in omega (arith, rise.0, more)
+    let more = later (b.head.start.0 + 1) before behind r rise.1 in omega (arith, rise.0, more)
 
 only_first : (x r : FoundRecord) (rs : List FoundRecord) → Contains (x ∷ rs) r
     → (x ≡ r → Contains rs r) → Contains rs r
@@ -103,11 +103,11 @@ reaches low (x ∷ front) back [] behind r rise same has =
 reaches low (x ∷ front) back (b ∷ before) behind r rise same has =
     let first = same_first x b (front ++ back) (before ++ r ∷ behind) same in
     let others = same_rest x b (front ++ back) (before ++ r ∷ behind) same in
-    let above = later (x.start.0 + 1) before behind r
-    (subst (StartsRise (x.start.0 + 1)) others rise.1) in
-    let rest = reaches (x.start.0 + 1) front back before behind r rise.1 others
+    let above = later (x.head.start.0 + 1) before behind r
+    (subst (StartsRise (x.head.start.0 + 1)) others rise.1) in
+    let rest = reaches (x.head.start.0 + 1) front back before behind r rise.1 others
     (only_first x r front has
-    (λ is. let at : x.start.0 ≡ r.start.0 = ap (λ (f : FoundRecord). f.start.0) is in
+    (λ is. let at : x.head.start.0 ≡ r.head.start.0 = ap (λ (f : FoundRecord). f.head.start.0) is in
     absurd (omega (arith, at, above)))) in (
       rest.0,
       ap (λ (f : FoundRecord). f ∷ front) first ∙ ap (λ (l : List FoundRecord). b ∷ l) rest.1,

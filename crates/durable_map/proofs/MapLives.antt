@@ -308,7 +308,7 @@ module _ {D : Type 0} (tape : D → Option Tape) (moment faults : D → ℕ)
           (Contains-append_right (found_of size below) (mark ∷ behind) mark
           (Contains-append_left (mark ∷ []) behind mark (Contains-push [] mark))) in
           let same_size = sym (ap (λ (s : Setup). s.seg_size) done.same) ∙ sized in
-          let ends : finish_of size e ≡ told.0.end.0 =
+          let ends : finish_of size e ≡ told.0.head.end.0 =
           ap (λ (n : ℕ). finish_of n e) (sym same_size) ∙ sym (done.told).end_is ∙ sym told.2 in (
             there,
             told.4.1,

@@ -148,7 +148,7 @@ module _ (size : ℕ) (reader next : Reader) (records : List FoundRecord)
   pub given_foreign : (found : FoundRecord) (tape : Option Tape) → IsSegmentSize size
       → (reader_state next).size ≡ size → IfSome tape (HasGiven size reader records)
       → Steps tape reader next (step_to found) → SaysNoChange found.value
-      → IfSome tape (HasForeign size found.start.0)
+      → IfSome tape (HasForeign size found.head.start.0)
   given_foreign found None valid next_sized given steps none = tt
   given_foreign found (Some t) valid next_sized given steps none =
       let one = step_of t (step_to found) steps given.knows in
@@ -179,7 +179,7 @@ said_as step said read f is ok some = sym is ∙ ok ∙ ap ok_of some
 
 pub tells_fault : (size : ℕ) (tape : Option Tape) (old new : ℕ) (found : FoundRecord)
     (kind : MapFaultKind) → RefusesFound found kind → new ≡ old
-    → (SaysNoChange found.value → IfSome tape (HasForeign size found.start.0))
+    → (SaysNoChange found.value → IfSome tape (HasForeign size found.head.start.0))
     → TellsReadFault size tape old new kind
 tells_fault size tape old new found kinds.Memory refuses same foreign = same
 tells_fault size tape old new found (kinds.Disk faults) refuses same foreign = absurd refuses

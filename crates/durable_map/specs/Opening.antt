@@ -50,7 +50,7 @@ pub record HasForeign (size at : ℕ) (t : Tape) : Type 0 where
   pub others : List FoundRecord
   pub answer : Answer
   pub decodes : Decodes size (log_of t size) size None (before ++ found ∷ others) answer
-  pub starts : found.start.0 ≡ at
+  pub starts : found.head.start.0 ≡ at
   pub says_none : SaysNoChange found.value
 
 -- ---- reading
@@ -68,7 +68,7 @@ next_of (Err (reading.Stopped stop)) = Ok None
 abbrev pub RefusesFound : FoundRecord → MapFaultKind → Type 0
 RefusesFound found Memory = Unit {0}
 RefusesFound found (Disk faults) = ⊥
-RefusesFound found (Foreign at) = (at ≡ found.start) × SaysNoChange found.value
+RefusesFound found (Foreign at) = (at ≡ found.head.start) × SaysNoChange found.value
 RefusesFound found (Log kind) = ⊥
 
 -- why a log was not read; the disk's count of faults before and after

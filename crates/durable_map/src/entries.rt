@@ -32,7 +32,9 @@ pub(crate) fn take_in(
             Ok(()) => Ok(()),
             Err(_) => Err(MapFaultKind::Memory),
         },
-        Ok(None) => Err(MapFaultKind::Foreign { at: found.start }),
+        Ok(None) => Err(MapFaultKind::Foreign {
+            at: found.head.start,
+        }),
         Err(_) => Err(MapFaultKind::Memory),
     }
 }

@@ -16,7 +16,7 @@ use std::alloc::Global;
 use std::collections::BTreeMap;
 use wal_log::shared_numbers::passes_share_numbers;
 use wal_log::{OpenFault, OpenFaultKind, Setup, Wal};
-use wal_reader::{FoundRecord, ReadErr, Reader, Step, decoding_is_settled};
+use wal_reader::{FoundRecord, ReadErr, Reader, RecordHead, Step, decoding_is_settled};
 use wal_rule::numbers::seats_keep_numbers;
 use wal_types::Lsn;
 
@@ -74,10 +74,12 @@ fn next_of(step: Result<Step, ReadErr>) -> Result<Option<FoundRecord>, MapFaultK
                 value,
             },
         ) => Ok(Some(FoundRecord {
-            start,
-            end,
-            prev,
-            total,
+            head: RecordHead {
+                start,
+                end,
+                prev,
+                total,
+            },
             value,
         })),
         Ok(Step::End { .. }) => Ok(None),

@@ -31,18 +31,19 @@ use Rattle.found_log.proofs.ReadLaws.{GaveSo, IsAll, ReadsOne, Steps, ended_as, 
 -- ---- where records end
 
 end_behind_push : (end : ℕ) (records : List FoundRecord) (f : FoundRecord)
-    → end_behind end (records ++ f ∷ []) ≡ f.end.0
+    → end_behind end (records ++ f ∷ []) ≡ f.head.end.0
 end_behind_push end [] f = refl
-end_behind_push end (r ∷ records) f = end_behind_push r.end.0 records f
+end_behind_push end (r ∷ records) f = end_behind_push r.head.end.0 records f
 
 last_start_behind_push : (start : ℕ) (records : List FoundRecord) (f : FoundRecord)
-    → last_start_behind start (records ++ f ∷ []) ≡ f.start.0
+    → last_start_behind start (records ++ f ∷ []) ≡ f.head.start.0
 last_start_behind_push start [] f = refl
-last_start_behind_push start (r ∷ records) f = last_start_behind_push r.start.0 records f
+last_start_behind_push start (r ∷ records) f = last_start_behind_push r.head.start.0 records f
 
 -- with a record more
 abbrev pub IsEndWith : FoundRecord → RecordsEnd → RecordsEnd → Type 0
-IsEndWith f old new = (new.count ≡ old.count + 1) × (new.end ≡ f.end) × (new.last_start ≡ f.start)
+IsEndWith f old new =
+    (new.count ≡ old.count + 1) × (new.end ≡ f.head.end) × (new.last_start ≡ f.head.start)
 
 module _ (size made : ℕ) where
   -- where none is
@@ -57,8 +58,8 @@ module _ (size made : ℕ) where
 
   -- behind a record that a reader gave
   pub may_end_behind : (standing : Standing) (f : FoundRecord) → IsOnWay standing
-      → StandsBehindRecord size f standing → size ≤ f.end.0 → f.end.0 ≤ made * size + size
-      → MayEndAt size made f.end.0
+      → StandsBehindRecord size f standing → size ≤ f.head.end.0 → f.head.end.0 ≤ made * size + size
+      → MayEndAt size made f.head.end.0
   may_end_behind NotBegun f on behind from upto = absurd behind
   may_end_behind (At at) f on behind from upto = record {
     position = at.position;
@@ -70,7 +71,7 @@ module _ (size made : ℕ) where
   may_end_behind (Stopped stop) f on behind from upto = absurd behind
 
   pub ends_with_more : (records : List FoundRecord) (old new : RecordsEnd) (f : FoundRecord)
-      → EndsRecords size made records old → MayEndAt size made f.end.0 → IsEndWith f old new
+      → EndsRecords size made records old → MayEndAt size made f.head.end.0 → IsEndWith f old new
       → EndsRecords size made (records ++ f ∷ []) new
   ends_with_more records old new f ends may so = record {
     count_is = omega (arith, so.0, ends.count_is, length-append records (f ∷ []));
@@ -96,7 +97,7 @@ ends_well size records t all = record {
 
 -- a record ends before segment 1, or behind the segments that are there
 abbrev pub IsOutside : ℕ → ℕ → FoundRecord → Type 0
-IsOutside size made f = (f.end.0 < size) ⊎ (made * size + size < f.end.0)
+IsOutside size made f = (f.head.end.0 < size) ⊎ (made * size + size < f.head.end.0)
 
 module _ (size made : ℕ) (tape : Option Tape) (reader next : Reader)
     (sized : (reader_state reader).size ≡ size) (records : List FoundRecord)
@@ -111,7 +112,7 @@ module _ (size made : ℕ) (tape : Option Tape) (reader next : Reader)
   -- .. which ends outside of the segments that are there
   pub read_outside : (f : FoundRecord) (fault : FindFault) → IsSegmentSize size
       → (reader_state next).size ≡ size → Steps tape reader next (step_to f)
-      → (fault ≡ Foreign (Damaged f.start Missing)) × IsOutside size made f
+      → (fault ≡ Foreign (Damaged f.head.start Missing)) × IsOutside size made f
       → IfSome tape (IsUnread size made fault)
   read_outside f fault valid next_sized steps refused =
       lifted tape (ReadsOne size (AreRead records) f) (IsUnread size made fault)

@@ -153,7 +153,7 @@ module _ (size : ℕ) (valid : IsSegmentSize size) (pages : Pages) (made : ℕ) 
           ]))
     ]
 
-    total_is : found.total ≡ total
+    total_is : found.head.total ≡ total
     total_is = stands.total_is ∙ size_in_header size pages None place
 
     some_bytes : 24 ≤ total
@@ -192,13 +192,13 @@ module _ (size : ℕ) (valid : IsSegmentSize size) (pages : Pages) (made : ℕ) 
       low = next_low;
     }
 
-    next_is : next_position size place.position found.total found.value ≡ next
+    next_is : next_position size place.position found.head.total found.value ≡ next
     next_is = ap (λ (n : ℕ). next_position size place.position n found.value) total_is
 
-    start_is : found.start.0 ≡ start
+    start_is : found.head.start.0 ≡ start
     start_is = stands.start_is
 
-    end_is : found.end.0 ≡ end_address_of size next
+    end_is : found.head.end.0 ≡ end_address_of size next
     end_is = stands.end_is ∙ ap (end_address_of size) next_is
 
     -- it ends behind its start
@@ -212,7 +212,7 @@ module _ (size : ℕ) (valid : IsSegmentSize size) (pages : Pages) (made : ℕ) 
           address_of-mono size valid place.position (next - 1) (omega (arith, further)),
         )
 
-    pub record_within : (found.start.0 < found.end.0) × (found.end.0 ≤ limit)
+    pub record_within : (found.head.start.0 < found.head.end.0) × (found.head.end.0 ≤ limit)
     record_within = (
       omega (arith, start_is, end_is, record_rises),
       omega (arith, end_is, end_address_of-le size valid next limit next_low),
@@ -224,10 +224,10 @@ module _ (size : ℕ) (valid : IsSegmentSize size) (pages : Pages) (made : ℕ) 
   -- ---- all records
 
   abbrev ReadsWithin : FoundRecord → Type 0
-  ReadsWithin f = (f.start.0 < f.end.0) × (f.end.0 ≤ limit)
+  ReadsWithin f = (f.head.start.0 < f.head.end.0) × (f.head.end.0 ≤ limit)
 
   abbrev pub EndsWithin : FoundRecord → Type 0
-  EndsWithin f = (size ≤ f.end.0) × (f.end.0 ≤ limit)
+  EndsWithin f = (size ≤ f.head.end.0) × (f.head.end.0 ≤ limit)
 
   records_within : (read : List FoundRecord) (answer : Answer) (place : RecordPlace)
       → IsBelow place.position → ReadsRecords size pages None place read answer
@@ -326,6 +326,6 @@ module _ (size : ℕ) (valid : IsSegmentSize size) (pages : Pages) (made : ℕ) 
   decoded_within found answer decodes =
       let all = read_within (beginning size pages size) decodes.read answer refl decodes.reads in
       subst (Each EndsWithin) (sym decodes.given) (each_kept ReadsWithin EndsWithin
-      (λ f. nat_le size f.start.0) (λ f given within.
-      (let from = leb-true size f.start.0 given in (omega (arith, from, within.0), within.1)))
+      (λ f. nat_le size f.head.start.0) (λ f given within.
+      (let from = leb-true size f.head.start.0 given in (omega (arith, from, within.0), within.1)))
       decodes.read all)

@@ -43,7 +43,7 @@ pub record HasRecordOutside (size made : ℕ) (t : Tape) : Type 0 where
   pub others : List FoundRecord
   pub answer : Answer
   pub decodes : Decodes size (log_of t size) size None (before ++ last ∷ others) answer
-  pub outside : (last.end.0 < size) ⊎ (made * size + size < last.end.0)
+  pub outside : (last.head.end.0 < size) ⊎ (made * size + size < last.head.end.0)
 
 -- why a log was not read: it is a foreign one; want of memory and a fault say nothing
 abbrev pub IsUnread : ℕ → ℕ → FindFault → Tape → Type 0

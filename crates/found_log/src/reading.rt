@@ -13,7 +13,7 @@ use crate::foreign::is_foreign;
 use byte_position::Geometry;
 use segment_disk::Disk;
 use std::alloc::Global;
-use wal_reader::{DamageKind, FoundRecord, ReadErr, Reader, Step, Stopped};
+use wal_reader::{DamageKind, FoundRecord, ReadErr, Reader, RecordHead, Step, Stopped};
 use wal_types::Lsn;
 
 /// Where records end that were read one behind another from a log's start on.
@@ -38,23 +38,25 @@ impl RecordsEnd {
         requires few { made ≤ 4096 }
         requires counted { self.count < 2 ^ 60 }
         ensures follows { IfOk result (λ end. (end.count ≡ self.count + 1)
-            × (end.end ≡ found.now.end) × (end.last_start ≡ found.now.start)
+            × (end.end ≡ found.now.head.end) × (end.last_start ≡ found.now.head.start)
             × (geometry ≤ end.end.0) × (end.end.0 ≤ made * geometry + geometry)) }
-        ensures refused { IfErr result (λ fault. (fault ≡ Foreign (Damaged found.now.start Missing))
-            × ((found.now.end.0 < geometry) ⊎ (made * geometry + geometry < found.now.end.0))) }
+        ensures refused { IfErr result (λ fault.
+            (fault ≡ Foreign (Damaged found.now.head.start Missing))
+            × ((found.now.head.end.0 < geometry)
+            ⊎ (made * geometry + geometry < found.now.head.end.0))) }
     {
         let size = geometry.segment_size();
-        let end = found.end;
+        let end = found.head.end;
         if end.0 < size || end.0 > (made + 1) * size {
             return Err(FindFault::Foreign(Stopped::Damaged {
-                at: found.start,
+                at: found.head.start,
                 kind: DamageKind::Missing,
             }));
         }
         Ok(RecordsEnd {
             count: self.count + 1,
             end,
-            last_start: found.start,
+            last_start: found.head.start,
         })
     }
 }
@@ -73,10 +75,12 @@ fn judge(step: Result<Step, ReadErr>) -> Result<Option<FoundRecord>, FindFault>
                 value,
             },
         ) => Ok(Some(FoundRecord {
-            start,
-            end,
-            prev,
-            total,
+            head: RecordHead {
+                start,
+                end,
+                prev,
+                total,
+            },
             value,
         })),
         Ok(Step::End { .. }) => Ok(None),

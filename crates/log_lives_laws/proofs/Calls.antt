@@ -45,11 +45,12 @@ use Rattle.log_lives_laws.proofs.Lives.{begun_keeps, run_keeps}
 -- what was told, as the laws of runs say it
 told_as : (size moment : ℕ) (order : List Entry) (lists : List (List Told))
     (more : List FoundRecord) → All (IsToldDurable size moment order lists) more
-    → All (λ f. Contains (found_of size order) f × SomeTold (SaysDurable moment f.end.0) lists) more
+    → All
+    (λ f. Contains (found_of size order) f × SomeTold (SaysDurable moment f.head.end.0) lists) more
 told_as size moment order lists more all =
     All-weaker (IsToldDurable size moment order lists)
-    (λ f. Contains (found_of size order) f × SomeTold (SaysDurable moment f.end.0) lists)
-    (λ f told. (told.0, some_told (SaysDurable moment f.end.0) lists told.1)) more all
+    (λ f. Contains (found_of size order) f × SomeTold (SaysDurable moment f.head.end.0) lists)
+    (λ f told. (told.0, some_told (SaysDurable moment f.head.end.0) lists told.1)) more all
 
 narrow : system_id < 2 ^ 64
 narrow = omega arith

@@ -30,7 +30,7 @@ abbrev pub AreTold : (opening : Opening) (front : List Entry) (moment : ℕ)
 AreTold opening front moment script lists more =
     All (λ f. Contains (found_of (opening.setup).seg_size
     (order_told front (opening.setup).seg_size script lists)) f
-    × SomeTold (SaysDurable moment f.end.0) lists) more
+    × SomeTold (SaysDurable moment f.head.end.0) lists) more
 
 -- they are firm
 module _ (opening : Opening) (front : List Entry) (lies : LiesBehind opening front)
@@ -48,10 +48,10 @@ module _ (opening : Opening) (front : List Entry) (lies : LiesBehind opening fro
         All-weaker (λ (f : FoundRecord).
         Contains (found_of (opening.setup).seg_size
         (order_told front (opening.setup).seg_size script lists)) f
-        × SomeTold (SaysDurable moment f.end.0) lists)
+        × SomeTold (SaysDurable moment f.head.end.0) lists)
         (IsFirmRecord opening front (order_from (opening.setup).seg_size 1 script lists) now
         moment)
-        (λ f k. (k.0, moment, omega arith, words.told moment f.end.0 k.1)) more told
+        (λ f k. (k.0, moment, omega arith, words.told moment f.head.end.0 k.1)) more told
 
 -- a run that goes on with a log
 pub run_keeps : (opening : Opening) (front : List Entry) (handed last moment : ℕ)

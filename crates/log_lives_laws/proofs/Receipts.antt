@@ -61,8 +61,8 @@ has_sorted e (f ∷ es) (inr later) =
 record RecordOf (size : ℕ) (e : Entry) (records : List FoundRecord) : Type 0 where
   pub value : FoundRecord
   pub among : Contains records value
-  pub starts : value.start.0 ≡ address_of size e.start
-  pub ends : value.end.0 ≡ finish_of size e
+  pub starts : value.head.start.0 ≡ address_of size e.start
+  pub ends : value.head.end.0 ≡ finish_of size e
 
 found_has : (size prev : ℕ) (e : Entry) (es : List Entry) → Has e es
     → RecordOf size e (found_from size prev es)
@@ -197,15 +197,15 @@ receipts_tell_durable logged pass moment at b l script lists found answers start
     let order = order_from size pass script lists in
     let r = found_has size 0 e.entry (found ++ order) (has_back e.entry found order
     (has_sorted e.entry (entries_from size pass script lists) e.among)) in
-    let ends : r.value.end.0 ≡ end.0 = r.ends ∙ e.ends in
-    let says : SaysDurable moment r.value.end.0 (Hard start end at) =
+    let ends : r.value.head.end.0 ≡ end.0 = r.ends ∙ e.ends in
+    let says : SaysDurable moment r.value.head.end.0 (Hard start end at) =
     (low, omega (arith, ends)) in (
       r.value,
       r.starts ∙ e.starts,
       ends,
       (
         r.among,
-        any_of (Any (SaysDurable moment r.value.end.0)) lists b answers here
-            (any_of (SaysDurable moment r.value.end.0) answers l (Hard start end at) is says),
+        any_of (Any (SaysDurable moment r.value.head.end.0)) lists b answers here
+            (any_of (SaysDurable moment r.value.head.end.0) answers l (Hard start end at) is says),
       ),
     )

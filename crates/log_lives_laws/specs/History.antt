@@ -42,7 +42,7 @@ pub record IsCalledOn (size : ℕ) (options : RunOptions) (outside : Outside) (t
 -- that of each commit whose receipt names that moment or an earlier one
 abbrev pub IsToldDurable : (size moment : ℕ) → List Entry → List (List Told) → FoundRecord → Type 0
 IsToldDurable size moment order lists r =
-    Contains (found_of size order) r × Any (Any (SaysDurable moment r.end.0)) lists
+    Contains (found_of size order) r × Any (Any (SaysDurable moment r.head.end.0)) lists
 
 -- a run that begins the log, on a disk that holds nothing
 pub record BeginsLog (size : ℕ) (t next : Tape) (order : List Entry) (hard : List FoundRecord)

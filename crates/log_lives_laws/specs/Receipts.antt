@@ -18,5 +18,5 @@ ReceiptsTellDurable =
     (lists : List (List Told)) (found : List Entry) (answers : List Told) (start end : Lsn)
     → TellsAll logged pass script lists → slice_get lists backend ≡ Some answers
     → slice_get answers line ≡ Some (Hard start end at) → at ≤ moment
-    → (r : FoundRecord) × (r.start.0 ≡ start.0) × (r.end.0 ≡ end.0)
+    → (r : FoundRecord) × (r.head.start.0 ≡ start.0) × (r.head.end.0 ≡ end.0)
     × IsToldDurable logged.size moment (found ++ order_from logged.size pass script lists) lists r

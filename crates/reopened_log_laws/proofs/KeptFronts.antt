@@ -48,7 +48,7 @@ module _ (size sysid : ℕ) (t : Tape) (found : List FoundRecord)
         front = front.found_is;
         has = All-weaker (IsSureRecord size sysid left.order (state_now t)) (Contains records)
             (λ r k. front_has size left.order records r k.0
-            ((sure_entries_are_read size sysid r.end.0 t found left k.1).1 image may none_torn
+            ((sure_entries_are_read size sysid r.head.end.0 t found left k.1).1 image may none_torn
             records answer decodes)) hard kept;
       }
 

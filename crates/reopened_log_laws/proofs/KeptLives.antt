@@ -65,7 +65,7 @@ module _ (size sysid : ℕ) (t next : Tape) (found : List FoundRecord)
     left = again.1;
     kept = All-weaker (IsSureRecord size sysid left.order (state_now t))
         (IsSureRecord size sysid left.order (state_now next))
-        (λ r k. (k.0, stays r.end.0 (kept_low size sysid t found left r k) k.1)) hard kept;
+        (λ r k. (k.0, stays r.head.end.0 (kept_low size sysid t found left r k) k.1)) hard kept;
   }
 
   -- no call was made
@@ -150,7 +150,7 @@ abbrev pub IsFirmRecord : Opening → (front order : List Entry) → Tape → (m
     → FoundRecord → Type 0
 IsFirmRecord opening front order t moment f =
     Contains (found_of (opening.setup).seg_size (front ++ order)) f
-    × (from : ℕ) × (from ≤ moment) × IsFirm opening order f.end.0 from t
+    × (from : ℕ) × (from ≤ moment) × IsFirm opening order f.head.end.0 from t
 
 module _ (opening : Opening) (front order : List Entry) (now : Tape)
     (w : IsWrittenLog opening front order now)
@@ -174,7 +174,7 @@ module _ (opening : Opening) (front order : List Entry) (now : Tape)
             (state_now next))
             (λ f k. (
               k.0,
-              written_sure opening front order now w whole moment since next is f.end.0 k.1
+              written_sure opening front order now w whole moment since next is f.head.end.0 k.1
                   k.2 k.3,
             )) hard firm;
       }
@@ -200,7 +200,7 @@ module _ (opening : Opening) (front : List Entry) (handed moment : ℕ) (t began
         longer,
         opening.moment,
         since,
-        IsFirm-lower opening order f.end.0 (found_end opening) opening.moment now
+        IsFirm-lower opening order f.head.end.0 (found_end opening) opening.moment now
             (omega (
               arith,
               kept_low size sysid t found r.left f k,

@@ -32,9 +32,9 @@ in_front (y ∷ xs) (suc n) (suc k) x low within is =
 -- a record that is found of entries is one of them, and ends where that does
 entry_of : (size prev : ℕ) (es : List Entry) (k : ℕ) (r : FoundRecord)
     → k < length (found_from size prev es) → slice_index_or (found_from size prev es) k r ≡ r
-    → (e : Entry) × (slice_get es k ≡ Some e) × (finish_of size e ≡ r.end.0)
+    → (e : Entry) × (slice_get es k ≡ Some e) × (finish_of size e ≡ r.head.end.0)
 entry_of size prev [] k r low is = absurd (omega (arith, low))
-entry_of size prev (e ∷ es) zero r low is = (e, refl, ap (λ (f : FoundRecord). f.end.0) is)
+entry_of size prev (e ∷ es) zero r low is = (e, refl, ap (λ (f : FoundRecord). f.head.end.0) is)
 entry_of size prev (e ∷ es) (suc k) r low is =
     entry_of size (address_of size e.start) es k r (omega (arith, low)) is
 
@@ -68,10 +68,10 @@ rising size valid prev position end (e ∷ es) follows is =
 ends_low : (size : ℕ) → IsSegmentSize size → (prev position end : ℕ) (es : List Entry)
     → FollowsFrom size position es → (k : ℕ) (r : FoundRecord)
     → k < length (found_from size prev es) → slice_index_or (found_from size prev es) k r ≡ r
-    → r.end.0 ≤ end_behind end (found_from size prev es)
+    → r.head.end.0 ≤ end_behind end (found_from size prev es)
 ends_low size valid prev position end [] follows k r low is = absurd (omega (arith, low))
 ends_low size valid prev position end (e ∷ es) follows zero r low is =
-    let same : finish_of size e ≡ r.end.0 = ap (λ (f : FoundRecord). f.end.0) is in
+    let same : finish_of size e ≡ r.head.end.0 = ap (λ (f : FoundRecord). f.head.end.0) is in
     omega (
       arith,
       same,
@@ -95,11 +95,11 @@ follows_front size position (suc n) (e ∷ es) follows =
 -- a record of the order, below whose end the disk is sure
 abbrev pub IsSureRecord : (size sysid : ℕ) → List Entry → DiskState → FoundRecord → Type 0
 IsSureRecord size sysid order state r =
-    Contains (found_of size order) r × IsSureUpto size sysid order r.end.0 state
+    Contains (found_of size order) r × IsSureUpto size sysid order r.head.end.0 state
 
 -- records that have each entry up to where one ends have that one
 pub front_has : (size : ℕ) (order : List Entry) (records : List FoundRecord) (r : FoundRecord)
-    → Contains (found_of size order) r → IsFrontUpto size order r.end.0 records
+    → Contains (found_of size order) r → IsFrontUpto size order r.head.end.0 records
     → Contains records r
 front_has size order records r c front =
     let e = entry_of size 0 order c.0 r c.1 c.2 in
@@ -110,20 +110,20 @@ front_has size order records r c front =
 
 module _ (size sysid : ℕ) (t : Tape) (found : List FoundRecord) (left : WasLeft size sysid t found)
     (r : FoundRecord) (kept : IsSureRecord size sysid left.order (state_now t) r) where
-  front : IsFrontUpto size left.order r.end.0 found
-  front = (sure_entries_are_read size sysid r.end.0 t found left kept.1).0
+  front : IsFrontUpto size left.order r.head.end.0 found
+  front = (sure_entries_are_read size sysid r.head.end.0 t found left kept.1).0
 
   -- it is read
   pub kept_found : Contains found r
   kept_found = front_has size left.order found r kept.0 front
 
   -- and ends no later than what is read
-  pub kept_low : r.end.0 ≤ end_behind size found
+  pub kept_low : r.head.end.0 ≤ end_behind size found
   kept_low =
       let m = left.has_found.may in
       let c = subst (λ (l : List FoundRecord). Contains l r) front.found_is kept_found in
       let follows = follows_front size (first_position size) front.count left.order m.chained
       in
-      subst (λ (l : List FoundRecord). r.end.0 ≤ end_behind size l) (sym front.found_is)
+      subst (λ (l : List FoundRecord). r.head.end.0 ≤ end_behind size l) (sym front.found_is)
       (ends_low size m.valid 0 (first_position size) size (take front.count left.order) follows c.0
       r c.1 c.2)

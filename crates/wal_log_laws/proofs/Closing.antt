@@ -80,7 +80,7 @@ module _ (opening : Opening) (order : List Entry) (t : Tape) (v : View)
         k.0,
         (k.2).moment,
         k.4,
-        IsFirm-lower opening order r.end.0 (k.2).upto (k.2).moment t k.5
+        IsFirm-lower opening order r.head.end.0 (k.2).upto (k.2).moment t k.5
             (promise_firm k.1 k.2 k.3),
       )) more all
 

@@ -114,7 +114,7 @@ module _ {D : Type 0} (tape : D → Option Tape) (moment faults : D → ℕ)
 
   -- ---- the life
 
-  commit : (f : FoundRecord) × (f.start.0 ≡ sealed.start.0) × (f.end.0 ≡ sealed.end.0)
+  commit : (f : FoundRecord) × (f.head.start.0 ≡ sealed.start.0) × (f.head.end.0 ≡ sealed.end.0)
       × (assembled f.value ≡ body)
       × IsPromisedDurable (setup_of_log wal).seg_size
       (length (behind.0).calls + sealed.moment)

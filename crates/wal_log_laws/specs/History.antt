@@ -39,7 +39,7 @@ use Rattle.reopened_log_laws.specs.Lives.{LifeEndsAt}
 abbrev pub IsPromisedDurable : (size moment : ℕ) → List Entry → View → FoundRecord → Type 0
 IsPromisedDurable size moment order v r = Contains (found_of size order) r
     × (entries : List Entry) × (p : FlushPromise) × WasPromised v entries p
-    × (p.moment ≤ moment) × (r.end.0 ≤ p.upto)
+    × (p.moment ≤ moment) × (r.head.end.0 ≤ p.upto)
 
 module _ {D : Type 0} (tape : D → Option Tape) (moment faults : D → ℕ) where
   -- a disk with this tape is handed to an opening that asks for a log of this kind

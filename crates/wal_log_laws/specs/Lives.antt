@@ -38,7 +38,7 @@ use Rattle.wal_log_laws.specs.History.{BeginsWal, ContinuesWal, WalHistory, IsHa
 -- the first record starts at an address or behind it, and each other one behind the one before it
 abbrev pub StartsRise : ℕ → List FoundRecord → Type 0
 StartsRise low [] = Unit {0}
-StartsRise low (r ∷ records) = (low ≤ r.start.0) × StartsRise (r.start.0 + 1) records
+StartsRise low (r ∷ records) = (low ≤ r.head.start.0) × StartsRise (r.head.start.0 + 1) records
 
 module _ {D : Type 0} (tape : D → Option Tape) (moment faults : D → ℕ) where
   pub record KeepsPromised (size sysid : ℕ) (t : Tape) (order : List Entry)
@@ -92,7 +92,7 @@ module _ {D : Type 0} (tape : D → Option Tape) (moment faults : D → ℕ) whe
       (c : ClosesLog tape moment faults wal pass closed) (body : Assembled) (old new : View)
       (sealed : Sealed) (at : ℕ) → IsSealed (setup_of_log wal) body old new sealed
       → HasGrown (log_of_pass new) (view_of_pass pass) → sealed.moment ≤ at
-      → (r : FoundRecord) × (r.start.0 ≡ sealed.start.0) × (r.end.0 ≡ sealed.end.0)
+      → (r : FoundRecord) × (r.head.start.0 ≡ sealed.start.0) × (r.head.end.0 ≡ sealed.end.0)
       × (assembled r.value ≡ body)
       × IsPromisedDurable (setup_of_log wal).seg_size at
       (front ++ order_of tape moment faults wal pass closed c) (view_of_pass pass) r

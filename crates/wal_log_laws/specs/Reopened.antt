@@ -36,8 +36,8 @@ pub record FindsCommit {D : Type 0} (tape : D → Option Tape) (moment faults : 
   pub now : Tape
   pub told : tape closed.disk ≡ Some now
   pub commit : FoundRecord
-  pub start_is : commit.start.0 ≡ sealed.start.0
-  pub end_is : commit.end.0 ≡ sealed.end.0
+  pub start_is : commit.head.start.0 ≡ sealed.start.0
+  pub end_is : commit.head.end.0 ≡ sealed.end.0
   pub body_is : assembled commit.value ≡ body
   pub in_order : Contains (found_of setup.seg_size
       (order_of tape moment faults wal pass closed closes)) commit

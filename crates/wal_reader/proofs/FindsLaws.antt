@@ -49,19 +49,21 @@ module _ (size : ℕ) (pages : Pages) (place : RecordPlace) where
       → found ≡ found_record size place total prev found.value
   as_found found s =
       let made : ℕ → ℕ → ℕ → ℕ → FoundRecord = λ start end before bytes. record {
-        start = record { 0 = start };
-        end = record { 0 = end };
-        prev = record { 0 = before };
-        total = bytes;
+        head = record {
+          start = record { 0 = start };
+          end = record { 0 = end };
+          prev = record { 0 = before };
+          total = bytes;
+        };
         value = found.value;
       } in
       let start = address_of size place.position in
       let end = end_address_of size (next_position size place.position total found.value) in
-      let end_is : found.end.0 ≡ end = s.end_is ∙ ap (λ (n : ℕ).
+      let end_is : found.head.end.0 ≡ end = s.end_is ∙ ap (λ (n : ℕ).
       end_address_of size (next_position size place.position n found.value)) s.total_is in
-      ap (λ (n : ℕ). made n found.end.0 found.prev.0 found.total) s.start_is
-      ∙ ap (λ (n : ℕ). made start n found.prev.0 found.total) end_is
-      ∙ ap (λ (n : ℕ). made start end n found.total) s.prev_is
+      ap (λ (n : ℕ). made n found.head.end.0 found.head.prev.0 found.head.total) s.start_is
+      ∙ ap (λ (n : ℕ). made start n found.head.prev.0 found.head.total) end_is
+      ∙ ap (λ (n : ℕ). made start end n found.head.total) s.prev_is
       ∙ ap (made start end prev) s.total_is
 
   module _ (valid : IsSegmentSize size) where
@@ -217,7 +219,8 @@ finding_is_decoding size image start valid found =
     let same = same_begun size valid pages bounded start begun refl finds.read decodes.read
     settled.1 finds.reads decodes.reads in
     let is_found = finds.given
-    ∙ (ap (λ (fs : List FoundRecord). filter (λ (f : FoundRecord). nat_le start f.start.0) fs) same
+    ∙ (ap (λ (fs : List FoundRecord).
+    filter (λ (f : FoundRecord). nat_le start f.head.start.0) fs) same
     ∙ sym decodes.given) in (
       settled.1,
       subst (λ (fs : List FoundRecord). Decodes size pages start None fs settled.1)

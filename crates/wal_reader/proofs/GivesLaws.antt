@@ -15,7 +15,7 @@ use Rattle.wal_reader.specs.declared.read_failure.ReadFailure.TheVariants.{Told,
 
 module _ (size : ℕ) (pages : Pages) (start : ℕ) (end : Option ℕ) where
   abbrev given : List FoundRecord → List FoundRecord
-  given read = filter (λ f. leb start f.start.0) read
+  given read = filter (λ f. leb start f.head.start.0) read
 
   module _ (place : RecordPlace) where
     -- nothing stands at a place
@@ -24,19 +24,19 @@ module _ (size : ℕ) (pages : Pages) (start : ℕ) (end : Option ℕ) where
 
     module _ (found : FoundRecord) (next : RecordPlace) (reads : read_at size pages end place ≡ Ok found) (behind : next ≡ place_behind size pages place found) (others : List FoundRecord) (answer : Answer) (rest : GivesFrom size pages start end next others answer) where
       -- a record before the start is passed over
-      pub GivesFrom-passed : found.start.0 < start → GivesFrom size pages start end place others answer
+      pub GivesFrom-passed : found.head.start.0 < start → GivesFrom size pages start end place others answer
       GivesFrom-passed before = record {
         read = found ∷ rest.read;
         reads = (reads_at size pages end place (Ok found) reads, rw behind at rest.reads);
-        given = rest.given ∙ sym (cond-false _ (found ∷ given rest.read) (given rest.read) (lt-leb start found.start.0 before));
+        given = rest.given ∙ sym (cond-false _ (found ∷ given rest.read) (given rest.read) (lt-leb start found.head.start.0 before));
       }
 
       -- a record from the start on is given
-      pub GivesFrom-given : start ≤ found.start.0 → GivesFrom size pages start end place (found ∷ others) answer
+      pub GivesFrom-given : start ≤ found.head.start.0 → GivesFrom size pages start end place (found ∷ others) answer
       GivesFrom-given at = record {
         read = found ∷ rest.read;
         reads = (reads_at size pages end place (Ok found) reads, rw behind at rest.reads);
-        given = ap (λ (fs : List FoundRecord). found ∷ fs) rest.given ∙ sym (cond-true _ (found ∷ given rest.read) (given rest.read) (le-leb start found.start.0 at));
+        given = ap (λ (fs : List FoundRecord). found ∷ fs) rest.given ∙ sym (cond-true _ (found ∷ given rest.read) (given rest.read) (le-leb start found.head.start.0 at));
       }
 
   -- pages decode to what comes from where reading begins

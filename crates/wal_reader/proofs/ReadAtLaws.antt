@@ -182,7 +182,7 @@ no_answer answer found e = absurd cc
 
 -- a record starts at an address, has a size, and these bytes spell it
 abbrev IsOf : ℕ → ℕ → List ℕ → FoundRecord → Type 0
-IsOf start total bytes found = Spells bytes found.value × (found.total ≡ total) × (found.start.0 ≡ start)
+IsOf start total bytes found = Spells bytes found.value × (found.head.total ≡ total) × (found.head.start.0 ≡ start)
 
 of_says : (size : ℕ) (place : RecordPlace) (total prev : ℕ) (bytes : List ℕ) {result : Result FoundRecord Answer} → Says size place total prev bytes result → (found : FoundRecord) → result ≡ Ok found → IsOf (address_of size place.position) total bytes found
 of_says size place total prev bytes (spelled value spells) found e =
@@ -196,7 +196,7 @@ either_way false P Q R one other is = other is
 
 module _ (size : ℕ) (pages : Pages) (end : Option ℕ) (place : RecordPlace) (found : FoundRecord) where
   abbrev IsReadThere : Type 0
-  IsReadThere = IsOf (address_of size place.position) found.total (bytes_from size pages found.total place.position) found
+  IsReadThere = IsOf (address_of size place.position) found.head.total (bytes_from size pages found.head.total place.position) found
 
   of_answer : (fault : Option Answer) → TellsOrSays size pages place fault (Ok found) → IsReadThere
   of_answer (Some answer) e = absurd (no_answer answer found (sym e))
@@ -221,8 +221,8 @@ pub read_is_spelled : (size : ℕ) (pages : Pages) (end : Option ℕ) (place : R
 unfolding IsSpelledIn
 read_is_spelled size pages end place valid (Ok read) is =
     let there = read_there size pages end place read.0 (reads_at size pages end place (Ok read.0) is.0) in
-    let position : position_of size read.0.start.0 ≡ place.position = ap (position_of size) there.2 ∙ position_of-address_of size valid place.position in
-    subst (λ (p : ℕ). Spells (bytes_from size pages read.0.total p) read.0.value) (sym position) there.0
+    let position : position_of size read.0.head.start.0 ≡ place.position = ap (position_of size) there.2 ∙ position_of-address_of size valid place.position in
+    subst (λ (p : ℕ). Spells (bytes_from size pages read.0.head.total p) read.0.value) (sym position) there.0
 read_is_spelled size pages end place valid (Err stop) is = tt
 
 -- ---- the room

@@ -144,11 +144,11 @@ header_rows-front start prev bytes =
 -- ---- behind a record
 
 total_found : Result FoundRecord Answer → ℕ
-total_found (Ok found) = found.total
+total_found (Ok found) = found.head.total
 total_found (Err answer) = 0
 
 -- a record that is found has the size that it claims
-total_found_is : (size : ℕ) (place : RecordPlace) (total prev : ℕ) (reading : Result Record RecErr) (found : FoundRecord) → found_or size place total prev reading ≡ Ok found → found.total ≡ total
+total_found_is : (size : ℕ) (place : RecordPlace) (total prev : ℕ) (reading : Result Record RecErr) (found : FoundRecord) → found_or size place total prev reading ≡ Ok found → found.head.total ≡ total
 unfolding total_found
 total_found_is size place total prev (Ok value) found e = ap total_found (sym e)
 total_found_is size place total prev (Err Memory) found e = absurd (cc)

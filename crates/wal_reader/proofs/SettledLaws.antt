@@ -95,13 +95,13 @@ module _ (size : ℕ) (pages : Pages) (end : Option ℕ) (place : RecordPlace) w
       ∙ ap (λ (bytes : List ℕ). number_at w32 bytes 0) (take-bytes_from size pages 8 24 place.position (omega arith))
 
   module _ (found : FoundRecord) where
-    pub total_of : (total prev : ℕ) (reading : Result Record RecErr) → found_or size place total prev reading ≡ Ok found → found.total ≡ total
-    total_of total prev (Ok value) e = ap (λ (f : FoundRecord). f.total) (sym (same_read _ found e))
+    pub total_of : (total prev : ℕ) (reading : Result Record RecErr) → found_or size place total prev reading ≡ Ok found → found.head.total ≡ total
+    total_of total prev (Ok value) e = ap (λ (f : FoundRecord). f.head.total) (sym (same_read _ found e))
     total_of total prev (Err Memory) e = absurd cc
     total_of total prev (Err (Malformed at kind)) e = absurd cc
     total_of total prev (Err (Compressed block)) e = absurd cc
 
-    from_answer : (bytes : List ℕ) (fault : Option Answer) → first_fault (record_rows size pages end place bytes) ≡ fault → answer_or size pages place fault ≡ Ok found → 24 ≤ found.total
+    from_answer : (bytes : List ℕ) (fault : Option Answer) → first_fault (record_rows size pages end place bytes) ≡ fault → answer_or size pages place fault ≡ Ok found → 24 ≤ found.head.total
     from_answer bytes None passes e =
         let header = bytes_from size pages 24 place.position in
         let total = number_at w32 header 0 in
@@ -111,12 +111,12 @@ module _ (size : ℕ) (pages : Pages) (end : Option ℕ) (place : RecordPlace) w
         omega arith
     from_answer bytes (Some answer) passes e = absurd cc
 
-    from_page : (page : Option (List ℕ)) → pages (address_of size place.position / 8192) ≡ page → read_in size pages end place page ≡ Ok found → (24 ≤ found.total) × ((none : pages (address_of size place.position / 8192) ≡ None) → ⊥)
+    from_page : (page : Option (List ℕ)) → pages (address_of size place.position / 8192) ≡ page → read_in size pages end place page ≡ Ok found → (24 ≤ found.head.total) × ((none : pages (address_of size place.position / 8192) ≡ None) → ⊥)
     from_page None there e = absurd cc
     from_page (Some bytes) there e = (from_answer bytes (first_fault (record_rows size pages end place bytes)) refl e, λ none. cc)
 
     -- a record that is read has its header's bytes, and its page is there
-    record_read : read_at size pages end place ≡ Ok found → (24 ≤ found.total) × ((none : pages (address_of size place.position / 8192) ≡ None) → ⊥)
+    record_read : read_at size pages end place ≡ Ok found → (24 ≤ found.head.total) × ((none : pages (address_of size place.position / 8192) ≡ None) → ⊥)
     unfolding read_at
     record_read e =
         elim (cases_Bool (is_at_end end (address_of size place.position))) [
@@ -149,7 +149,7 @@ module _ (size : ℕ) (valid : IsSegmentSize size) (pages : Pages) (bounded : Is
       elim (cases_Result (read_at size pages end place)) [
         | inl (f, e) ↦
             (let total = (record_read size pages end place f e).0 in
-            let further = next_position-further size valid place.position f.total f.value (omega arith) in
+            let further = next_position-further size valid place.position f.head.total f.value (omega arith) in
             let behind = reading_from turns (place_behind size pages place f) (omega arith) in
             (f ∷ behind.0, behind.1, (reads_at size pages end place (Ok f) e, behind.2)))
         | inr (answer, e) ↦ ([], answer, reads_at size pages end place (Err answer) e)
@@ -162,7 +162,7 @@ module _ (size : ℕ) (valid : IsSegmentSize size) (pages : Pages) (bounded : Is
   pub settled : (start : ℕ) → IsSettled size pages start end
   settled start =
       let reading = reading_begun (beginning size pages start) in
-      let given = filter (λ f. leb start f.start.0) in (
+      let given = filter (λ f. leb start f.head.start.0) in (
         given reading.0,
         reading.1,
         record { read = reading.0; reads = reading.2; given = refl },
@@ -201,7 +201,7 @@ gives_at : (size : ℕ) (valid : IsSegmentSize size) (pages : Pages) (bounded : 
 gives_at size valid pages bounded start end NotBegun = let all = settled size valid pages bounded end start in (all.0, all.1, all.2)
 gives_at size valid pages bounded start end (At place) =
     let reading = reading_begun size valid pages bounded end (Ok place) in
-    (filter (λ f. leb start f.start.0) reading.0, reading.1, record { read = reading.0; reads = reading.2; given = refl })
+    (filter (λ f. leb start f.head.start.0) reading.0, reading.1, record { read = reading.0; reads = reading.2; given = refl })
 gives_at size valid pages bounded start end (Stopped reason) = ([], answers.Stopped reason, (refl, refl))
 
 -- a reader of an image's pages gives something, wherever it stands

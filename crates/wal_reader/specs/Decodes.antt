@@ -162,10 +162,12 @@ next_position size position total value =
 -- a record as it is found at a place
 abbrev pub found_record : ℕ → RecordPlace → ℕ → ℕ → Record → FoundRecord
 found_record size place total prev value = record {
-  start = record { 0 = address_of size place.position };
-  end = record { 0 = end_address_of size (next_position size place.position total value) };
-  prev = record { 0 = prev };
-  total = total;
+  head = record {
+    start = record { 0 = address_of size place.position };
+    end = record { 0 = end_address_of size (next_position size place.position total value) };
+    prev = record { 0 = prev };
+    total = total;
+  };
   value = value;
 }
 
@@ -207,9 +209,9 @@ ReadsAt size pages end place result =
 -- the place behind a record
 abbrev pub place_behind : ℕ → Pages → RecordPlace → FoundRecord → RecordPlace
 place_behind size pages place found = record {
-  position = next_position size place.position found.total found.value;
-  prev = Some found.start;
-  timeline = timeline_or (pages (page_of_byte size place.position found.total)) place.timeline;
+  position = next_position size place.position found.head.total found.value;
+  prev = Some found.head.start;
+  timeline = timeline_or (pages (page_of_byte size place.position found.head.total)) place.timeline;
 }
 
 -- from a place on these records are read, one behind another, and then this answer comes
@@ -261,4 +263,4 @@ pub record Decodes (size : ℕ) (pages : Pages) (start : ℕ) (end : Option ℕ)
     (found : List FoundRecord) (answer : Answer) : Type 0 where
   pub read : List FoundRecord
   pub reads : ReadsFrom size pages end (beginning size pages start) read answer
-  pub given : found ≡ filter (λ f. nat_le start f.start.0) read
+  pub given : found ≡ filter (λ f. nat_le start f.head.start.0) read

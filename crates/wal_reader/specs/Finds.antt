@@ -48,34 +48,35 @@ pub record IsRecordAt (size : ℕ) (pages : Pages) (place : RecordPlace) (found 
     : Type 0 where
   -- it starts there and ends where the next one starts; its header says how many bytes it has, 24
   -- at least, and where the record before it starts
-  pub start_is : found.start.0 ≡ address_of size place.position
-  pub end_is : found.end.0
-      ≡ end_address_of size (next_position size place.position found.total found.value)
-  pub total_is : found.total ≡ number_at w32 (bytes_from size pages 24 place.position) 0
-  pub has_header : 24 ≤ found.total
-  pub prev_is : found.prev.0 ≡ number_at w64 (bytes_from size pages 24 place.position) 8
+  pub start_is : found.head.start.0 ≡ address_of size place.position
+  pub end_is : found.head.end.0
+      ≡ end_address_of size (next_position size place.position found.head.total found.value)
+  pub total_is : found.head.total ≡ number_at w32 (bytes_from size pages 24 place.position) 0
+  pub has_header : 24 ≤ found.head.total
+  pub prev_is : found.head.prev.0 ≡ number_at w64 (bytes_from size pages 24 place.position) 8
   -- that is the one that was read before it; the first one read names any that starts before it
   pub right_prev :
-      MatchOption place.prev (found.prev.0 < found.start.0) (λ before. found.prev.0 ≡ before.0)
+      MatchOption place.prev (found.head.prev.0 < found.head.start.0)
+      (λ before. found.head.prev.0 ≡ before.0)
   -- the page in which it starts is there and sound; if it is the first there, no record goes on in
   -- that page
   pub page : List ℕ
-  pub is_there : pages (found.start.0 / 8192) ≡ Some page
-  pub sound : IsSoundPage size (found.start.0 / 8192) place.timeline page
-  pub opens : place.position ≡ position_of size (found.start.0 / 8192 * 8192)
+  pub is_there : pages (found.head.start.0 / 8192) ≡ Some page
+  pub sound : IsSoundPage size (found.head.start.0 / 8192) place.timeline page
+  pub opens : place.position ≡ position_of size (found.head.start.0 / 8192 * 8192)
       → IsTrue (not (is_continued page))
   -- it goes on in each page behind that one, up to the page of its last byte
-  pub goes_on : (n : ℕ) → found.start.0 / 8192 < n
-      → n ≤ page_of_byte size place.position found.total
-      → GoesOnIn size pages place found.total n
+  pub goes_on : (n : ℕ) → found.head.start.0 / 8192 < n
+      → n ≤ page_of_byte size place.position found.head.total
+      → GoesOnIn size pages place found.head.total n
   -- there is a manager of its number; its CRC is that of its bytes, those behind the header and
   -- then the first 20, and they spell it
   pub manager : IsTrue (not (is_free_manager
       (slice_index (bytes_from size pages 24 place.position) 17)))
   pub right_crc :
-      let whole = bytes_from size pages found.total place.position in
+      let whole = bytes_from size pages found.head.total place.position in
       crc32c (drop 24 whole ++ take 20 whole) ≡ number_at w32 whole 20
-  pub spells : Spells (bytes_from size pages found.total place.position) found.value
+  pub spells : Spells (bytes_from size pages found.head.total place.position) found.value
 
 -- from a place on these records stand one behind another, and none behind the last
 abbrev pub FindsFrom : ℕ → Pages → RecordPlace → List FoundRecord → Type 0
@@ -111,7 +112,7 @@ pub record FindsRecords (size : ℕ) (pages : Pages) (start : ℕ) (found : List
       ((place : RecordPlace)
       × BeginsAt size pages (start / 8192) 0 place × FindsFrom size pages place read)
       ⊎ (((place : RecordPlace) → BeginsAt size pages (start / 8192) 0 place → ⊥) × (read ≡ []))
-  pub given : found ≡ filter (λ f. nat_le start f.start.0) read
+  pub given : found ≡ filter (λ f. nat_le start f.head.start.0) read
 
 -- they are just those that the pages decode to, whatever is told where they end
 abbrev pub FindingIsDecoding : Type 0

@@ -26,7 +26,7 @@ said_of size pages place total None =
 abbrev pub behind_read : ℕ → RecordPlace → FoundRecord → ℕ → ℕ → RecordPlace
 behind_read size at found total timeline = record {
   position = next_position size at.position total found.value;
-  prev = Some found.start;
+  prev = Some found.head.start;
   timeline = timeline;
 }
 
@@ -55,7 +55,7 @@ GoesOn at next = (at.position < next.position) × IsReachable next
 -- a place just behind a record, which it has as the one before
 abbrev pub IsBehind : ℕ → FoundRecord → RecordPlace → Type 0
 IsBehind size found at =
-    (end_address_of size at.position ≡ found.end.0) × (at.prev ≡ Some found.start)
+    (end_address_of size at.position ≡ found.head.end.0) × (at.prev ≡ Some found.head.start)
 
 -- a room holds nothing but the first bytes of the record at a place, and all pages that have them
 -- passed their checks

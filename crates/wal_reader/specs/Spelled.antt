@@ -11,7 +11,7 @@ use Rattle.wal_reader.specs.declared.standing.Step.TheVariants as steps
 -- bytes that spell a record, as many as its size says
 pub record HasSpelling (found : FoundRecord) : Type 0 where
   pub bytes : List ℕ
-  pub length_is : length bytes ≡ found.total
+  pub length_is : length bytes ≡ found.head.total
   pub spelled : Spells bytes found.value
 
 -- a record was read from bytes that spell it
@@ -27,7 +27,8 @@ GivesSpelled (steps.End at) = Unit {0}
 -- a record's bytes in these pages, each from its own address on, spell it
 unfoldable pub IsSpelledIn : ℕ → Pages → FoundRecord → Type 0
 IsSpelledIn size pages found =
-    Spells (bytes_from size pages found.total (position_of size found.start.0)) found.value
+    Spells (bytes_from size pages found.head.total (position_of size found.head.start.0))
+    found.value
 
 -- so do those of the record that a step gives
 abbrev pub GivesSpelledIn : ℕ → Pages → Step → Type 0

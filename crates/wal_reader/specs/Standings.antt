@@ -34,12 +34,16 @@ left_at (Stopped stop) = 0
 
 -- a record as a step gives it
 abbrev pub given_as : FoundRecord → Step
-given_as found = steps.Record found.start found.end found.prev found.total found.value
+given_as found =
+    steps.Record found.head.start found.head.end found.head.prev found.head.total found.value
 
 -- the record that a step gives
 abbrev pub found_as : Lsn → Lsn → Lsn → ℕ → Record → FoundRecord
 found_as start end prev total value =
-    record { start = start; end = end; prev = prev; total = total; value = value }
+    record {
+      head = record { start = start; end = end; prev = prev; total = total };
+      value = value;
+    }
 
 -- an answer as a step tells it
 abbrev pub told : Answer → Result Step ReadErr

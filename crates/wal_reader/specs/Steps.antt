@@ -15,7 +15,7 @@ pub record GivesFrom (size : ℕ) (pages : Pages) (start : ℕ) (end : Option �
     (found : List FoundRecord) (answer : Answer) : Type 0 where
   pub read : List FoundRecord
   pub reads : ReadsRecords size pages end place read answer
-  pub given : found ≡ filter (λ f. nat_le start f.start.0) read
+  pub given : found ≡ filter (λ f. nat_le start f.head.start.0) read
 
 -- what comes from a place on, or where reading has not begun from where it begins
 abbrev pub Comes : ℕ → Pages → ℕ → Option ℕ → Option RecordPlace → List FoundRecord → Answer

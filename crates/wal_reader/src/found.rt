@@ -8,10 +8,9 @@ use thiserror::Error;
 use wal_page::PageErr;
 use wal_types::{Lsn, Record};
 
-/// A record that was read, as definitions of what a log decodes to list it; a step gives its
-/// fields.
-#[derive(Debug, Drop)]
-pub struct FoundRecord {
+/// Where a record that was read stands, whatever it carries.
+#[derive(Clone, Copy, Debug, PartialEq, Eq)]
+pub struct RecordHead {
     pub start: Lsn,
     /// Just behind the record and its rounding; of a segment switch, where the next segment
     /// starts.
@@ -20,16 +19,14 @@ pub struct FoundRecord {
     pub prev: Lsn,
     /// The record's size in bytes.
     pub total: u32,
-    pub value: Record,
 }
 
-/// A record that was read, without what it carries, which is put into a record that the caller has.
-#[derive(Clone, Copy, Debug)]
-pub(crate) struct FoundHead {
-    pub(crate) start: Lsn,
-    pub(crate) end: Lsn,
-    pub(crate) prev: Lsn,
-    pub(crate) total: u32,
+/// A record that was read, as definitions of what a log decodes to list it; a step gives its
+/// fields.
+#[derive(Debug, Drop)]
+pub struct FoundRecord {
+    pub head: RecordHead,
+    pub value: Record,
 }
 
 /// Which check failed.

@@ -18,7 +18,7 @@ ghost use Rattle.wal_reader.specs.RecordPlace.{IsOutOfReach, IsReachable};
 
 use crate::beginning::find_beginning;
 use crate::buffers::Buffers;
-use crate::found::FoundHead;
+use crate::found::RecordHead;
 use crate::page_cursor::PageCursor;
 use crate::read_failure::ReadFailure;
 use crate::record_place::RecordPlace;
@@ -42,7 +42,7 @@ pub(crate) fn next_given<D: Disk, K: KeepsRecord>(
     end: Option<Lsn>,
     from: Option<RecordPlace>,
     ready: &mut Option<PageCursor>,
-) -> Result<(FoundHead, RecordPlace), ReadFailure>
+) -> Result<(RecordHead, RecordPlace), ReadFailure>
     requires reachable { IfSome from IsReachable }
     requires ready { IfSome from (λ at. IsReadyAt buffers.old.cache at ready.old) }
     ensures ready { MatchResult result (λ r. IsReadyAt buffers.new.cache r.1 ready.new)
@@ -85,7 +85,7 @@ fn read_given<D: Disk, K: KeepsRecord>(
     end: Option<Lsn>,
     from: RecordPlace,
     ready: &mut Option<PageCursor>,
-) -> Result<(FoundHead, RecordPlace), ReadFailure>
+) -> Result<(RecordHead, RecordPlace), ReadFailure>
     requires reachable { IsReachable from }
     requires ready { IsReadyAt buffers.old.cache from ready.old }
     ensures ready { MatchResult result (λ r. IsReadyAt buffers.new.cache r.1 ready.new)

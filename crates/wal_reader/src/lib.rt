@@ -24,7 +24,7 @@ mod record_reading;
 mod record_start;
 mod standing;
 
-pub use found::{Answer, DamageKind, FoundRecord, Stopped};
+pub use found::{Answer, DamageKind, FoundRecord, RecordHead, Stopped};
 pub use laws::{
     decoding_is_settled, finding_is_decoding, reading_is_computed, runs_give_fronts,
     switches_end_their_segment,

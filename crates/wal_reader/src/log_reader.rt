@@ -154,14 +154,9 @@ impl Reader {
             from,
             &mut self.ready,
         ) {
-            Ok((found, behind)) => {
+            Ok((head, behind)) => {
                 self.standing = Standing::At(behind);
-                Ok(Comes::Record {
-                    start: found.start,
-                    end: found.end,
-                    prev: found.prev,
-                    total: found.total,
-                })
+                Ok(Comes::Record(head))
             }
             Err(ReadFailure::Told(answer)) => {
                 // What is written behind an end later stands in this page too.

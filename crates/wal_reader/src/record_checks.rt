@@ -18,7 +18,7 @@ ghost use Rattle.wal_reader.specs.Spelled.{IsSpelled};
 ghost use Rattle.wal_reader.specs.ReadFailures.{Passes};
 
 use crate::answers::damaged;
-use crate::found::{Answer, DamageKind, FoundHead, Stopped};
+use crate::found::{Answer, DamageKind, RecordHead, Stopped};
 use crate::layout::{CRC_AT, PREV_AT};
 use crate::record_extent::RecordExtent;
 use crate::record_place::RecordPlace;
@@ -76,7 +76,7 @@ pub(crate) fn found<K: KeepsRecord>(
     timeline: u32,
     bytes: &[u8],
     heads: &mut Vec<BlockHead>,
-) -> Result<Result<(FoundHead, RecordPlace), Answer>, AllocError>
+) -> Result<Result<(RecordHead, RecordPlace), Answer>, AllocError>
     // The bytes are as many as the record claims, and whatever they say, the next record starts low
     // enough to have an address.
     requires at { extent.at.position < 2 ^ 60 }
@@ -100,7 +100,7 @@ pub(crate) fn found<K: KeepsRecord>(
     match decode_into(alloc, heads, value, bytes) {
         Ok(()) => {
             let next = extent.next_position(geometry, bytes);
-            let found = FoundHead {
+            let head = RecordHead {
                 start,
                 end: extent.end(geometry, start, next),
                 prev: Lsn(u64_at(bytes, PREV_AT)),
@@ -111,7 +111,7 @@ pub(crate) fn found<K: KeepsRecord>(
                 prev: Some(start),
                 timeline,
             };
-            Ok(Ok((found, behind)))
+            Ok(Ok((head, behind)))
         }
         Err(RecErr::Memory) => Err(AllocError),
         Err(RecErr::Malformed { .. }) => Ok(Err(damaged(start, DamageKind::Malformed))),

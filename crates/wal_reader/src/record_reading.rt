@@ -27,7 +27,7 @@ ghost use Rattle.wal_reader.specs.ReadFailures.{HasFailureCause, IsNoDiskFault};
 
 use crate::answers::end_of_log;
 use crate::buffers::Buffers;
-use crate::found::FoundHead;
+use crate::found::RecordHead;
 use crate::gathering::{Gathering, gather};
 use crate::layout::PAGE_LEN;
 use crate::page_cache::PageCache;
@@ -58,7 +58,7 @@ pub(crate) fn read_record<D: Disk, K: KeepsRecord>(
     end: Option<Lsn>,
     at: RecordPlace,
     ready: &mut Option<PageCursor>,
-) -> Result<(FoundHead, RecordPlace), ReadFailure>
+) -> Result<(RecordHead, RecordPlace), ReadFailure>
     requires reachable { IsReachable at }
     requires ready { IsReadyAt buffers.old.cache at ready.old }
     ensures ready { MatchResult result (λ r. IsReadyAt buffers.new.cache r.1 ready.new)
@@ -111,7 +111,7 @@ fn read_in_page<K: KeepsRecord>(
     cache: &PageCache,
     opened: Gathering,
     heads: &mut Vec<BlockHead>,
-) -> Result<(FoundHead, RecordPlace), ReadFailure>
+) -> Result<(RecordHead, RecordPlace), ReadFailure>
     requires opened { IsOpened cache.now opened }
     requires within { opened.cursor.offset + opened.extent.total ≤ 8192 }
     requires whole { IsPage cache.now.bytes.value }
@@ -161,7 +161,7 @@ fn read_over_pages<D: Disk, K: KeepsRecord>(
     disk: &mut D,
     opened: Gathering,
     ready: &mut Option<PageCursor>,
-) -> Result<(FoundHead, RecordPlace), ReadFailure>
+) -> Result<(RecordHead, RecordPlace), ReadFailure>
     requires opened { IsOpened buffers.old.cache opened }
     requires passed { HasPassed buffers.old.cache opened.cursor.page }
     ensures ready { MatchResult result (λ r. IsReadyAt buffers.new.cache r.1 ready.new)

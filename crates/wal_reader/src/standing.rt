@@ -6,7 +6,7 @@ ghost use Rattle.wal_types.specs.declared.record.Record.{Record};
 ghost use Rattle.wal_reader.specs.Filled.{step_with};
 ghost use Rattle.wal_reader.specs.Standings.{standing_after, told};
 
-use crate::found::{Answer, Stopped};
+use crate::found::{Answer, RecordHead, Stopped};
 use crate::record_place::RecordPlace;
 use std::alloc::AllocError;
 use thiserror::Error;
@@ -60,17 +60,10 @@ pub enum Step {
 /// What a step of reading gives whose record is put into one that the caller has.
 #[derive(Clone, Copy, Debug, PartialEq, Eq)]
 pub enum Comes {
-    /// The next record was put, and stands here; as of `Step::Record`.
-    Record {
-        start: Lsn,
-        end: Lsn,
-        prev: Lsn,
-        total: u32,
-    },
+    /// The next record was put, and stands here.
+    Record(RecordHead),
     /// A clean end of the log, as `Step::End` tells it.
-    End {
-        at: Lsn,
-    },
+    End { at: Lsn },
 }
 
 /// Why a step of reading gives nothing.
@@ -101,18 +94,11 @@ pub(crate) fn step_with(value: Record, comes: Result<Comes, ReadErr>) -> Result<
     ensures { result ≡ step_with value comes }
 {
     match comes {
-        Ok(
-            Comes::Record {
-                start,
-                end,
-                prev,
-                total,
-            },
-        ) => Ok(Step::Record {
-            start,
-            end,
-            prev,
-            total,
+        Ok(Comes::Record(head)) => Ok(Step::Record {
+            start: head.start,
+            end: head.end,
+            prev: head.prev,
+            total: head.total,
             value,
         }),
         Ok(Comes::End { at }) => Ok(Step::End { at }),

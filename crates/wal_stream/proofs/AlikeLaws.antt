@@ -210,7 +210,7 @@ module _ (size : ℕ) (valid : IsSegmentSize size) (first count beyond : ℕ) (s
             let claimed = number_at w32 (bytes_from size one 24 place.position) 0 in
             let prev = number_at w64 (bytes_from size one 24 place.position) 8 in
             let of_claimed : claimed ≡ total = size_in_header size one None place in
-            let of_total : found.total ≡ total = total_of size one None place found claimed prev (reading_of (bytes_from size one claimed place.position)) e ∙ of_claimed in
+            let of_total : found.head.total ≡ total = total_of size one None place found claimed prev (reading_of (bytes_from size one claimed place.position)) e ∙ of_claimed in
             let long : 24 ≤ total = size-passed size one None place bytes passes in
             let parts = passes_both opening (sizes ++ rest_rows size one place total) passes in
             let here : other page ≡ Some bytes = sym (same page low high) ∙ there in

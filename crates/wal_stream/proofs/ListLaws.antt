@@ -51,9 +51,9 @@ pub record IsUnderway (size : ℕ) (pages : Pages) (now : ReaderState) (end : �
 abbrev pub ReadsUpto : Option Tape → ℕ → Reader → ℕ → Type 0
 ReadsUpto tape size reader end = IfSome tape (λ t. Knows reader (log_of t size) × IsUnderway size (log_of t size) (reader_state reader) end)
 
-end_behind-last : (end : ℕ) (given : List FoundRecord) (f : FoundRecord) → f.end.0 ≡ end_behind end (given ++ f ∷ [])
+end_behind-last : (end : ℕ) (given : List FoundRecord) (f : FoundRecord) → f.head.end.0 ≡ end_behind end (given ++ f ∷ [])
 end_behind-last end [] f = refl
-end_behind-last end (x ∷ given) f = end_behind-last x.end.0 given f
+end_behind-last end (x ∷ given) f = end_behind-last x.head.end.0 given f
 
 module _ (size : ℕ) where
   pub ReadsUpto-none : (tape : Option Tape) (reader : Reader) → reader_state reader ≡ unread size → ((pages : Pages) → Knows reader pages) → ReadsUpto tape size reader size
@@ -71,7 +71,7 @@ module _ (size : ℕ) where
     step_of : (t : Tape) (result : Result Step ReadErr) → Steps (Some t) reader next result → Knows reader (log_of t size) → IsStepIn (log_of t size) reader next result
     step_of t result steps knows = steps (log_of t size) (ap (log_of t) (sym sized)) knows
 
-    pub ReadsUpto-more : (tape : Option Tape) (f : FoundRecord) → ReadsUpto tape size reader end → Steps tape reader next (Ok (given_as f)) → ReadsUpto tape size next f.end.0
+    pub ReadsUpto-more : (tape : Option Tape) (f : FoundRecord) → ReadsUpto tape size reader end → Steps tape reader next (Ok (given_as f)) → ReadsUpto tape size next f.head.end.0
     ReadsUpto-more None f reads steps = tt
     ReadsUpto-more (Some t) f reads steps =
         let step = step_of t (Ok (given_as f)) steps reads.0 in
@@ -110,7 +110,7 @@ module _ (size : ℕ) (valid : IsSegmentSize size) where
       let whole = segment_size_in_pages size valid in
       (omega (arith, whole.0), omega (arith, whole.0, whole.2))
 
-  pub IsWordEnd-behind : (standing : Standing) (f : FoundRecord) → IsOnWay standing → StandsBehindRecord size f standing → IsWordEnd f.end.0
+  pub IsWordEnd-behind : (standing : Standing) (f : FoundRecord) → IsOnWay standing → StandsBehindRecord size f standing → IsWordEnd f.head.end.0
   IsWordEnd-behind standings.NotBegun f on behind = absurd behind
   IsWordEnd-behind (standings.At at) f on behind =
       let bound = end_address_of-le_address_of size valid at.position in

@@ -16,8 +16,8 @@ filter_again : (p q : FoundRecord → Bool) → ((f : FoundRecord) → p f ≡ q
 filter_again p q same [] = refl
 filter_again p q same (f ∷ fs) = filter_first p f (filter q fs) (q f) (same f) (filter_again p q same fs)
 
-kept_of_given : (start : Lsn) (read : List FoundRecord) → kept_by (everything_from start) (filter (λ f. nat_le start.0 f.start.0) read) ≡ filter (λ f. nat_le start.0 f.start.0) read
-kept_of_given start read = filter_again (λ f. keeps (everything_from start) (listed_of f)) (λ f. nat_le start.0 f.start.0) (λ f. everything_from-keeps start (listed_of f)) read
+kept_of_given : (start : Lsn) (read : List FoundRecord) → kept_by (everything_from start) (filter (λ f. nat_le start.0 f.head.start.0) read) ≡ filter (λ f. nat_le start.0 f.head.start.0) read
+kept_of_given start read = filter_again (λ f. keeps (everything_from start) (listed_of f)) (λ f. nat_le start.0 f.head.start.0) (λ f. everything_from-keeps start (listed_of f)) read
 
 pub everything_is_listed : EverythingIsListed
 everything_is_listed size pages start end found answer decodes =

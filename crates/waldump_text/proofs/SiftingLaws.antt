@@ -11,12 +11,12 @@ use Rattle.wal_record.specs.declared.head.BlockHead.{BlockHead}
 use Rattle.wal_record.specs.declared.head.ImageHead.{ImageHead}
 use Rattle.wal_record.specs.declared.fault.RecErr.{RecErr}
 use Rattle.wal_record.specs.Reading.{HeadersRead, block_of, blocks_read, image_len, image_read, payload_len, record_of}
+use Rattle.wal_reader.specs.declared.found.RecordHead.{RecordHead}
 use Rattle.waldump_filter.specs.declared.Filter.{Filter}
 use Rattle.waldump_filter.specs.declared.listed.Listed.{Listed}
 use Rattle.waldump_filter.specs.Keeping.{asks_for_block, has_page_image, is_none_or, keeps, meets_block, meets_place, meets_rules}
 use Rattle.waldump_text.specs.Sifting.{held_of, images_by_heads, listed_with, meets_by_heads}
 use Rattle.waldump_text.specs.Sums.{images_len}
-use Rattle.waldump_text.specs.declared.steps.ListedHead.{ListedHead}
 
 -- ---- the rules
 
@@ -73,7 +73,7 @@ module _ (filter : Filter) (r : Listed) where
   before_not_kept before = keeps_parts filter r ∙ first_false _ _ before
 
 -- a record that is refused is not kept by the same filter
-pub refused_passed_over : (own picked : Filter) (refused : Bool) (spelled value : Record) (head : ListedHead) → own ≡ picked → refused ≡ true → (IsTrue refused → meets_rules own spelled ≡ false) → false ≡ keeps picked (listed_with (held_of refused spelled value) head)
+pub refused_passed_over : (own picked : Filter) (refused : Bool) (spelled value : Record) (head : RecordHead) → own ≡ picked → refused ≡ true → (IsTrue refused → meets_rules own spelled ≡ false) → false ≡ keeps picked (listed_with (held_of refused spelled value) head)
 refused_passed_over own picked refused spelled value head same is refuses =
     let refused_by : meets_rules picked spelled ≡ false = subst (λ (by : Filter). meets_rules by spelled ≡ false) same (refuses is) in
     rw is (sym (refused_not_kept picked (listed_with spelled head) refused_by))

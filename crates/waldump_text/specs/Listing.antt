@@ -12,8 +12,6 @@ use Rattle.wal_types.specs.declared.record.Rel.{Rel}
 use Rattle.waldump_text.specs.TimeText.{time_text}
 use Rattle.wal_spelling.specs.Record.{is_free_manager}
 use Rattle.wal_reader.specs.declared.found.FoundRecord.{FoundRecord}
-use Rattle.wal_reader.specs.declared.standing.Step.{Step}
-use Rattle.wal_reader.specs.declared.standing.Step.TheVariants as steps
 use Rattle.waldump_filter.specs.declared.Filter.{Filter}
 use Rattle.waldump_filter.specs.declared.listed.Listed.{Listed}
 use Rattle.waldump_filter.specs.Keeping.{keeps}
@@ -92,13 +90,8 @@ pub record IsListable (r : Listed) : Type 0 where
 
 -- a record as it is listed
 abbrev pub listed_of : FoundRecord → Listed
-listed_of f = record { start = f.start; prev = f.prev; total = f.total; value = f.value }
-
--- the record that a reader's step gives, as it is listed
-abbrev pub listed_in : Step → Option Listed
-listed_in (steps.Record start end prev total value) =
-    Some (record { start = start; prev = prev; total = total; value = value })
-listed_in (steps.End at) = None
+listed_of f =
+    record { start = f.head.start; prev = f.head.prev; total = f.head.total; value = f.value }
 
 -- those of a log's records that a filter keeps
 abbrev pub kept_by : Filter → List FoundRecord → List FoundRecord

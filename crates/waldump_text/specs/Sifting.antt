@@ -7,10 +7,10 @@ use Rattle.wal_spelling.specs.Layout.{manager_offset, xid_offset}
 use Rattle.wal_spelling.specs.Numbers.{number_at}
 use Rattle.wal_record.specs.declared.head.BlockHead.{BlockHead}
 use Rattle.wal_record.specs.Reading.{image_len}
+use Rattle.wal_reader.specs.declared.found.RecordHead.{RecordHead}
 use Rattle.waldump_filter.specs.declared.Filter.{Filter}
 use Rattle.waldump_filter.specs.declared.listed.Listed.{Listed}
 use Rattle.waldump_filter.specs.Keeping.{asks_for_block, meets_header, meets_place}
-use Rattle.waldump_text.specs.declared.steps.ListedHead.{ListedHead}
 
 -- whether a record meets all rules beside the start, by its bytes and the heads of its blocks
 abbrev pub meets_by_heads : Filter → List ℕ → List BlockHead → Bool
@@ -29,7 +29,7 @@ images_by_heads heads = sum_by (λ h. image_len h.image) heads
 abbrev pub held_of : Bool → Record → Record → Record
 held_of refused spelled value = if refused then spelled else value
 
--- a record as it is listed, of which a step says this
-abbrev pub listed_with : Record → ListedHead → Listed
+-- a record as it is listed, which stands here
+abbrev pub listed_with : Record → RecordHead → Listed
 listed_with value head =
     record { start = head.start; prev = head.prev; total = head.total; value = value }

@@ -5,13 +5,12 @@ ghost use Rattle.waldump_text.specs.Counting.{HasTallyCause, IsTally};
 ghost use Rattle.waldump_text.specs.Tally.{TallyFits};
 
 use crate::sifting::ByFilter;
-use crate::steps::head_of;
 use crate::sums::Tally;
 use crate::weighing::Weighed;
 use byte_position::Geometry;
 use segment_disk::Disk;
 use std::alloc::Global;
-use wal_reader::{ReadErr, Reader};
+use wal_reader::{Comes, ReadErr, Reader};
 use waldump_filter::Filter;
 
 /// Tallies the records that a filter lists. No record is kept, so the memory that it needs does not
@@ -35,7 +34,7 @@ pub(crate) fn tally_log<D: Disk, B: ByFilter>(
     let mut weighed = Weighed::<B>::new(filter);
     'records: while !filter.is_full(tally.all.records) {
         let step = reader.next_into(alloc, disk, &mut weighed)?;
-        let Some(head) = head_of(step) else {
+        let Comes::Record(head) = step else {
             return Ok(tally);
         };
         if let Some(weight) = weighed.weight(head) {

@@ -12,14 +12,13 @@ use crate::putting::SinkFault;
 use crate::quiet::count_records;
 use crate::sifting::{ByFilter, Sifted};
 use crate::statistics::put_tally;
-use crate::steps::head_of;
 use crate::sums::Tally;
 use byte_position::Geometry;
 use segment_disk::{Disk, Sink};
 use std::alloc::Global;
 use std::marker::Brand;
 use thiserror::Error;
-use wal_reader::{ReadErr, Reader};
+use wal_reader::{Comes, ReadErr, Reader};
 use waldump_filter::{Filter, Listed};
 
 /// Why a log was not listed to a clean end.
@@ -104,7 +103,7 @@ fn dump_lines<D: Disk, O: Sink, B: ByFilter>(
     let mut count = 0;
     'records: while !filter.is_full(count) {
         let step = reader.next_into(alloc, disk, &mut sifted)?;
-        let Some(head) = head_of(step) else {
+        let Comes::Record(head) = step else {
             return Ok(count);
         };
         if sifted.keeps(head) {

@@ -14,7 +14,6 @@ mod putting;
 mod quiet;
 mod sifting;
 mod statistics;
-mod steps;
 mod sums;
 mod time_digits;
 mod time_laws;

@@ -1,20 +1,17 @@
 //! A listing of which nothing is printed, by a filter without rules: its records are read, checked
 //! and counted, and not kept.
 
-ghost use Rattle.std.specs.Prelude.{◌≡◌, ℕ, List, Option, Ok, IfOk, IfSome, IsFalse, IsTrue, if◌then◌else◌, nat_le, option_map, ◌≤◌};
+ghost use Rattle.std.specs.Prelude.{◌≡◌, ℕ, List, Option, IfSome, IsFalse, IsTrue, if◌then◌else◌, nat_le, ◌≤◌};
 ghost use Rattle.segment_disk.specs.Tape.{IsUncalled};
-ghost use Rattle.wal_types.specs.declared.record.Record.{Record};
-ghost use Rattle.wal_reader.specs.Filled.{step_with};
 ghost use Rattle.waldump_filter.specs.declared.listed.Listed.{Listed};
 ghost use Rattle.waldump_filter.specs.Keeping.{keeps};
 ghost use Rattle.waldump_text.specs.Dump.{HasDumpCause, IsDump};
-ghost use Rattle.waldump_text.specs.Listing.{listed_in};
 
 use crate::dumping::DumpErr;
 use byte_position::Geometry;
 use segment_disk::Disk;
 use std::alloc::Global;
-use wal_reader::{Comes, Reader};
+use wal_reader::{Comes, Reader, RecordHead};
 use wal_record::Unkept;
 use waldump_filter::Filter;
 
@@ -40,24 +37,19 @@ pub(crate) fn count_records<D: Disk>(
     let mut count = 0;
     'records: while !filter.is_full(count) {
         let step = reader.next_into(alloc, disk, &mut unkept)?;
-        let Some(more) = counted(filter, step) else {
+        let Comes::Record(head) = step else {
             return Ok(count);
         };
-        count += more;
+        count += counted(filter, head);
     }
     Ok(count)
 }
 
-// What a step adds to the count of the records that are listed. At the log's end it is `None`.
+// What a record that stands here adds to the count of those that are listed.
 #[inline(always)]
-fn counted(filter: &Filter, step: Comes) -> Option<u64>
-    ensures counts { (value : Record) → IfOk (step_with value (Ok step)) (λ step. result
-        ≡ option_map (λ r. if nat_le filter.now.start.0 r.start.0 then 1 else 0)
-        (listed_in step)) }
-    ensures one { IfSome result (λ more. more ≤ 1) }
+fn counted(filter: &Filter, head: RecordHead) -> u64
+    ensures counts { result ≡ (if nat_le filter.now.start.0 head.start.0 then 1 else 0) }
+    ensures one { result ≤ 1 }
 {
-    match step {
-        Comes::Record { start, .. } => Some(u64::from(filter.start.0 <= start.0)),
-        Comes::End { .. } => None,
-    }
+    u64::from(filter.start.0 <= head.start.0)
 }

@@ -8,13 +8,13 @@ ghost use Rattle.waldump_filter.specs.declared.Filter.{Filter};
 ghost use Rattle.waldump_filter.specs.Keeping.{everything_from, has_rules, keeps, meets_place, meets_rules};
 ghost use Rattle.waldump_text.specs.Sifting.{held_of, listed_with, meets_by_heads};
 
-use crate::steps::{ListedHead, blank};
 use std::alloc::Global;
 use std::marker::{Brand, PhantomData};
+use wal_reader::RecordHead;
 use wal_record::{BlockHead, Headers, KeepsRecord, RecErr, Unkept};
 use wal_spelling::layout::{RMID_AT, XID_AT};
 use wal_spelling::numbers::u32_at;
-use wal_types::Xid;
+use wal_types::{Lsn, Record, Xid};
 use waldump_filter::{Filter, Listed};
 
 /// The filter by which records are sifted, which a call picks for the proof alone.
@@ -102,6 +102,16 @@ impl<B: ByFilter> KeepsRecord for Sifted<B> {
     }
 }
 
+// A record to be listed that is none yet.
+fn blank(alloc: Global) -> Listed {
+    Listed {
+        start: Lsn(0),
+        prev: Lsn(0),
+        total: 0,
+        value: Record::blank(alloc),
+    }
+}
+
 impl<B: ByFilter> Sifted<B> {
     /// Before any record.
     pub(crate) fn new(alloc: Global, filter: &Filter) -> Sifted<B>
@@ -117,10 +127,10 @@ impl<B: ByFilter> Sifted<B> {
         }
     }
 
-    /// Whether the filter keeps the record that was read last, of which a step says this; then that
-    /// is what is listed.
+    /// Whether the filter keeps the record that was read last, which stands here; then that is what
+    /// is listed.
     #[inline(always)]
-    pub(crate) fn keeps(&mut self, head: ListedHead) -> bool
+    pub(crate) fn keeps(&mut self, head: RecordHead) -> bool
         ensures keeps { result ≡ keeps B.filter (listed_with (held_of self.old.refused
             self.old.unkept.spelled self.old.listed.value) head) }
         ensures listed { IsTrue result → self.new.listed ≡ listed_with (held_of self.old.refused

@@ -9,9 +9,9 @@ ghost use Rattle.waldump_text.specs.Sifting.{images_by_heads, listed_with};
 ghost use Rattle.waldump_text.specs.Weights.{TellsWeight};
 
 use crate::sifting::{ByFilter, meets};
-use crate::steps::ListedHead;
 use std::alloc::Global;
 use std::marker::PhantomData;
+use wal_reader::RecordHead;
 use wal_record::{BlockHead, Headers, ImageHead, KeepsRecord, RecErr, Unkept};
 use wal_spelling::layout::RMID_AT;
 use wal_types::Xid;
@@ -114,10 +114,9 @@ impl<B: ByFilter> Weighed<B> {
         }
     }
 
-    /// What the record that was read last adds, of which a step says this, where the filter keeps
-    /// it.
+    /// What the record that was read last adds, which stands here, where the filter keeps it.
     #[inline(always)]
-    pub(crate) fn weight(&self, head: ListedHead) -> Option<Weight>
+    pub(crate) fn weight(&self, head: RecordHead) -> Option<Weight>
         ensures { TellsWeight B.filter (listed_with self.now.unkept.spelled head) result }
     {
         if !self.meets {

@@ -252,4 +252,4 @@ agreeing_logs_decode_alike size bound start end one other valid whole also agree
     (λ p begins. begins_alike one other whole also same (2 ^ 47) size (start / 8192) 0 p begins)
     (λ p begins. begins_alike other one also whole (λ address. sym (same address)) (2 ^ 47) size (start / 8192) 0 p begins)
     d.read k.read answer told d.reads k.reads in
-    d.given ∙ ap (filter (λ f. leb start f.start.0)) reads ∙ sym k.given
+    d.given ∙ ap (filter (λ f. leb start f.head.start.0)) reads ∙ sym k.given

@@ -88,13 +88,13 @@ module _ (size sysid : ℕ) (pages : Pages) (es : List Entry) (upto : ℕ) (vali
       let here = subst (λ (p : ℕ). read_at size pages None (record { position = p; prev = place.prev; timeline = place.timeline }) ≡ Ok f) (at ∙ sym start) reads.0 in
       let entry : f ≡ found_entry size (prev_of size 0 front) e = entry_or_nothing size sysid pages es upto valid chained are front others e parts place.prev place.timeline f fits known (entry_does_not_pass front others e parts) here in
       let whole = entry_whole size sysid pages es upto valid chained are front others e parts in
-      let behind_it : next_position size place.position f.total f.value ≡ e.start + room_at size e.start e.value = ap (λ (g : FoundRecord). next_position size place.position g.total g.value) entry ∙ ap (λ (p : ℕ). next_position size p (size_of e.value) e.value) (at ∙ sym start) ∙ next_of_entry size valid e.start whole e.value in
+      let behind_it : next_position size place.position f.head.total f.value ≡ e.start + room_at size e.start e.value = ap (λ (g : FoundRecord). next_position size place.position g.head.total g.value) entry ∙ ap (λ (p : ℕ). next_position size p (size_of e.value) e.value) (at ∙ sym start) ∙ next_of_entry size valid e.start whole e.value in
       let pushed = prev_of_push size 0 front e in
       let within : e.start < end_position size es = omega (arith, start, ap (rooms_of size) parts, rooms_of-append size front (e ∷ others), rooms_of_cons size e others, room_at-pos size e) in
       let below = address_of-below_end size valid e.start (end_position size es) within in
       let now : es ≡ (front ++ e ∷ []) ++ others = parts ∙ sym (append_assoc front (e ∷ []) others) in
       let next : (place_behind size pages place f).position ≡ end_position size (front ++ e ∷ []) = omega (arith, behind_it, start, rooms_of_push size front e) in
-      let known_next : Some f.start ≡ Some (record { 0 = prev_of size 0 (front ++ e ∷ []) }) = ap (λ (g : FoundRecord). Some g.start) entry ∙ ap (λ (a : ℕ). Some (record { 0 = a })) (sym pushed) in
+      let known_next : Some f.head.start ≡ Some (record { 0 = prev_of size 0 (front ++ e ∷ []) }) = ap (λ (g : FoundRecord). Some g.head.start) entry ∙ ap (λ (a : ℕ). Some (record { 0 = a })) (sym pushed) in
       let own = λ (a : ℕ) (from : end_address_of size (end_position size front) ≤ a) (below : a < end_address_of size (end_position size (front ++ e ∷ []))).
       entry_is_own size sysid pages es upto valid chained are front others e parts place.prev place.timeline f fits known (found_at size pages (record { position = e.start; prev = place.prev; timeline = place.timeline }) f here) (entry_does_not_pass front others e parts) a
       (omega (arith, le-position_of size valid (end_position size front) a from, start)) (lies_below a (end_position size (front ++ e ∷ [])) (e.start + room_at size e.start e.value) below (omega (arith, start, rooms_of_push size front e))) in

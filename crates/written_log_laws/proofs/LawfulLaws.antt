@@ -105,7 +105,7 @@ module _ (size sysid : ℕ) (pages : Pages) (es : List Entry) (upto : ℕ) (vali
         let read = read_is_front (beginning size pages size) refl decodes.read answer decodes.reads in
         let chained_front = (FollowsFrom-parts size (first_position size) (take read.count es) (drop read.count es) (subst (λ (l : List Entry). IsChained size l) (sym (take-append-drop read.count es)) chained)).0 in
         let given = none_below size 0 (first_position size) (take read.count es) valid chained_front (omega arith) in
-        read.found_is ∙ given ∙ sym (ap (λ (l : List FoundRecord). filter (λ f. nat_le size f.start.0) l) read.found_is) ∙ sym decodes.given
+        read.found_is ∙ given ∙ sym (ap (λ (l : List FoundRecord). filter (λ f. nat_le size f.head.start.0) l) read.found_is) ∙ sym decodes.given
 
     pub front_is_read : (found : List FoundRecord) (answer : Answer) → Decodes size pages size None found answer → ReadsFront size sysid pages es [] es found
     front_is_read found answer decodes = subst (ReadsFront size sysid pages es [] es) (all_is_found found answer decodes) (read_is_front (beginning size pages size) refl decodes.read answer decodes.reads)

@@ -27,10 +27,12 @@ module _ (size : ℕ) (valid : IsSegmentSize size) where
   pub found_as_entry : (place : RecordPlace) (prev : ℕ) (e : Entry) → e.start % 8 ≡ 0 → place.position ≡ e.start → found_record size place (size_of e.value) prev e.value ≡ found_entry size prev e
   found_as_entry place prev e whole at =
       let own : ℕ → ℕ → FoundRecord = λ start next. record {
-        start = record { 0 = address_of size start };
-        end = record { 0 = end_address_of size next };
-        prev = record { 0 = prev };
-        total = size_of e.value;
+        head = record {
+          start = record { 0 = address_of size start };
+          end = record { 0 = end_address_of size next };
+          prev = record { 0 = prev };
+          total = size_of e.value;
+        };
         value = e.value;
       } in
       ap (λ (p : ℕ). own p (next_position size p (size_of e.value) e.value)) at ∙ ap (own e.start) (next_of_entry e.start whole e.value)

@@ -29,7 +29,7 @@ use Rattle.written_log_laws.proofs.LogReads.{StandFrom, log_place, last_start, e
 use Rattle.written_log_laws.proofs.LogEnds.{holds_below_end, page_begins_with_zeros, log_ends}
 
 -- no record starts below the log's own start
-pub none_below : (size prev position : ℕ) (es : List Entry) → IsSegmentSize size → FollowsFrom size position es → first_position size ≤ position → found_from size prev es ≡ filter (λ f. nat_le size f.start.0) (found_from size prev es)
+pub none_below : (size prev position : ℕ) (es : List Entry) → IsSegmentSize size → FollowsFrom size position es → first_position size ≤ position → found_from size prev es ≡ filter (λ f. nat_le size f.head.start.0) (found_from size prev es)
 none_below size prev position [] valid follows from = refl
 none_below size prev position (e ∷ es) valid follows from =
     let start = address_of size e.start in
@@ -38,7 +38,7 @@ none_below size prev position (e ∷ es) valid follows from =
     let found = found_entry size prev e in
     let others = found_from size start es in
     ap (λ (found_behind : List FoundRecord). found ∷ found_behind) rest
-    ∙ sym (cond-true (nat_le size start) (found ∷ filter (λ f. nat_le size f.start.0) others) (filter (λ f. nat_le size f.start.0) others) (le-leb size start above))
+    ∙ sym (cond-true (nat_le size start) (found ∷ filter (λ f. nat_le size f.head.start.0) others) (filter (λ f. nat_le size f.head.start.0) others) (le-leb size start above))
 
 -- the first position of the log's first page
 pub first_page_position : (size : ℕ) → IsSegmentSize size → position_of size (pages_of size * 8192) ≡ first_position size

@@ -21,12 +21,12 @@ use Rattle.written_log_laws.specs.Written.{found_of}
 -- log's start
 abbrev pub end_behind : ℕ → List FoundRecord → ℕ
 end_behind end [] = end
-end_behind end (f ∷ found) = end_behind f.end.0 found
+end_behind end (f ∷ found) = end_behind f.head.end.0 found
 
 -- where the last of them starts; `start` where there is none, which is 0
 abbrev pub last_start_behind : ℕ → List FoundRecord → ℕ
 last_start_behind start [] = start
-last_start_behind start (f ∷ found) = last_start_behind f.start.0 found
+last_start_behind start (f ∷ found) = last_start_behind f.head.start.0 found
 
 -- ---- images
 

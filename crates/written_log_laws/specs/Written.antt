@@ -8,10 +8,12 @@ use Rattle.wal_reader.specs.declared.found.FoundRecord.{FoundRecord}
 -- an entry as a reader finds it behind a record that starts at `prev`
 abbrev pub found_entry : ℕ → ℕ → Entry → FoundRecord
 found_entry size prev e = record {
-  start = record { 0 = address_of size e.start };
-  end = record { 0 = finish_of size e };
-  prev = record { 0 = prev };
-  total = size_of e.value;
+  head = record {
+    start = record { 0 = address_of size e.start };
+    end = record { 0 = finish_of size e };
+    prev = record { 0 = prev };
+    total = size_of e.value;
+  };
   value = e.value;
 }
 

@@ -3,7 +3,7 @@ use Rattle.std.specs.Prelude.{IfOk}
 use Rattle.std.proofs.lemmas.Result.{err_from_is_err_and}
 use Rattle.byte_position.specs.Position.{address_of, end_address_of}
 use Rattle.wal_reader.specs.declared.found.Answer.{Answer}
-use Rattle.wal_reader.specs.declared.found.FoundHead.{FoundHead}
+use Rattle.wal_reader.specs.declared.found.RecordHead.{RecordHead}
 use Rattle.wal_reader.specs.declared.found.FoundRecord.{FoundRecord}
 use Rattle.wal_reader.specs.declared.record_place.RecordPlace.{RecordPlace}
 use Rattle.wal_reader.specs.RecordRead.{behind_read, without_place}
@@ -49,7 +49,7 @@ returns-in_err-read-clause-reads g c = λ pages here.
     let size = c.args.cache.now.geometry in
     let stop = err_from_is_err_and c.from_residual-in_err-read.result c.from_residual-in_err-read.ensures.1 in
     let read = read_here size pages c.args.opened.extent.at c.address-start.result c.args.opened.extent.total c.args.opened.cursor _ _ (own_start g before) c.requires.opened.page c.requires.opened.none.gathered here c.requires.whole c.requires.opened.large c.requires.within (own g before) c.in_ok-check_header.ensures c.in_ok-check_crc.ensures in
-    rw (stop.1, stop.2) (read ∙ sym c.in_ok-found.ensures.read ∙ ap (λ (said : Result (FoundHead × RecordPlace) Answer). without_place (read_with (g.K.KeepsRecord.kept c.found.new.value) said)) c.in_err-read.was)
+    rw (stop.1, stop.2) (read ∙ sym c.in_ok-found.ensures.read ∙ ap (λ (said : Result (RecordHead × RecordPlace) Answer). without_place (read_with (g.K.KeepsRecord.kept c.found.new.value) said)) c.in_err-read.was)
 
 pub returns-clause-answered : goal.returns-clause-answered
 returns-clause-answered g c =
@@ -60,7 +60,7 @@ returns-clause-answered g c =
     let was = ap (read_with value) c.in_ok-read.was in
     let bound = end_in_page size extent.at.position extent.total c.args.opened.cursor c.requires.opened.none.gathered c.requires.within c.requires.opened.large c.requires.opened.none.reachable.aligned in
     let behind = of_found (read_with value c.in_ok-found.field-0) (λ (read : FoundRecord × RecordPlace). read.1 ≡ behind_read size extent.at read.0 extent.total c.args.opened.cursor.timeline) read was c.in_ok-found.ensures.behind in
-    let ends = subst (λ (said : Result (FoundHead × RecordPlace) Answer). IfOk said (λ read. read.0.end.0 ≡ end_address_of size read.1.position)) c.in_ok-read.was c.in_ok-found.ensures.end in
+    let ends = subst (λ (said : Result (RecordHead × RecordPlace) Answer). IfOk said (λ read. read.0.end.0 ≡ end_address_of size read.1.position)) c.in_ok-read.was c.in_ok-found.ensures.end in
     record {
       further = goes_on_behind size c.requires.opened.none.gathered.stands.valid extent.at read.1 extent.total read.0.value c.requires.opened.none.reachable c.requires.opened.large (bound read.0.value) (ap (λ (next : RecordPlace). next.position) behind);
       behind = (sym ends, ap (λ (next : RecordPlace). next.prev) behind);

@@ -4,7 +4,7 @@ use Rattle.std.proofs.lemmas.Result.{err_from_is_err_and}
 use Rattle.byte_position.specs.Position.{address_of, end_address_of}
 use Rattle.wal_page.specs.Page.{first_fault}
 use Rattle.wal_reader.specs.declared.found.Answer.{Answer}
-use Rattle.wal_reader.specs.declared.found.FoundHead.{FoundHead}
+use Rattle.wal_reader.specs.declared.found.RecordHead.{RecordHead}
 use Rattle.wal_reader.specs.declared.found.FoundRecord.{FoundRecord}
 use Rattle.wal_reader.specs.declared.record_place.RecordPlace.{RecordPlace}
 use Rattle.wal_reader.specs.declared.read_failure.ReadFailure.{ReadFailure}
@@ -104,7 +104,7 @@ returns-in_err-read-clause-reads g c = λ pages sees.
     let bytes = c.deref-2.ensures.value ∙ record_items g after pages sees (header_items g before pages sees) in
     let read = read_over c.args.buffers.now.cache.geometry pages c.args.opened.extent.at c.start-start.result c.args.opened.extent.total c.start-start.ensures c.args.opened.cursor.page c.in_ok-cursor.cursor.page c.in_ok-cursor-2.cursor.page c.requires.opened.page (header_page g before) ((gathered_all g after).last (omega (arith, c.requires.opened.large))) (first.gathers pages sees).checks c.first_part-upto.result c.first_part-upto.ensures.header _ (header_gathered g before pages sees) c.in_ok-check_header.ensures (crosses_further g after pages sees) _ bytes c.in_ok-check_crc.ensures in
     let same = c.deref-3.ensures.value ∙ sym c.deref-2.ensures.value in
-    let said = found_as c.args.buffers.now.cache.geometry c.args.opened.extent.at c.args.opened.extent.total c.deref-2.result.now c.deref-3.result.now (without_place (read_with (g.K.KeepsRecord.kept c.found.new.value) c.in_ok-found.field-0)) (Err c.in_err-read.field-0.0) same c.in_ok-found.ensures.read (ap (λ (said : Result (FoundHead × RecordPlace) Answer). without_place (read_with (g.K.KeepsRecord.kept c.found.new.value) said)) c.in_err-read.was) in
+    let said = found_as c.args.buffers.now.cache.geometry c.args.opened.extent.at c.args.opened.extent.total c.deref-2.result.now c.deref-3.result.now (without_place (read_with (g.K.KeepsRecord.kept c.found.new.value) c.in_ok-found.field-0)) (Err c.in_err-read.field-0.0) same c.in_ok-found.ensures.read (ap (λ (said : Result (RecordHead × RecordPlace) Answer). without_place (read_with (g.K.KeepsRecord.kept c.found.new.value) said)) c.in_err-read.was) in
     rw (stop.1, stop.2) (read ∙ said)
 
 pub returns-clause-answered : goal.returns-clause-answered
@@ -117,7 +117,7 @@ returns-clause-answered g c =
     let read : FoundRecord × RecordPlace = (found_with value c.in_ok-read.read.0, c.in_ok-read.read.1) in
     let was = ap (read_with value) c.in_ok-read.was in
     let behind = of_found (read_with value c.in_ok-found.field-0) (λ (read : FoundRecord × RecordPlace). read.1 ≡ behind_read size extent.at read.0 extent.total c.in_ok-cursor-2.cursor.timeline) read was c.in_ok-found.ensures.behind in
-    let ends = subst (λ (said : Result (FoundHead × RecordPlace) Answer). IfOk said (λ read. read.0.end.0 ≡ end_address_of size read.1.position)) c.in_ok-read.was c.in_ok-found.ensures.end in
+    let ends = subst (λ (said : Result (RecordHead × RecordPlace) Answer). IfOk said (λ read. read.0.end.0 ≡ end_address_of size read.1.position)) c.in_ok-read.was c.in_ok-found.ensures.end in
     record {
       further = goes_on_behind size c.requires.opened.none.gathered.stands.valid extent.at read.1 extent.total read.0.value c.requires.opened.none.reachable c.requires.opened.large (bound read.0.value) (ap (λ (next : RecordPlace). next.position) behind);
       behind = (sym ends, ap (λ (next : RecordPlace). next.prev) behind);

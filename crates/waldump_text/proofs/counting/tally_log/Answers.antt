@@ -20,7 +20,7 @@ use Rattle.waldump_text.proofs.DumpLaws.{Steps}
 use Rattle.waldump_text.proofs.SpelledLaws.{IsListable-from_spelled}
 use Rattle.waldump_text.proofs.StepLaws.{GivesListed, gives_end, gives_listed}
 use Rattle.waldump_text.proofs.counting.tally_log.Goals as goal
-use Rattle.waldump_text.proofs.counting.tally_log.Goals.{In-Some}
+use Rattle.waldump_text.proofs.counting.tally_log.Goals.{In-Record}
 
 -- that a record is kept by the filter that is picked says that it is by this one
 kept_too : (picked by : Filter) (kept : Bool) (r other : Listed) → picked ≡ by → r ≡ other → keeps picked r ≡ kept → keeps by other ≡ kept
@@ -35,35 +35,35 @@ none_told filter r None none tells = tells
 none_told filter r (Some w) none tells = absurd (none w refl)
 
 -- the step to the record that is weighed
-gives : (g : _) (c : In-Some g) → GivesListed c.next_into.new.value.unkept.spelled c.in_ok-step.step (listed_with c.next_into.new.value.unkept.spelled c.in-Some.head)
-gives g c = gives_listed c.next_into.new.value.unkept.spelled c.in_ok-step.step c.head_of.result c.in-Some.head c.in-Some.is (c.head_of.ensures c.next_into.new.value.unkept.spelled)
+gives : (g : _) (c : In-Record g) → GivesListed c.next_into.new.value.unkept.spelled c.in_ok-step.step (listed_with c.next_into.new.value.unkept.spelled c.in-Record.head)
+gives g c = gives_listed c.next_into.new.value.unkept.spelled c.in_ok-step.step c.in-Record.head c.in-Record.is
 
-steps_on : (g : _) (c : In-Some g) → Steps (g.D.Disk.tape c.args.disk.now) c.records.reader c.next_into.new.self (Ok (given_as (gives g c).found))
+steps_on : (g : _) (c : In-Record g) → Steps (g.D.Disk.tape c.args.disk.now) c.records.reader c.next_into.new.self (Ok (given_as (gives g c).found))
 steps_on g c =
     let on_disk = subst (λ (step : Result Step ReadErr). Steps (g.D.Disk.tape c.records.disk) c.records.reader c.next_into.new.self step) (gives g c).step_is c.in_ok-step.ensures.gives in
     subst (λ (tape : Option Tape). Steps tape c.records.reader c.next_into.new.self (Ok (given_as (gives g c).found))) c.records.invariant.tape on_disk
 
-leaves_on : (g : _) (c : In-Some g) → LeavesReader (reader_state c.records.reader) (reader_state c.next_into.new.self) (Ok (given_as (gives g c).found))
+leaves_on : (g : _) (c : In-Record g) → LeavesReader (reader_state c.records.reader) (reader_state c.next_into.new.self) (Ok (given_as (gives g c).found))
 leaves_on g c = subst (λ (step : Result Step ReadErr). LeavesReader (reader_state c.records.reader) (reader_state c.next_into.new.self) step) (gives g c).step_is c.in_ok-step.ensures.leaves
 
-cause_on : (g : _) (c : In-Some g) → g.D.Disk.faults c.next_into.new.disk ≡ g.D.Disk.faults c.records.disk
+cause_on : (g : _) (c : In-Record g) → g.D.Disk.faults c.next_into.new.disk ≡ g.D.Disk.faults c.records.disk
 cause_on g c = subst (λ (step : Result Step ReadErr). HasReadCause (g.D.Disk.faults c.records.disk) (g.D.Disk.faults c.next_into.new.disk) step) (gives g c).step_is c.in_ok-step.ensures.cause
 
-listable : (g : _) (c : In-Some g) → IsListable (listed_of (gives g c).found)
+listable : (g : _) (c : In-Record g) → IsListable (listed_of (gives g c).found)
 listable g c =
     let spelled = subst (λ (step : Result Step ReadErr). IfOk step GivesSpelled) (gives g c).step_is c.in_ok-step.ensures.spelled in
     IsListable-from_spelled (gives g c).found spelled
 
 pub add-requires-clause-weighs : goal.add-requires-clause-weighs
 add-requires-clause-weighs g c =
-    let step = (goal.at.add-requires-clause-weighs g c).In-Some in
-    let told = weight_told g.B.ByFilter.filter (listed_with c.next_into.new.value.unkept.spelled c.in-Some.head) c.weight.result c.in-Some-weight.weight c.in-Some-weight.is c.weight.ensures in
-    (listed_with c.next_into.new.value.unkept.spelled c.in-Some.head, subst IsListable (sym (gives g step).listed_is) (listable g step), told.1)
+    let step = (goal.at.add-requires-clause-weighs g c).In-Record in
+    let told = weight_told g.B.ByFilter.filter (listed_with c.next_into.new.value.unkept.spelled c.in-Record.head) c.weight.result c.in-Some.weight c.in-Some.is c.weight.ensures in
+    (listed_with c.next_into.new.value.unkept.spelled c.in-Record.head, subst IsListable (sym (gives g step).listed_is) (listable g step), told.1)
 
-pub records-preserved-in-Some-weight : goal.records-preserved-in-Some-weight
-records-preserved-in-Some-weight g c =
+pub records-preserved-in-Some : goal.records-preserved-in-Some
+records-preserved-in-Some g c =
     let valid = c.new-reader.ensures.valid in
-    let step = (goal.at.records-preserved-in-Some-weight g c).In-Some in
+    let step = (goal.at.records-preserved-in-Some g c).In-Record in
     let before = c.records.invariant in
     let read = c.in_ok-step.ensures in
     let leaves = leaves_on g step in
@@ -71,9 +71,9 @@ records-preserved-in-Some-weight g c =
     let listed_is = (gives g step).listed_is in
     let f = (gives g step).found in
     let unreached : is_reached by.limit c.records.tally.all.records ≡ false = cc in
-    let told = weight_told g.B.ByFilter.filter (listed_with c.next_into.new.value.unkept.spelled c.in-Some.head) c.weight.result c.in-Some-weight.weight c.in-Some-weight.is c.weight.ensures in
+    let told = weight_told g.B.ByFilter.filter (listed_with c.next_into.new.value.unkept.spelled c.in-Record.head) c.weight.result c.in-Some.weight c.in-Some.is c.weight.ensures in
     let keeps_it : keeps by (listed_of f) ≡ true = kept_too g.B.ByFilter.filter by true _ _ (sym c.requires) listed_is told.0 in
-    let adds : Adds by f c.records.tally c.add.new.self = Adds-kept by f c.records.tally c.add.new.self keeps_it (λ records upto. c.add.ensures.tallies records (listed_of f) (subst (λ (r : Listed). Weighs r c.in-Some-weight.weight) listed_is told.1) upto) c.add.ensures.counted unreached c.add.ensures.sound in
+    let adds : Adds by f c.records.tally c.add.new.self = Adds-kept by f c.records.tally c.add.new.self keeps_it (λ records upto. c.add.ensures.tallies records (listed_of f) (subst (λ (r : Listed). Weighs r c.in-Some.weight) listed_is told.1) upto) c.add.ensures.counted unreached c.add.ensures.sound in
     record {
       sized = ap (λ (s : ReaderState). s.size) leaves.0 ∙ before.sized;
       tallied = TalliesLog-more c.args.geometry by valid c.records.reader before.sized c.records.tally _ c.next_into.new.self f c.add.new.self adds before.tallied (steps_on g step);
@@ -88,7 +88,7 @@ records-preserved-in-Some-weight g c =
 pub records-preserved : goal.records-preserved
 records-preserved g c =
     let valid = c.new-reader.ensures.valid in
-    let step = (goal.at.records-preserved g c).In-Some in
+    let step = (goal.at.records-preserved g c).In-Record in
     let before = c.records.invariant in
     let read = c.in_ok-step.ensures in
     let leaves = leaves_on g step in
@@ -121,7 +121,7 @@ returns-in_default-clause-tallied g c =
     let valid = c.new-reader.ensures.valid in
     let before = c.records.invariant in
     let read = c.next_into.new.value.unkept.spelled in
-    let ends = gives_end read c.in_ok-step.step c.head_of.result c.in_default.not-Some (c.head_of.ensures read) in
+    let ends = gives_end read c.in_ok-step.step c.in_default.not-Record in
     let on_disk = subst (λ (step : Result Step ReadErr). Steps (g.D.Disk.tape c.records.disk) c.records.reader c.next_into.new.self step) ends.1 c.in_ok-step.ensures.gives in
     let steps = subst (λ (tape : Option Tape). Steps tape c.records.reader c.next_into.new.self (Ok (End ends.0))) before.tape on_disk in
     tally_ended c.args.geometry c.args.filter.now valid c.records.reader before.sized c.records.tally before.within _ c.next_into.new.self ends.0 before.tallied steps

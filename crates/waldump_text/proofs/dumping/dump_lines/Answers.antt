@@ -20,7 +20,7 @@ use Rattle.waldump_text.proofs.ListingLaws.{IsWithin-more, IsWithin-none, Prints
 use Rattle.waldump_text.proofs.SpelledLaws.{IsListable-from_spelled}
 use Rattle.waldump_text.proofs.StepLaws.{GivesListed, gives_end, gives_listed}
 use Rattle.waldump_text.proofs.dumping.dump_lines.Goals as goal
-use Rattle.waldump_text.proofs.dumping.dump_lines.Goals.{In-Some}
+use Rattle.waldump_text.proofs.dumping.dump_lines.Goals.{In-Record}
 
 pub records-init : goal.records-init
 records-init g c =
@@ -54,35 +54,35 @@ told_kept : (picked by : Filter) (kept : Bool) (r other : Listed) → picked ≡
 told_kept picked by kept r other same is told = told ∙ ap (λ (filter : Filter). keeps filter r) same ∙ ap (keeps by) is
 
 -- the record that was read
-abbrev held : (g : _) (c : In-Some g) → Record
+abbrev held : (g : _) (c : In-Record g) → Record
 held g c = let sifted = c.next_into.new.value in held_of sifted.refused sifted.unkept.spelled sifted.listed.value
 
 -- the step to the record that is listed
-gives : (g : _) (c : In-Some g) → GivesListed (held g c) c.in_ok-step.step (listed_with (held g c) c.in-Some.head)
-gives g c = gives_listed (held g c) c.in_ok-step.step c.head_of.result c.in-Some.head c.in-Some.is (c.head_of.ensures (held g c))
+gives : (g : _) (c : In-Record g) → GivesListed (held g c) c.in_ok-step.step (listed_with (held g c) c.in-Record.head)
+gives g c = gives_listed (held g c) c.in_ok-step.step c.in-Record.head c.in-Record.is
 
-steps_on : (g : _) (c : In-Some g) → Steps (g.D.Disk.tape c.args.disk.now) c.records.reader c.next_into.new.self (Ok (given_as (gives g c).found))
+steps_on : (g : _) (c : In-Record g) → Steps (g.D.Disk.tape c.args.disk.now) c.records.reader c.next_into.new.self (Ok (given_as (gives g c).found))
 steps_on g c =
     let on_disk = subst (λ (step : Result Step ReadErr). Steps (g.D.Disk.tape c.records.disk) c.records.reader c.next_into.new.self step) (gives g c).step_is c.in_ok-step.ensures.gives in
     subst (λ (tape : Option Tape). Steps tape c.records.reader c.next_into.new.self (Ok (given_as (gives g c).found))) c.records.invariant.tape on_disk
 
-leaves_on : (g : _) (c : In-Some g) → LeavesReader (reader_state c.records.reader) (reader_state c.next_into.new.self) (Ok (given_as (gives g c).found))
+leaves_on : (g : _) (c : In-Record g) → LeavesReader (reader_state c.records.reader) (reader_state c.next_into.new.self) (Ok (given_as (gives g c).found))
 leaves_on g c = subst (λ (step : Result Step ReadErr). LeavesReader (reader_state c.records.reader) (reader_state c.next_into.new.self) step) (gives g c).step_is c.in_ok-step.ensures.leaves
 
-cause_on : (g : _) (c : In-Some g) → g.D.Disk.faults c.next_into.new.disk ≡ g.D.Disk.faults c.records.disk
+cause_on : (g : _) (c : In-Record g) → g.D.Disk.faults c.next_into.new.disk ≡ g.D.Disk.faults c.records.disk
 cause_on g c = subst (λ (step : Result Step ReadErr). HasReadCause (g.D.Disk.faults c.records.disk) (g.D.Disk.faults c.next_into.new.disk) step) (gives g c).step_is c.in_ok-step.ensures.cause
 
-listable : (g : _) (c : In-Some g) → IsListable (listed_of (gives g c).found)
+listable : (g : _) (c : In-Record g) → IsListable (listed_of (gives g c).found)
 listable g c =
     let spelled = subst (λ (step : Result Step ReadErr). IfOk step GivesSpelled) (gives g c).step_is c.in_ok-step.ensures.spelled in
     IsListable-from_spelled (gives g c).found spelled
 
-sized_on : (g : _) (c : In-Some g) → (reader_state c.next_into.new.self).size ≡ c.args.geometry
+sized_on : (g : _) (c : In-Record g) → (reader_state c.next_into.new.self).size ≡ c.args.geometry
 sized_on g c = ap (λ (s : ReaderState). s.size) (leaves_on g c).0 ∙ c.records.invariant.sized
 
 pub print-requires-clause-listable : goal.print-requires-clause-listable
 print-requires-clause-listable g c =
-    let step = (goal.at.print-requires-clause-listable g c).In-Some in
+    let step = (goal.at.print-requires-clause-listable g c).In-Record in
     let kept : c.keeps.result ≡ true = cc in
     rw (c.keeps.ensures.listed kept ∙ (gives g step).listed_is) (listable g step)
 
@@ -90,7 +90,7 @@ pub returns-in_err-print-clause-listed : goal.returns-in_err-print-clause-listed
 returns-in_err-print-clause-listed g c =
     let plain = c.requires.plain in
     let valid = c.new-reader.ensures.valid in
-    let step = (goal.at.returns-in_err-print-clause-listed g c).In-Some in
+    let step = (goal.at.returns-in_err-print-clause-listed g c).In-Record in
     let p = err_from_is_err_and c.from_residual-in_err-print.result c.from_residual-in_err-print.ensures.1 in
     let by = c.args.filter.now in
     let unreached : is_reached by.limit c.records.count ≡ false = cc in
@@ -105,7 +105,7 @@ pub records-preserved-then-keeps : goal.records-preserved-then-keeps
 records-preserved-then-keeps g c =
     let plain = c.requires.plain in
     let valid = c.new-reader.ensures.valid in
-    let step = (goal.at.records-preserved-then-keeps g c).In-Some in
+    let step = (goal.at.records-preserved-then-keeps g c).In-Record in
     let before = c.records.invariant in
     let read = c.in_ok-step.ensures in
     let less = (leaves_on g step).1 in
@@ -132,7 +132,7 @@ pub records-preserved : goal.records-preserved
 records-preserved g c =
     let plain = c.requires.plain in
     let valid = c.new-reader.ensures.valid in
-    let step = (goal.at.records-preserved g c).In-Some in
+    let step = (goal.at.records-preserved g c).In-Record in
     let before = c.records.invariant in
     let read = c.in_ok-step.ensures in
     let less = (leaves_on g step).1 in
@@ -161,7 +161,7 @@ returns-in_default-clause-listed g c =
     let before = c.records.invariant in
     let sifted = c.next_into.new.value in
     let read = held_of sifted.refused sifted.unkept.spelled sifted.listed.value in
-    let ends = gives_end read c.in_ok-step.step c.head_of.result c.in_default.not-Some (c.head_of.ensures read) in
+    let ends = gives_end read c.in_ok-step.step c.in_default.not-Record in
     let on_disk = subst (λ (step : Result Step ReadErr). Steps (g.D.Disk.tape c.records.disk) c.records.reader c.next_into.new.self step) ends.1 c.in_ok-step.ensures.gives in
     let steps = subst (λ (tape : Option Tape). Steps tape c.records.reader c.next_into.new.self (Ok (End ends.0))) before.tape on_disk in
     dump_ended c.args.geometry c.args.filter.now valid plain _ c.records.reader before.sized _ c.records.count before.within _ c.next_into.new.self ends.0 before.lists steps

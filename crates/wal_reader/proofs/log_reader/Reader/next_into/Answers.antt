@@ -14,7 +14,7 @@ use Rattle.wal_reader.specs.Spelled.{IsSpelledIn}
 use Rattle.wal_reader.specs.RecordPlace.{IsOutOfReach}
 use Rattle.wal_reader.specs.Steps.{ComesNext}
 use Rattle.wal_reader.specs.declared.buffers.Buffers.{Buffers}
-use Rattle.wal_reader.specs.declared.found.FoundHead.{FoundHead}
+use Rattle.wal_reader.specs.declared.found.RecordHead.{RecordHead}
 use Rattle.wal_reader.specs.declared.found.FoundRecord.{FoundRecord}
 use Rattle.wal_reader.specs.declared.record_place.RecordPlace.{RecordPlace}
 use Rattle.wal_reader.specs.declared.read_failure.ReadFailure.{ReadFailure}
@@ -79,19 +79,19 @@ returns-in-Ok-clause-gives g c pages log knows =
     let end = option_map (λ (e : Lsn). e.0) self.end in
     let got = here g before pages log knows in
     let value = g.K.KeepsRecord.kept c.next_given.new.value in
-    let found = found_with value c.in-Ok.found in
-    let next : ComesNext self.geometry pages self.start.0 end c.match-self.from (Ok (found, c.in-Ok.behind)) = subst (λ (r : Result (FoundHead × RecordPlace) ReadFailure). ComesNext self.geometry pages self.start.0 end c.match-self.from (read_with value r)) c.in-Ok.is got.next in
+    let found = found_with value c.in-Ok.head in
+    let next : ComesNext self.geometry pages self.start.0 end c.match-self.from (Ok (found, c.in-Ok.behind)) = subst (λ (r : Result (RecordHead × RecordPlace) ReadFailure). ComesNext self.geometry pages self.start.0 end c.match-self.from (read_with value r)) c.in-Ok.is got.next in
     record {
       knows = knows_still g before pages log knows;
       next = λ others answer rest. Gives-comes pages (reader_state self) c.match-self.from (found ∷ others) answer (stands g before) (next others answer rest);
-      spelled = subst (λ (r : Result (FoundHead × RecordPlace) ReadFailure). IfOk (read_with value r) (λ read. IsSpelledIn self.geometry pages read.0)) c.in-Ok.is got.spelled;
+      spelled = subst (λ (r : Result (RecordHead × RecordPlace) ReadFailure). IfOk (read_with value r) (λ read. IsSpelledIn self.geometry pages read.0)) c.in-Ok.is got.spelled;
       room = got.room;
     }
 
 pub returns-in-Ok-clause-behind : goal.returns-in-Ok-clause-behind
 returns-in-Ok-clause-behind g c =
     let before = (goal.at.returns-in-Ok-clause-behind g c).After-next_given in
-    subst (λ (n : ℕ). IsBehind n (found_with (g.K.KeepsRecord.kept c.next_given.new.value) c.in-Ok.found) c.in-Ok.behind) (fit g before) c.in-Ok.ensures.answered.behind
+    subst (λ (n : ℕ). IsBehind n (found_with (g.K.KeepsRecord.kept c.next_given.new.value) c.in-Ok.head) c.in-Ok.behind) (fit g before) c.in-Ok.ensures.answered.behind
 
 pub returns-in-Err-Told-clause-gives : goal.returns-in-Err-Told-clause-gives
 returns-in-Err-Told-clause-gives g c pages log knows =
@@ -100,7 +100,7 @@ returns-in-Err-Told-clause-gives g c pages log knows =
     let end = option_map (λ (e : Lsn). e.0) self.end in
     let got = here g before pages log knows in
     let said : Result (FoundRecord × RecordPlace) ReadFailure = Err (failures.Told c.in-Err-Told.answer) in
-    let next : ComesNext self.geometry pages self.start.0 end c.match-self.from said = subst (λ (r : Result (FoundHead × RecordPlace) ReadFailure). ComesNext self.geometry pages self.start.0 end c.match-self.from (read_with (g.K.KeepsRecord.kept c.next_given.new.value) r)) (c.in-Err-Told.is ∙ ap Err c.in-Err-Told.field-0-is) got.next in
+    let next : ComesNext self.geometry pages self.start.0 end c.match-self.from said = subst (λ (r : Result (RecordHead × RecordPlace) ReadFailure). ComesNext self.geometry pages self.start.0 end c.match-self.from (read_with (g.K.KeepsRecord.kept c.next_given.new.value) r)) (c.in-Err-Told.is ∙ ap Err c.in-Err-Told.field-0-is) got.next in
     let gives = Gives-comes pages (reader_state self) c.match-self.from [] c.in-Err-Told.answer (stands g before) next in
     let held = knows_still g before pages log knows in
     record {
