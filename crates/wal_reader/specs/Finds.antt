@@ -46,8 +46,8 @@ pub record GoesOnIn (size : ℕ) (pages : Pages) (place : RecordPlace) (total pa
 -- a record stands at a place
 pub record IsRecordAt (size : ℕ) (pages : Pages) (place : RecordPlace) (found : FoundRecord)
     : Type 0 where
-  -- it starts there and ends where the next one starts; its header says how many bytes it has, 24
-  -- at least, and where the record before it starts
+  -- it starts there, and its end is that of the position at which the next one starts; its header
+  -- says how many bytes it has, 24 at least, and where the record before it starts
   pub start_is : found.head.start.0 ≡ address_of size place.position
   pub end_is : found.head.end.0
       ≡ end_address_of size (next_position size place.position found.head.total found.value)
@@ -58,8 +58,8 @@ pub record IsRecordAt (size : ℕ) (pages : Pages) (place : RecordPlace) (found 
   pub right_prev :
       MatchOption place.prev (found.head.prev.0 < found.head.start.0)
       (λ before. found.head.prev.0 ≡ before.0)
-  -- the page in which it starts is there and sound; if it is the first there, no record goes on in
-  -- that page
+  -- the page in which it starts is there and sound; if it starts right behind the page's header, no
+  -- record goes on in that page
   pub page : List ℕ
   pub is_there : pages (found.head.start.0 / 8192) ≡ Some page
   pub sound : IsSoundPage size (found.head.start.0 / 8192) place.timeline page
@@ -85,9 +85,9 @@ FindsFrom size pages place (found ∷ others) =
     IsRecordAt size pages place found
     × FindsFrom size pages (place_behind size pages place found) others
 
--- from a page on, behind one of this timeline, reading begins at a place: behind the header of the
--- page, which is there and sound, or behind the record that goes on in it, which may fill that page
--- and further ones
+-- from a page on, where the page read before has this timeline (0: none was read), reading begins
+-- at a place: behind the header of the page, which is there and sound, or behind the record that
+-- goes on in it, which may fill that page and further ones
 pub data BeginsAt (size : ℕ) (pages : Pages) : ℕ → ℕ → RecordPlace → Type 0 where
   on_page : {page timeline : ℕ} (bytes : List ℕ) → pages page ≡ Some bytes
       → IsSoundPage size page timeline bytes
