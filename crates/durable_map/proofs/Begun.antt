@@ -17,7 +17,7 @@ use Rattle.wal_log.specs.Logs.{setup_of_log}
 use Rattle.wal_log.specs.PassLogs.{PassLog, log_of_pass}
 use Rattle.wal_log_laws.specs.Growing.{GrowsTo, HasGrown}
 use Rattle.durable_map.specs.Changes.{MapChange}
-use Rattle.durable_map.specs.History.{AnswersCall, ChangeCall, HasCalled, WasAnswered, begun_at, begun_by, begun_in}
+use Rattle.durable_map.specs.History.{AnswersCall, ChangeCall, LeadTo, WasAnswered, begun_at, begun_by, begun_in}
 use Rattle.durable_map.specs.Records.{IsLoggable, SaysChange, change_record}
 use Rattle.durable_map.specs.Stores.{AnswersChange, IsOpenMap, log_under, view_under}
 use Rattle.durable_map.specs.declared.fault.ChangeErr.{ChangeErr}
@@ -114,7 +114,7 @@ module _ {D : Type 0} where
   -- ---- calls
 
   pub all_added : (calls : List ChangeCall) (first last : DurableMap D)
-      → HasCalled calls first last
+      → LeadTo calls first last
       → AddsChanges (view_under first) (view_under last) (begun_in calls)
   all_added [] first last called =
       none_added (view_under first) (view_under last)
@@ -126,13 +126,13 @@ module _ {D : Type 0} where
       (all_added calls called.0 last called.2)
 
   pub same_log : (calls : List ChangeCall) (first last : DurableMap D)
-      → HasCalled calls first last → log_under last ≡ log_under first
+      → LeadTo calls first last → log_under last ≡ log_under first
   same_log [] first last called = ap (λ (map : DurableMap D). log_under map) called
   same_log (call ∷ calls) first last called =
       same_log calls called.0 last called.2 ∙ (called.1).log
 
   pub still_open : (calls : List ChangeCall) (first last : DurableMap D)
-      → HasCalled calls first last → IsOpenMap first → IsOpenMap last
+      → LeadTo calls first last → IsOpenMap first → IsOpenMap last
   still_open [] first last called kept =
       subst (λ (map : DurableMap D). IsOpenMap map) (sym called) kept
   still_open (call ∷ calls) first last called kept =
@@ -140,9 +140,9 @@ module _ {D : Type 0} where
 
   -- those before a call, it, and those behind it
   split_calls : (before : List ChangeCall) (call : ChangeCall) (others : List ChangeCall)
-      (first last : DurableMap D) → HasCalled (before ++ call ∷ others) first last
-      → (old new : DurableMap D) × HasCalled before first old × AnswersCall call old new
-      × HasCalled others new last
+      (first last : DurableMap D) → LeadTo (before ++ call ∷ others) first last
+      → (old new : DurableMap D) × LeadTo before first old × AnswersCall call old new
+      × LeadTo others new last
   split_calls [] call others first last called =
       (first, called.0, refl, called.1, called.2)
   split_calls (one ∷ before) call others first last called =
@@ -190,7 +190,7 @@ module _ {D : Type 0} where
         commits (setup_of_log (log_under old)) (assembled (change_record change))
         (view_under old) (view_under new) (Err refused) (answers.0).1
 
-    all_grow : (calls : List ChangeCall) (first last : DurableMap D) → HasCalled calls first last
+    all_grow : (calls : List ChangeCall) (first last : DurableMap D) → LeadTo calls first last
         → GrowsTo (log_of_pass (view_under first)) (log_of_pass (view_under last))
     all_grow [] first last called =
         subst (λ (map : DurableMap D).
@@ -203,13 +203,13 @@ module _ {D : Type 0} where
         (all_grow calls called.0 last called.2)
 
     pub committed : (calls : List ChangeCall) (first last : DurableMap D) (at : ℕ)
-        (found upto : List MapChange) → HasCalled calls first last
+        (found upto : List MapChange) → LeadTo calls first last
         → (a : WasAnswered at found calls upto)
         → IsCommitted first last at (begun_in a.before ++ a.change ∷ [])
     committed calls first last at found upto called a =
         let call : ChangeCall = record { change = a.change; answer = Ok a.sealed } in
         let parts = split_calls a.before call a.others first last
-        (subst (λ (cs : List ChangeCall). HasCalled cs first last) a.are called) in
+        (subst (λ (cs : List ChangeCall). LeadTo cs first last) a.are called) in
         let old = view_under parts.0 in
         let new = view_under parts.1 in
         let answers = (parts.3).answers in

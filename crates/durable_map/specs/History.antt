@@ -43,11 +43,11 @@ pub record AnswersCall {D : Type 0} (call : ChangeCall) (old new : DurableMap D)
   pub log : log_under new ≡ log_under old
   pub kept : IsOpenMap new
 
--- calls, one behind another
-abbrev pub HasCalled : {D : Type 0} → List ChangeCall → (first last : DurableMap D) → Type 0
-HasCalled [] first last = last ≡ first
-HasCalled {D} (call ∷ calls) first last =
-    (next : DurableMap D) × AnswersCall call first next × HasCalled calls next last
+-- calls, one behind another, lead from a map to another one
+abbrev pub LeadTo : {D : Type 0} → List ChangeCall → (first last : DurableMap D) → Type 0
+LeadTo [] first last = last ≡ first
+LeadTo {D} (call ∷ calls) first last =
+    (next : DurableMap D) × AnswersCall call first next × LeadTo calls next last
 
 -- a change was begun where its record got a place in the log
 abbrev pub begun_at : MapChange → Option Lsn → List MapChange
@@ -103,7 +103,7 @@ module _ {D : Type 0} (tape : D → Option Tape) (moment faults : D → ℕ) whe
     pub kept : IsOpenMap map
     pub calls : List ChangeCall
     pub last : DurableMap D
-    pub called : HasCalled calls map last
+    pub called : LeadTo calls map last
     -- behind the entries of the records that the reader finds there
     pub front : List Entry
     pub below : AreFoundEntries size t front
@@ -133,11 +133,11 @@ module _ {D : Type 0} (tape : D → Option Tape) (moment faults : D → ℕ) whe
     pub fault : MapFault D
     pub handed : IsHandedIn tape moment faults size sysid t setup disk
     pub refused : TellsMapFault tape moment faults setup disk fault.disk fault.kind
-    pub now : Tape
-    pub after : tape fault.disk ≡ Some now
     pub at : ℕ
     pub since : moment disk ≤ at
     pub upto : at ≤ moment fault.disk
+    pub now : Tape
+    pub after : tape fault.disk ≡ Some now
     pub ends : LifeEndsAt size order now at next
 
 -- Such lives one behind another; in between the disk may rest, and its machine may crash then
