@@ -8,17 +8,11 @@ use Rattle.machine_state.specs.Steps.{advance, MayStep}
 use Rattle.machine_state.specs.Views.{Copying, Flight, Landed, View}
 use Rattle.wal_rule.specs.declared.seated.SeatedPass.{SeatedPass}
 use Rattle.wal_rule.specs.SeatedPasses.{HasView, view_of}
-use Rattle.insert_locks.specs.declared.holding.Held.{Held}
-use Rattle.insert_locks.specs.declared.holding.Held.TheVariants.{One, Below}
 
 -- so many locks, from this one on
 abbrev pub lock_run : (first count : ℕ) → List ℕ
 lock_run first zero = []
 lock_run first (suc count) = first ∷ lock_run (first + 1) count
-
-abbrev pub locks_of : Held → List ℕ
-locks_of (One lock) = lock ∷ []
-locks_of (Below count) = lock_run 0 count
 
 -- each is one of the eight
 abbrev pub AreLocks : List ℕ → Type 0

@@ -12,11 +12,13 @@
 
 mod holding;
 pub mod laws;
+mod numbers;
 mod seeing;
 mod taking;
 mod watching;
 
-pub use holding::{Held, advance, release};
+pub use holding::{advance, advance_below, release, release_below};
+pub use numbers::LockNo;
 pub use seeing::{see_end, see_reserved};
 pub use taking::{AllHeld, try_take, try_take_lock};
 pub use watching::{Watched, watch};

@@ -1,14 +1,21 @@
 //! What passes of one table are answered while another one is under way.
 
+ghost use Rattle.std.specs.Prelude.{◌≡◌, [], ◌∷◌, false};
+ghost use Rattle.wal_spelling.specs.Spelling.{is_assembled_switch};
+ghost use Rattle.machine_state.specs.Views.{Free, Landed};
+ghost use Rattle.wal_rule.specs.SeatedPasses.{view_of};
+
 use crate::records::record;
 use crate::tables::{open, resume};
-use insert_locks::{AllHeld, Watched, try_take, watch};
+use insert_locks::{AllHeld, LockNo, Watched, try_take, watch};
 use reserve_lock::{ReserveErr, try_reserve};
 use segment_disk::MemDisk;
 use std::alloc::Global;
 use std::process::Abort;
 use std::test::Fail;
 use wal_rule::SeatedPass;
+use wal_spelling::Body;
+use wal_types::Lsn;
 use word_ring::{MapTry, Presence, confirm, try_map};
 
 // The last one of the segment's first four pages, which the ring has, counted from the log's
@@ -66,8 +73,9 @@ fn a_log_that_was_found_empty_is_answered_up_to_its_start(rt: HostRuntime) -> Re
     Ok(())
 }
 
-// What a pass that holds a lock sees of the position, which another one has locked.
-fn position_seen(alloc: Global) -> Result<Option<u64>, Fail> {
+// The lock that a pass takes, and what it sees under it of the position, which another one has
+// locked.
+fn position_seen(alloc: Global) -> Result<Option<(LockNo, u64)>, Fail> {
     let (table, mut first) = open(alloc)?;
     let mut second = first.split(&table);
     let body = record(alloc, 700, 8)?;
@@ -76,23 +84,37 @@ fn position_seen(alloc: Global) -> Result<Option<u64>, Fail> {
     let Ok(lock) = try_take(&mut seated) else {
         return Ok(None);
     };
-    match try_reserve(&mut seated, &body, lock) {
-        Err(ReserveErr::Busy { seen }) => Ok(Some(seen)),
-        _ => Ok(None),
+    Ok(seen_under(&mut seated, &body, lock))
+}
+
+// What a pass sees of the position under the one lock that it holds.
+fn seen_under<'a, 'p>(
+    seated: &mut SeatedPass<'p, MemDisk>,
+    body: &'a Body<'a>,
+    lock: LockNo,
+) -> Option<(LockNo, u64)>
+    requires inserted { is_assembled_switch body.now ≡ false }
+    requires holds { (view_of seated.old).working
+        ≡ record { locks = lock.0 ∷ []; flight = Landed } }
+    requires place { (view_of seated.old).reserving.place ≡ Free }
+{
+    match try_reserve(seated, body) {
+        Err(ReserveErr::Busy { seen }) => Some((lock, seen)),
+        _ => None,
     }
 }
 
 // Takes all locks, from the one of the pass's number on.
 fn takes_all<'p, R: Abort>(rt: &R, seated: &mut SeatedPass<'p, MemDisk>) {
     for lock in [3, 4, 5, 6, 7, 0, 1, 2] {
-        assert_eq!(rt; try_take(seated), Ok(lock));
+        assert_eq!(rt; try_take(seated), Ok(LockNo(lock)));
     }
 }
 
 #[test]
 fn held_locks_and_a_locked_position_are_told(rt: HostRuntime) -> Result<(), Fail> {
     let alloc = rt.alloc();
-    assert_eq!(rt; position_seen(alloc)?, Some(1_045_489));
+    assert_eq!(rt; position_seen(alloc)?, Some((LockNo(1), 1_045_489)));
     let (table, mut first) = open(alloc)?;
     let mut second = first.split(&table);
     first.split(&table);
@@ -101,8 +123,11 @@ fn held_locks_and_a_locked_position_are_told(rt: HostRuntime) -> Result<(), Fail
     let mut seated = second.seat(&table);
     let held = AllHeld { seen: [1; 8] };
     assert_eq!(rt; try_take(&mut seated), Err(held));
-    let behind = Watched::Behind { lock: 0, word: 1 };
-    assert_eq!(rt; watch(&mut seated, 1 << 20), behind);
+    let behind = Watched::Behind {
+        lock: LockNo(0),
+        word: 1,
+    };
+    assert_eq!(rt; watch(&mut seated, Lsn(1 << 20)), behind);
     Ok(())
 }
 
@@ -110,14 +135,14 @@ fn held_locks_and_a_locked_position_are_told(rt: HostRuntime) -> Result<(), Fail
 fn told_of_free_locks(alloc: Global, upto: u64) -> Result<Watched, Fail> {
     let (table, mut first) = open(alloc)?;
     let mut second = first.split(&table);
-    Ok(watch(&mut second.seat(&table), upto))
+    Ok(watch(&mut second.seat(&table), Lsn(upto)))
 }
 
 // Nothing is reserved: so a watch ends where the log starts, whatever is asked.
 #[test]
 fn a_watch_ends_where_nobody_holds_a_lock(rt: HostRuntime) -> Result<(), Fail> {
     for upto in [0, 1 << 20, 2 << 20] {
-        let finished = Watched::Finished { upto: 1 << 20 };
+        let finished = Watched::Finished { upto: Lsn(1 << 20) };
         assert_eq!(rt; told_of_free_locks(rt.alloc(), upto)?, finished);
     }
     Ok(())

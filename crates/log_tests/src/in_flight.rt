@@ -12,7 +12,6 @@ ghost use Rattle.log_tests.specs.Pairs.{AreOfLog, KeepsBoth};
 use crate::filled::{SETUP, open};
 use crate::reading::{ReadBack, records_on};
 use crate::records::record;
-use insert_locks::AllHeld;
 use log_workers::transaction;
 use segment_disk::{Disk, MemDisk, Pick};
 use std::alloc::Global;
@@ -21,7 +20,7 @@ use std::test::Fail;
 use wal_log::numbers::calls_keep_numbers;
 use wal_log::shared_numbers::passes_share_numbers;
 use wal_log::{
-    Absent, Closed, Copied, CopyStop, Hard, Inflight, Pass, Receipt, Setup, TryErr, TryFlushErr,
+    Closed, Copied, CopyStop, Hard, Inflight, LockNo, Pass, Receipt, Setup, TryErr, TryFlushErr,
     Wal,
 };
 use wal_rule::numbers::seats_keep_numbers;
@@ -109,12 +108,12 @@ const TWO_WORDS: Lsn = Lsn(0x10_0060);
 const THREE_WORDS: Lsn = Lsn(0x10_0068);
 
 // The last one of the ring's four pages of segment 1 is not written, and holds the record itself.
-const NO_PAGE: CopyStop = CopyStop::Absent(Absent {
+const NO_PAGE: CopyStop = CopyStop::Absent {
     page: 132,
     end: 1_056_768,
     turn: 0,
     written: 1_048_576,
-});
+};
 
 // Four pages of it are written.
 const FOUR_PAGES: Lsn = Lsn(0x10_8000);
@@ -133,8 +132,11 @@ fn hard(upto: Lsn, moment: u64) -> Result<Hard, TryFlushErr> {
     Ok(Hard { upto, moment })
 }
 
-fn behind(lock: u32, word: u64) -> Result<Hard, TryFlushErr> {
-    Err(TryFlushErr::Behind { lock, word })
+fn behind(lock: u8, word: u64) -> Result<Hard, TryFlushErr> {
+    Err(TryFlushErr::Behind {
+        lock: LockNo(lock),
+        word,
+    })
 }
 
 // A log with its first pass, and one that is split off it.
@@ -455,9 +457,8 @@ fn eight_records_are_in_flight_at_most(rt: HostRuntime) -> Result<(), Fail> {
         ..SETUP
     };
     let (log, mut first) = open(alloc, setup, Vec::new(alloc))?;
-    let held = AllHeld { seen: [1; 8] };
     match told_behind(&rt, &log, &mut first, &body, 9) {
-        Some(TryErr::AllHeld(told)) => assert_eq!(rt; told, held),
+        Some(TryErr::AllHeld { seen }) => assert_eq!(rt; seen, [1; 8]),
         _ => panic!(&rt; "all locks are held"),
     }
     Ok(())

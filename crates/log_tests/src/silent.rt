@@ -8,7 +8,7 @@ use log_workers::transaction;
 use segment_disk::MemDisk;
 use std::process::Abort;
 use std::test::Fail;
-use wal_log::{Copied, CopyStop, Inflight, Pass, TryFlushErr, Wal};
+use wal_log::{Copied, CopyStop, Inflight, LockNo, Pass, TryFlushErr, Wal};
 use wal_types::Lsn;
 
 // So many words are copied, words are left, and a flush finds the lock with this word.
@@ -30,7 +30,10 @@ fn told_by<'a, R: Abort>(
         stop: CopyStop::Asked,
     };
     assert_eq!(rt; flight.copy(log, words), copied);
-    let behind = TryFlushErr::Behind { lock: 0, word };
+    let behind = TryFlushErr::Behind {
+        lock: LockNo(0),
+        word,
+    };
     assert_eq!(rt; log.try_flush(other, Lsn(0x10_0050)), Err(behind));
 }
 

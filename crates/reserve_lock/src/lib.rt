@@ -14,5 +14,5 @@ mod reserving;
 mod starting;
 mod switching;
 
-pub use reserving::{ReserveErr, Reserved, try_reserve};
+pub use reserving::{ReserveErr, Reserved, try_reserve, try_reserve_place};
 pub use switching::{SwitchTry, try_reserve_switch};

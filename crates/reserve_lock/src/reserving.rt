@@ -4,7 +4,8 @@
 // behind the record or as it was (places.rt). Once it is stored behind it, the record has its place
 // for good, whatever fails later: its words are the pass's to copy, and the next record names its
 // start as prev. Nobody else reserves those bytes.
-ghost use Rattle.std.specs.Prelude.{◌≡◌, ◌-◌, ◌<◌, [], ◌∷◌, false, IfErr, IfOk};
+ghost use Rattle.std.specs.Prelude.{◌≡◌, ℕ, ◌-◌, ◌<◌, [], ◌∷◌, false, IfErr, IfOk};
+ghost use Rattle.byte_position.specs.Position.{address_of};
 ghost use Rattle.wal_spelling.specs.Spelling.{RecordOf, is_assembled_switch};
 ghost use Rattle.machine_state.specs.Views.{Free, Landed};
 ghost use Rattle.machine_state.specs.Words.{log_limit};
@@ -42,27 +43,55 @@ pub struct Reserved<'a> {
     pub placed: Placed<'a>,
 }
 
-/// Reserves a record's place under one insertion lock, which the pass holds (PostgreSQL's xlog.c,
-/// ReserveXLogInsertLocation). It tries once and never waits: where another pass has the position
-/// locked, or has moved it, the caller tries again. The lock stays held at each exit. A segment
-/// switch has a call of its own (`try_reserve_switch`), since it stands under all locks.
+/// Reserves a record's place under the one insertion lock that the pass holds (PostgreSQL's xlog.c,
+/// ReserveXLogInsertLocation), and gives the record there, with all its words left to copy. It
+/// tries once and never waits: where another pass has the position locked, or has moved it, the
+/// caller tries again. The lock stays held at each exit. A segment switch has a call of its own
+/// (`try_reserve_switch`), since it stands under all locks.
 #[inline(always)]
 pub fn try_reserve<'a, 'p, D: Disk>(
     seated: &mut SeatedPass<'p, D>,
     body: &'a Body<'a>,
-    lock: u32,
-) -> Result<Reserved<'a>, ReserveErr>
+) -> Result<Placed<'a>, ReserveErr>
     requires inserted { is_assembled_switch body.now ≡ false }
-    // The pass holds this one insertion lock, copies nothing, and has not locked the position.
-    requires holds { (view_of seated.old).working
-        ≡ record { locks = lock ∷ []; flight = Landed } }
+    // The pass holds one insertion lock, copies nothing, and has not locked the position.
+    requires holds { (lock : ℕ) × ((view_of seated.old).working
+        ≡ record { locks = lock ∷ []; flight = Landed }) }
     requires place { (view_of seated.old).reserving.place ≡ Free }
     // The entry stands behind all that the pass had seen and ends within the log; it is in flight
     // under the lock, and all its words are left to copy.
-    ensures reserved { IfOk result (λ r. IsInsertReserved (setup_of seated.old) body.now lock
+    ensures reserved { (lock : ℕ) → (view_of seated.old).working
+        ≡ record { locks = lock ∷ []; flight = Landed }
+        → IfOk result (λ placed. IsInsertReserved (setup_of seated.old) body.now lock
+        (view_of seated.old) (view_of seated.new)
+        (address_of (setup_of seated.old).seg_size placed.start) placed) }
+    // Nothing was reserved, and the pass has the position locked no longer.
+    ensures why { IfErr result (λ e. TellsWhy (setup_of seated.old) body.now (view_of seated.old)
+        (view_of seated.new) e) }
+    ensures stays { StaysSeated seated.old seated.new }
+{
+    match try_reserve_place(seated, body) {
+        Ok(reserved) => Ok(reserved.placed),
+        Err(e) => Err(e),
+    }
+}
+
+/// As `try_reserve`, and tells the addresses too at which the record starts and ends: a reservation
+/// computes both, and who asks the record for them has to divide again.
+#[inline(always)]
+pub fn try_reserve_place<'a, 'p, D: Disk>(
+    seated: &mut SeatedPass<'p, D>,
+    body: &'a Body<'a>,
+) -> Result<Reserved<'a>, ReserveErr>
+    requires inserted { is_assembled_switch body.now ≡ false }
+    requires holds { (lock : ℕ) × ((view_of seated.old).working
+        ≡ record { locks = lock ∷ []; flight = Landed }) }
+    requires place { (view_of seated.old).reserving.place ≡ Free }
+    ensures reserved { (lock : ℕ) → (view_of seated.old).working
+        ≡ record { locks = lock ∷ []; flight = Landed }
+        → IfOk result (λ r. IsInsertReserved (setup_of seated.old) body.now lock
         (view_of seated.old) (view_of seated.new) r.start.0 r.placed) }
     ensures end { IfOk result (λ r. r.end.0 ≡ placed_end r.placed) }
-    // Nothing was reserved, and the pass has the position locked no longer.
     ensures why { IfErr result (λ e. TellsWhy (setup_of seated.old) body.now (view_of seated.old)
         (view_of seated.new) e) }
     ensures stays { StaysSeated seated.old seated.new }

@@ -15,6 +15,7 @@ use Rattle.machine_state.specs.Views.{Copy, Copying, Flight, LogFull, StopCause,
 use Rattle.wal_rule.specs.declared.seated.SeatedPass.{SeatedPass}
 use Rattle.wal_rule.specs.SeatedPasses.{HasView, StandsAtRest, Steps, view_of}
 use Rattle.insert_locks.proofs.Runs.{one_lock}
+use Rattle.insert_locks.specs.declared.numbers.LockNo.{LockNo}
 use Rattle.reserve_lock.specs.declared.reserving.ReserveErr.{ReserveErr}
 use Rattle.reserve_lock.specs.declared.reserving.ReserveErr.TheVariants.{Busy, Full}
 use Rattle.insert_locks.specs.Taking.{with_lock}
@@ -123,15 +124,16 @@ begun_under setup body locks old new start end placed r end_is holds up = (
         ∙ ap (λ (n : ℕ). record own { next = n }) first_word
 
 -- so an insert does, under one lock
-pub begun_is : (setup : Setup) (body : Assembled) (old new : View) (lock : ℕ) (start end : Lsn)
-    (placed : PlacedState) → IsInsertReserved setup body lock old new start.0 placed
-    → end.0 ≡ placed_end placed → lock < 8 → HasLocks (lock ∷ []) old → KnowsNoFault old
+pub begun_is : (setup : Setup) (body : Assembled) (old new : View) (lock : LockNo)
+    (start end : Lsn) (placed : PlacedState)
+    → IsInsertReserved setup body lock.0 old new start.0 placed → end.0 ≡ placed_end placed
+    → lock.0 < 8 → HasLocks (lock.0 ∷ []) old → KnowsNoFault old
     → IsPlaceBegun setup body old new
     (record { lock = lock; start = start; end = end; placed = placed })
 begun_is setup body old new lock start end placed insert end_is low one up = record {
   lock_low = low;
-  place = (begun_under setup body (lock ∷ []) old new start.0 end.0 placed insert.place end_is one
-      up).0;
+  place = (begun_under setup body (lock.0 ∷ []) old new start.0 end.0 placed insert.place end_is
+      one up).0;
 }
 
 -- ---- it was not: the lock is given back
@@ -339,7 +341,7 @@ module _ (setup : Setup) (body : Assembled) (old between new : View)
       → IsPlaceBegun setup body old new begun
   place_since begun b = record {
     lock_low = b.lock_low;
-    place = (begun_since (begun.lock ∷ []) begun.start.0 begun.end.0 begun.placed b.place).0;
+    place = (begun_since (begun.lock.0 ∷ []) begun.start.0 begun.end.0 begun.placed b.place).0;
   }
 
   pub full_since : (free : ℕ) → FindsLogFull setup body free between new

@@ -16,7 +16,6 @@ use Rattle.wal_rule.specs.Downs.{KnowsDown}
 use Rattle.wal_rule.specs.SeatedPasses.{StandsAtRest, StaysSeated, Steps, view_of}
 use Rattle.wal_rule.specs.Stepping.{Meets, Stands}
 use Rattle.insert_locks.specs.Watching.{SeesPosition, with_sight}
-use Rattle.wal_log.specs.declared.fault.Fault.TheVariants as kinds
 use Rattle.wal_log.specs.declared.flushing.FlushErr.{FlushErr}
 use Rattle.wal_log.specs.declared.flushing.FlushErr.TheVariants.{Unreserved, Disk, Down}
 use Rattle.wal_log.specs.Behind.{FindsNothing, FindsTarget, FlushesBehind, RefusesBehind, SeesTarget, page_of_end, page_start}
@@ -24,7 +23,7 @@ use Rattle.wal_log.specs.Downs.{KnowsNoFault}
 use Rattle.wal_log.specs.Flushing.{HasReached, IsUnreserved, TellsFlushErr, view_met_up}
 use Rattle.wal_log.specs.PassLogs.{log_of_pass}
 use Rattle.wal_log.specs.Standing.{ComesToRest, KeepsPass}
-use Rattle.wal_log.proofs.FlushLaws.{fault_behind, told_behind}
+use Rattle.wal_log.proofs.FlushLaws.{fails_behind, told_behind}
 use Rattle.wal_log.proofs.BeginLaws.{loaded_rests}
 use Rattle.wal_log.proofs.Keeping.{down_met_keeps, further_pass, meets_since}
 use Rattle.wal_log.proofs.Plain.{flushed_loaded}
@@ -291,7 +290,7 @@ module _ (old down sight : View) (faults flushed target : ℕ)
   refuses_behind new size keeps high (Disk n) told = (
     target,
     finds_target high,
-    fault_behind target old sight new keeps same_down_set (kinds.Disk n) told,
+    fails_behind target old sight new keeps n told,
   )
   refuses_behind new size keeps high (Down n) told =
       meets_since old sight new n same_down_set told

@@ -97,7 +97,7 @@ module _ {D : Type 0} (wal : Wal D) (flight : Inflight) (is : IsInFlightOf wal f
     (seated : SeatedPass D) (view : (seated.seat).me ≡ (view_of_pass flight.pass, []))
     (table : (seated.table).now ≡ table_of wal) where
   abbrev locks : List ℕ
-  locks = (flight.begun).lock ∷ []
+  locks = (flight.begun).lock.0 ∷ []
 
   abbrev placed : PlacedState
   placed = (flight.begun).placed
@@ -106,7 +106,7 @@ module _ {D : Type 0} (wal : Wal D) (flight : Inflight) (is : IsInFlightOf wal f
   pub flight_copies : CopiesAlone locks placed seated
   flight_copies = record {
     some = omega arith;
-    are = one_lock (flight.begun).lock is.lock_low;
+    are = one_lock (flight.begun).lock.0 is.lock_low;
     under = subst (λ (v : View). CopiesUnder (setup_of seated) locks placed v)
         (sym (seen_is wal flight.pass seated view))
         (subst (λ (s : Setup). CopiesUnder s locks placed (view_of_flight flight))

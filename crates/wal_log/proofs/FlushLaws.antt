@@ -25,12 +25,10 @@ use Rattle.wal_log.specs.declared.flushing.FlushErr.{FlushErr}
 use Rattle.wal_log.specs.declared.flushing.FlushErr.TheVariants as flushes
 use Rattle.wal_log.specs.declared.flushing.TryFlushErr.{TryFlushErr}
 use Rattle.wal_log.specs.declared.flushing.TryFlushErr.TheVariants as tries
-use Rattle.wal_log.specs.declared.fault.Fault.{Fault}
-use Rattle.wal_log.specs.declared.fault.Fault.TheVariants.{Disk, Down}
 use Rattle.wal_log.specs.declared.turns.TurnErr.{TurnErr}
 use Rattle.wal_log.specs.declared.turns.TurnErr.TheVariants as turns
 use Rattle.wal_log.specs.Downs.{KnowsNoFault, SetsDownItself}
-use Rattle.wal_log.specs.Flushing.{AnswersFlush, AnswersFlushTry, FailsItsFlush, HasPassedLocks, IsToBeFlushed, IsToldHard, IsUnreserved, TellsFlushErr, TellsFlushTry, flush_err_known_down, flush_err_of_fault, try_flush_err_known_down, try_flush_err_of_turn}
+use Rattle.wal_log.specs.Flushing.{AnswersFlush, AnswersFlushTry, FailsItsFlush, HasPassedLocks, IsToBeFlushed, IsToldHard, IsUnreserved, TellsFlushTry, flush_err_known_down, try_flush_err_known_down, try_flush_err_of_turn}
 use Rattle.wal_log.specs.Hands.{IsLatestPromise, TellsTurnErr}
 use Rattle.wal_log.specs.PassLogs.{PassLog, log_of_pass, log_with_promise}
 use Rattle.wal_log.specs.Standing.{KeepsPass, KeepsWork}
@@ -442,7 +440,7 @@ module _ (asked : ℕ) (old mid new : View) (keeps : KeepsPass old mid) where
     up = is.up;
   }
 
-  fails_behind : (faults : ℕ) → FailsItsFlush asked faults mid new
+  pub fails_behind : (faults : ℕ) → FailsItsFlush asked faults mid new
       → FailsItsFlush asked faults old new
   fails_behind faults is = record {
     down = is.down;
@@ -453,15 +451,10 @@ module _ (asked : ℕ) (old mid new : View) (keeps : KeepsPass old mid) where
 
   -- what was told behind other steps, which set no down value
   module _ (same_down : mid.writing.down_set ≡ old.writing.down_set) where
-    pub fault_behind : (fault : Fault)
-        → TellsFlushErr asked mid new (flush_err_of_fault fault)
-        → TellsFlushErr asked old new (flush_err_of_fault fault)
-    fault_behind (Disk faults) told = fails_behind faults told
-    fault_behind (Down faults) told = meets_since old mid new faults same_down told
-
     tells_behind : (e : TryFlushErr) → TellsFlushTry asked mid new e
         → TellsFlushTry asked old new e
-    tells_behind (tries.Fault fault) told = fault_behind fault told
+    tells_behind (tries.Disk n) told = fails_behind n told
+    tells_behind (tries.Down n) told = meets_since old mid new n same_down told
     tells_behind (tries.Unreserved end) told = unreserved_behind end.0 told
     tells_behind (tries.Behind lock word) told = told
     tells_behind (tries.Turn turn) told = told
@@ -496,7 +489,8 @@ module _ (asked : ℕ) (old mid new : View) (keeps : KeepsPass old mid) where
 -- what a flush answers behind a last try
 abbrev pub answer_of : Result Hard TryFlushErr → Result Hard FlushErr
 answer_of (Ok hard) = Ok hard
-answer_of (Err (tries.Fault fault)) = Err (flush_err_of_fault fault)
+answer_of (Err (tries.Disk n)) = Err (flushes.Disk n)
+answer_of (Err (tries.Down n)) = Err (flushes.Down n)
 answer_of (Err (tries.Unreserved end)) = Err (flushes.Unreserved end)
 answer_of (Err (tries.Behind lock word)) = Err (flushes.Disk 0)
 answer_of (Err (tries.Turn turn)) = Err (flushes.Disk 0)

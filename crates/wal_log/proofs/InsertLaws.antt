@@ -52,7 +52,7 @@ module _ (setup : Setup) (body : Assembled) (old mid new : View) (place : Begun)
     (before : KeepsPass old mid) (keeps : KeepsPass mid new)
     (same : log_of_pass new ≡ log_of_pass mid) where
   abbrev locks : List ℕ
-  locks = place.lock ∷ []
+  locks = place.lock.0 ∷ []
 
   abbrev began : IsBegunUnder setup body locks old mid place.start.0 place.end.0 place.placed
   began = begun.place

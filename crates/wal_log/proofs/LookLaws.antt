@@ -9,12 +9,10 @@ use Rattle.machine_state.specs.Views.{View}
 use Rattle.insert_locks.specs.Watching.{with_sight}
 use Rattle.wal_rule.specs.declared.seated.SeatedPass.{SeatedPass}
 use Rattle.wal_rule.specs.SeatedPasses.{view_of}
-use Rattle.wal_log.specs.declared.fault.Fault.{Fault}
-use Rattle.wal_log.specs.declared.fault.Fault.TheVariants as faults
 use Rattle.wal_log.specs.declared.flushing.TryFlushErr.{TryFlushErr}
 use Rattle.wal_log.specs.declared.flushing.TryFlushErr.TheVariants as tries
 use Rattle.wal_log.specs.Downs.{KnowsNoFault}
-use Rattle.wal_log.specs.Flushing.{FindsUnflushed, FlushesOnlyUnflushed, LoadsHard, MeetsUnflushed, TriesOnlyUnflushed, TryEndsAtOnce, flush_err_of_fault, view_looked}
+use Rattle.wal_log.specs.Flushing.{FindsUnflushed, LoadsHard, MeetsUnflushed, TriesOnlyUnflushed, TryEndsAtOnce, view_looked}
 use Rattle.wal_log.specs.Standing.{SeesMore}
 use Rattle.wal_log.proofs.Seated.{view_is}
 
@@ -41,8 +39,8 @@ module _ (asked : ℕ) (old mid new : View)
   once_since : (r : Result Hard TryFlushErr) → TryEndsAtOnce mid r new → TryEndsAtOnce old r new
   once_since (Ok hard) told =
       (told.0, subst (λ (w : View). LoadsHard hard w new) (same 0 told.0) told.1)
-  once_since (Err (tries.Fault (faults.Disk n))) told = told
-  once_since (Err (tries.Fault (faults.Down n))) told = (told.0, told.1 ∙ same n told.0)
+  once_since (Err (tries.Disk n)) told = told
+  once_since (Err (tries.Down n)) told = (told.0, told.1 ∙ same n told.0)
   once_since (Err (tries.Unreserved end)) told = (told.0, told.1 ∙ same 0 told.0)
   once_since (Err (tries.Behind lock word)) told = told
   once_since (Err (tries.Turn turn)) told = told
@@ -65,9 +63,3 @@ last_tried asked a b new (inr found) r tried = inr found
 pub only_found : (asked : ℕ) (v : View) → ⊥ ⊎ FindsUnflushed asked v → FindsUnflushed asked v
 only_found asked v (inl never) = absurd never
 only_found asked v (inr found) = found
-
-pub fault_only : (asked : ℕ) (old new : View) (fault : Fault)
-    → TriesOnlyUnflushed asked old (Err (tries.Fault fault)) new
-    → FlushesOnlyUnflushed asked old (Err (flush_err_of_fault fault)) new
-fault_only asked old new (faults.Disk n) told = told
-fault_only asked old new (faults.Down n) told = told

@@ -11,7 +11,6 @@ use Rattle.machine_state.specs.Words.{Opening, end_form}
 use Rattle.wal_rule.specs.declared.seated.SeatedPass.{SeatedPass}
 use Rattle.wal_rule.specs.SeatedPasses.{view_of}
 use Rattle.wal_rule.specs.Stepping.{Meets}
-use Rattle.wal_log.specs.declared.fault.Fault.TheVariants as faults
 use Rattle.wal_log.specs.declared.flushing.TryFlushErr.{TryFlushErr}
 use Rattle.wal_log.specs.declared.flushing.TryFlushErr.TheVariants as tries
 use Rattle.wal_log.specs.Flushing.{AnswersFlushTry, IsToBeFlushed, IsUnreserved, JudgesFlush, JudgesFlushTry, MeetsReserved, SeesReserved, SeesUnreserved, SeesWhether, view_met_up}
@@ -34,7 +33,8 @@ module _ (asked : ℕ) (mid new : View) (size : IsSegmentSize ((mid.opening).set
   pub sees_whether : (v : View) → SeesReserved asked v → (r : Result Hard TryFlushErr)
       → AnswersFlushTry asked mid r new → SeesWhether asked v r
   sees_whether v sees (Ok hard) told = sees
-  sees_whether v sees (Err (tries.Fault fault)) told = sees
+  sees_whether v sees (Err (tries.Disk n)) told = sees
+  sees_whether v sees (Err (tries.Down n)) told = sees
   sees_whether v sees (Err (tries.Unreserved end)) told =
       absurd (never_unreserved end.0 told.0)
   sees_whether v sees (Err (tries.Behind lock word)) told = sees
@@ -44,9 +44,9 @@ module _ (asked : ℕ) (mid new : View) (size : IsSegmentSize ((mid.opening).set
 pub tried_up : (asked : ℕ) (old mid : View) → mid ≡ view_met_up old → Meets old load_down 0
     → (r : Result Hard TryFlushErr) → SeesWhether asked mid r → JudgesFlushTry asked old r
 tried_up asked old mid is up (Ok hard) sees = (up, subst (SeesReserved asked) is sees)
-tried_up asked old mid is up (Err (tries.Fault (faults.Disk n))) sees =
+tried_up asked old mid is up (Err (tries.Disk n)) sees =
     (up, subst (SeesReserved asked) is sees)
-tried_up asked old mid is up (Err (tries.Fault (faults.Down n))) sees =
+tried_up asked old mid is up (Err (tries.Down n)) sees =
     inr (up, subst (SeesReserved asked) is sees)
 tried_up asked old mid is up (Err (tries.Unreserved end)) sees =
     (up, subst (SeesUnreserved asked) is sees)
@@ -65,8 +65,8 @@ HasJudged asked a b = (b ≡ a) ⊎ (MeetsReserved asked (view_of a)
 judged_last : (asked : ℕ) (v : View) (r : Result Hard TryFlushErr) → JudgesFlushTry asked v r
     → JudgesFlush asked v (answer_of r)
 judged_last asked v (Ok hard) judged = judged
-judged_last asked v (Err (tries.Fault (faults.Disk n))) judged = judged
-judged_last asked v (Err (tries.Fault (faults.Down n))) judged = judged
+judged_last asked v (Err (tries.Disk n)) judged = judged
+judged_last asked v (Err (tries.Down n)) judged = judged
 judged_last asked v (Err (tries.Unreserved end)) judged = judged
 judged_last asked v (Err (tries.Behind lock word)) judged = judged
 judged_last asked v (Err (tries.Turn word)) judged = judged
@@ -76,8 +76,8 @@ judged_later : (asked : ℕ) (v mid new : View)
     → asked ≤ end_form (mid.opening).setup (mid.reserving).seen → (r : Result Hard TryFlushErr)
     → AnswersFlushTry asked mid r new → JudgesFlush asked v (answer_of r)
 judged_later asked v mid new size meets low (Ok hard) told = meets
-judged_later asked v mid new size meets low (Err (tries.Fault (faults.Disk n))) told = meets
-judged_later asked v mid new size meets low (Err (tries.Fault (faults.Down n))) told = inr meets
+judged_later asked v mid new size meets low (Err (tries.Disk n)) told = meets
+judged_later asked v mid new size meets low (Err (tries.Down n)) told = inr meets
 judged_later asked v mid new size meets low (Err (tries.Unreserved end)) told =
     absurd (never_unreserved asked mid new size low end.0 told.0)
 judged_later asked v mid new size meets low (Err (tries.Behind lock word)) told = meets

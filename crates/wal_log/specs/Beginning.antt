@@ -37,8 +37,8 @@ pub record IsBegunUnder (setup : Setup) (body : Assembled) (locks : List ℕ) (o
 -- so it was under one lock
 pub record IsPlaceBegun (setup : Setup) (body : Assembled) (old new : View) (begun : Begun)
     : Type 0 where
-  pub lock_low : begun.lock < 8
-  pub place : IsBegunUnder setup body (begun.lock ∷ []) old new begun.start.0 begun.end.0
+  pub lock_low : begun.lock.0 < 8
+  pub place : IsBegunUnder setup body (begun.lock.0 ∷ []) old new begun.start.0 begun.end.0
       begun.placed
 
 -- the position was met locked, or met as another one where it was to be locked. The view that met
@@ -57,7 +57,7 @@ pub record TriesInVain (old new : View) : Type 0 where
 -- why nothing was reserved
 abbrev pub TellsBeginTry : Setup → Assembled → View → View → TryErr → Type 0
 TellsBeginTry setup body old new (Busy seen) = IsFoundBusy seen old new × TriesInVain old new
-TellsBeginTry setup body old new (AllHeld held) = AreHeldWords new held.seen × TriesInVain old new
+TellsBeginTry setup body old new (AllHeld seen) = AreHeldWords new seen × TriesInVain old new
 TellsBeginTry setup body old new (Full free) =
     FindsLogFull setup body free old new × KnowsNoFault new
 TellsBeginTry setup body old new (Down faults) =

@@ -85,6 +85,10 @@ pub record TellsAbsent (setup : Setup) (page : ℕ) (v : View) (absent : Absent)
   pub why : IsInTheWay setup page absent.turn absent.written v
   pub low : absent.written < 2 ^ 60
 
+abbrev pub absent_page : (page end turn written : ℕ) → Absent
+absent_page page end turn written =
+    record { page = page; end = end; turn = turn; written = written }
+
 -- ---- words
 
 -- so many words were copied, one at least and as many as were asked for at most
@@ -98,16 +102,17 @@ pub record CopiesSome (most count : ℕ) (old new : PlacedState) : Type 0 where
 abbrev pub StopsAtOnce : Setup → (most : ℕ) → PlacedState → View → CopyStop → Type 0
 StopsAtOnce setup most placed v stops.Asked = most ≡ 0
 StopsAtOnce setup most placed v stops.Whole = ⊥
-StopsAtOnce setup most placed v (stops.Absent absent) =
-    (0 < most) × TellsAbsent setup (placed.next / 8192) v absent
+StopsAtOnce setup most placed v (stops.Absent page end turn written) =
+    (0 < most) × TellsAbsent setup (placed.next / 8192) v (absent_page page end turn written)
 
 -- why a copy stopped behind `k` words, of which so many at most were asked for: these, and words
 -- are left; no word is left; or fewer, since the page of the next one could not be mapped
 abbrev pub TellsStop : Setup → (most k : ℕ) → PlacedState → View → CopyStop → Type 0
 TellsStop setup most k placed v stops.Asked = (k ≡ most) × (placed.next < placed_end placed)
 TellsStop setup most k placed v stops.Whole = placed.next ≡ placed_end placed
-TellsStop setup most k placed v (stops.Absent absent) = (k < most)
-    × (placed.next < placed_end placed) × TellsAbsent setup (placed.next / 8192) v absent
+TellsStop setup most k placed v (stops.Absent page end turn written) = (k < most)
+    × (placed.next < placed_end placed)
+    × TellsAbsent setup (placed.next / 8192) v (absent_page page end turn written)
 
 -- a view's number was told under each lock under which it has an entry in flight
 abbrev pub IsToldUnderAll : View → Type 0

@@ -29,8 +29,8 @@ view_of_flight flight = view_of_pass flight.pass
 -- starts and ends at these addresses
 pub record IsInFlightOf {D : Type 0} (wal : Wal D) (flight : Inflight) : Type 0 where
   pub of_log : IsPassOn (table_of wal) flight.pass
-  pub lock_low : (flight.begun).lock < 8
-  pub copies : CopiesUnder (setup_of_log wal) ((flight.begun).lock ∷ []) (flight.begun).placed
+  pub lock_low : (flight.begun).lock.0 < 8
+  pub copies : CopiesUnder (setup_of_log wal) ((flight.begun).lock.0 ∷ []) (flight.begun).placed
       (view_of_flight flight)
   pub start_is : (flight.begun).start.0
       ≡ start_of (setup_of_log wal).seg_size (copies.copy).entry

@@ -8,8 +8,6 @@ use Rattle.machine_state.specs.Words.{end_form}
 use Rattle.wal_rule.specs.Stepping.{Meets}
 use Rattle.insert_locks.specs.Watching.{HoldsBack, SeesPosition, with_sight, with_watching}
 use Rattle.machine_state.specs.Views.{View, Watching}
-use Rattle.wal_log.specs.declared.fault.Fault.{Fault}
-use Rattle.wal_log.specs.declared.fault.Fault.TheVariants as faults
 use Rattle.wal_log.specs.declared.turns.TurnErr.{TurnErr}
 use Rattle.wal_log.specs.declared.turns.TurnErr.TheVariants as turns
 use Rattle.wal_log.specs.declared.flushing.TryFlushErr.{TryFlushErr}
@@ -60,17 +58,12 @@ pub record IsUnreserved (asked end : ℕ) (old new : View) : Type 0 where
 
 -- the turn to write was not had
 abbrev pub try_flush_err_of_turn : TurnErr → TryFlushErr
-try_flush_err_of_turn (turns.Down n) = tries.Fault (faults.Down n)
+try_flush_err_of_turn (turns.Down n) = tries.Down n
 try_flush_err_of_turn (turns.Taken turn) = tries.Turn turn
-
--- a fault ended the flush
-abbrev pub flush_err_of_fault : Fault → FlushErr
-flush_err_of_fault (faults.Disk n) = Disk n
-flush_err_of_fault (faults.Down n) = Down n
 
 -- what is answered where the pass knows of a failed disk
 abbrev pub try_flush_err_known_down : ℕ → Result Hard TryFlushErr
-try_flush_err_known_down n = Err (tries.Fault (faults.Down n))
+try_flush_err_known_down n = Err (tries.Down n)
 
 abbrev pub flush_err_known_down : ℕ → Result Hard FlushErr
 flush_err_known_down faults = Err (Down faults)
@@ -111,11 +104,11 @@ pub record HasPassedLocks (asked : ℕ) (new : View) : Type 0 where
 
 -- why one try told nothing: the pass's log is as it was
 abbrev pub TellsFlushTry : ℕ → View → View → TryFlushErr → Type 0
-TellsFlushTry asked old new (tries.Fault fault) =
-    TellsFlushErr asked old new (flush_err_of_fault fault)
+TellsFlushTry asked old new (tries.Disk n) = FailsItsFlush asked n old new
+TellsFlushTry asked old new (tries.Down n) = MeetsDown n old new
 TellsFlushTry asked old new (tries.Unreserved end) = IsUnreserved asked end.0 old new
 TellsFlushTry asked old new (tries.Behind lock word) =
-    MeetsHeldLock asked lock word new × IsToBeFlushed asked new
+    MeetsHeldLock asked lock.0 word new × IsToBeFlushed asked new
 TellsFlushTry asked old new (tries.Turn word) =
     MeetsWriteTurn word new × HasPassedLocks asked new × IsToBeFlushed asked new
 
@@ -159,7 +152,8 @@ pub record SeesUnreserved (asked : ℕ) (v : View) : Type 0 where
 -- the address is told as unreserved where the position met by this view says so, and nowhere else
 abbrev pub SeesWhether : ℕ → View → Result Hard TryFlushErr → Type 0
 SeesWhether asked v (Ok hard) = SeesReserved asked v
-SeesWhether asked v (Err (tries.Fault fault)) = SeesReserved asked v
+SeesWhether asked v (Err (tries.Disk n)) = SeesReserved asked v
+SeesWhether asked v (Err (tries.Down n)) = SeesReserved asked v
 SeesWhether asked v (Err (tries.Unreserved end)) = SeesUnreserved asked v
 SeesWhether asked v (Err (tries.Behind lock word)) = SeesReserved asked v
 SeesWhether asked v (Err (tries.Turn word)) = SeesReserved asked v
@@ -175,8 +169,8 @@ MeetsUnreserved asked old = Meets old load_down 0 × SeesUnreserved asked (view_
 -- where it is above the end met then, and nowhere else. A down value may be met before that
 abbrev pub JudgesFlushTry : ℕ → View → Result Hard TryFlushErr → Type 0
 JudgesFlushTry asked old (Ok hard) = MeetsReserved asked old
-JudgesFlushTry asked old (Err (tries.Fault (faults.Disk n))) = MeetsReserved asked old
-JudgesFlushTry asked old (Err (tries.Fault (faults.Down n))) =
+JudgesFlushTry asked old (Err (tries.Disk n)) = MeetsReserved asked old
+JudgesFlushTry asked old (Err (tries.Down n)) =
     Meets old load_down n ⊎ MeetsReserved asked old
 JudgesFlushTry asked old (Err (tries.Unreserved end)) = MeetsUnreserved asked old
 JudgesFlushTry asked old (Err (tries.Behind lock word)) = MeetsReserved asked old
@@ -222,8 +216,8 @@ HasOnlyLooked down old new = (seen : ℕ) × (new ≡ view_looked down seen old)
 -- value and the position alone were loaded. A lock or a turn that was in its way is no such answer
 abbrev pub TryEndsAtOnce : View → Result Hard TryFlushErr → View → Type 0
 TryEndsAtOnce old (Ok hard) new = (seen : ℕ) × LoadsHard hard (view_looked 0 seen old) new
-TryEndsAtOnce old (Err (tries.Fault (faults.Disk n))) new = ⊥
-TryEndsAtOnce old (Err (tries.Fault (faults.Down n))) new = HasOnlyLooked n old new
+TryEndsAtOnce old (Err (tries.Disk n)) new = ⊥
+TryEndsAtOnce old (Err (tries.Down n)) new = HasOnlyLooked n old new
 TryEndsAtOnce old (Err (tries.Unreserved end)) new = HasOnlyLooked 0 old new
 TryEndsAtOnce old (Err (tries.Behind lock word)) new = ⊥
 TryEndsAtOnce old (Err (tries.Turn word)) new = ⊥

@@ -1,5 +1,6 @@
 pub mod Downs
 pub mod PassLogs
+pub mod HeldLocks
 pub mod Standing
 pub mod Whole
 pub mod Moments

@@ -27,7 +27,8 @@ write_err_of_turn (turns.Taken turn) = Turn turn
 -- why what is copied was not written up to an address
 abbrev pub TellsWriteErr : ℕ → View → View → WriteErr → Type 0
 TellsWriteErr upto old new (Fault fault) = MeetsFault old new fault
-TellsWriteErr upto old new (Behind lock word) = MeetsHeldLock upto lock word new × KnowsNoFault new
+TellsWriteErr upto old new (Behind lock word) =
+    MeetsHeldLock upto lock.0 word new × KnowsNoFault new
 TellsWriteErr upto old new (Turn turn) = MeetsWriteTurn turn new × KnowsNoFault new
 
 -- what was in the way, where the disk was not: the turn to write was taken, or a lock's holder had

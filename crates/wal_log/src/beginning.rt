@@ -13,8 +13,8 @@ ghost use Rattle.wal_log.specs.Downs.{KnowsNoFault};
 ghost use Rattle.wal_log.specs.Standing.{GoesOnSeated, HoldsLocks};
 ghost use Rattle.wal_log.specs.declared.beginning.TryErr.TheVariants.{AllHeld};
 
-use insert_locks::{AllHeld, Held, release, try_take};
-use reserve_lock::{ReserveErr, try_reserve};
+use insert_locks::{AllHeld, LockNo, release, try_take};
+use reserve_lock::{ReserveErr, try_reserve_place};
 use segment_disk::Disk;
 use wal_page::Placed;
 use wal_rule::SeatedPass;
@@ -25,7 +25,7 @@ use wal_types::Lsn;
 /// words that are left to copy.
 #[derive(Drop)]
 pub struct Begun<'a> {
-    pub lock: u32,
+    pub lock: LockNo,
     pub start: Lsn,
     pub end: Lsn,
     pub placed: Placed<'a>,
@@ -36,8 +36,8 @@ pub struct Begun<'a> {
 pub enum TryErr {
     /// The position was locked, or was another one when it was to be locked: what was found.
     Busy { seen: u64 },
-    /// All insertion locks were held.
-    AllHeld(AllHeld),
+    /// All insertion locks were held: their words, none of them 0, in the order of the tries.
+    AllHeld { seen: [u64; 8] },
     /// So many bytes of the log are left, fewer than the record takes up.
     Full { free: u64 },
     /// The disk has failed before: its count of faults then.
@@ -79,10 +79,10 @@ pub(crate) fn try_begin<'p, 'a, D: Disk>(
 #[inline(always)]
 fn reserve_under<'p, 'a, D: Disk>(
     seated: &mut SeatedPass<'p, D>,
-    lock: u32,
+    lock: LockNo,
     body: &'a Body<'a>,
 ) -> Result<Begun<'a>, TryErr>
-    requires holds { HoldsLocks (lock ∷ []) seated.old }
+    requires holds { HoldsLocks (lock.0 ∷ []) seated.old }
     requires up { KnowsNoFault (view_of seated.old) }
     requires inserted { is_assembled_switch body.now ≡ false }
     ensures begins { AnswersBeginTry (setup_of seated.old) body.now (view_of seated.old) result
@@ -91,7 +91,7 @@ fn reserve_under<'p, 'a, D: Disk>(
         ≡ (view_of seated.old).writing.down_set }
     ensures goes_on { GoesOnSeated seated.old seated.new }
 {
-    match try_reserve(seated, body, lock) {
+    match try_reserve_place(seated, body) {
         Ok(reserved) => Ok(Begun {
             lock,
             start: reserved.start,
@@ -99,17 +99,18 @@ fn reserve_under<'p, 'a, D: Disk>(
             placed: reserved.placed,
         }),
         Err(e) => {
-            release(seated, Held::One(lock));
+            release(seated, lock);
             Err(TryErr::from(e))
         }
     }
 }
 
 impl From<AllHeld> for TryErr {
-    ghost from_gives = { λ e t. t ≡ AllHeld e };
+    ghost from_gives = { λ e t. t ≡ AllHeld e.seen };
 
     fn from(e: AllHeld) -> TryErr {
-        TryErr::AllHeld(e)
+        let seen = e.seen;
+        TryErr::AllHeld { seen }
     }
 }
 

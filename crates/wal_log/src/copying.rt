@@ -8,22 +8,22 @@
 // nothing holds every watcher back, also one that would write that page. An insert goes on from
 // there: it loads down before it pauses.
 ghost use Rattle.std.specs.Prelude.{◌≡◌, ◌/◌, ◌<◌, ◌≤◌, ◌^◌, MatchBool, MatchResult};
-ghost use Rattle.insert_locks.specs.Holding.{locks_of};
 ghost use Rattle.machine_state.specs.Views.{Away, View};
 ghost use Rattle.wal_page.specs.Placed.{placed_end};
 ghost use Rattle.wal_rule.specs.SeatedPasses.{setup_of, view_of};
 ghost use Rattle.word_ring.specs.Ring.{end_of_page};
 ghost use Rattle.wal_log.specs.Copying.{CopiesFront, CopiesSome, CopyGoesOn, MapsPage, StopsAtOnce, TellsAbsent};
 ghost use Rattle.wal_log.specs.Downs.{FindsDown, KnowsNoFault, MeetsFault};
+ghost use Rattle.wal_log.specs.HeldLocks.{locks_of};
 ghost use Rattle.wal_log.specs.PassLogs.{log_of_pass};
 ghost use Rattle.wal_log.specs.Standing.{CopiesAlone, StaysAtWork};
 ghost use Rattle.wal_log.specs.Waiting.{CopiesOrWaits, FindsUp, WaitsForPage};
 
 use crate::fault::Fault;
+use crate::held_locks::Held;
 use crate::writing::{WriteErr, tell_progress, write_early};
 use byte_position::PAGE_SIZE;
 use crossbeam_utils::Backoff;
-use insert_locks::Held;
 use segment_disk::Disk;
 use std::sync::Wait;
 use wal_page::Placed;
@@ -46,20 +46,24 @@ pub enum CopyStop {
     Asked,
     /// No word is left.
     Whole,
-    /// The page of the next word could not be mapped.
-    Absent(Absent),
+    /// The page of the next word is in no buffer, and could not be mapped. Pages are counted from
+    /// the log's address 0; `end` is the end of the page that its buffer held, 0 for none. Where
+    /// somebody had the turn to map, `turn` is the turn's word and `written` 0. Where nobody had
+    /// it, `turn` is 0, and the page to be replaced ends above the written address.
+    Absent {
+        page: u64,
+        end: u64,
+        turn: u64,
+        written: u64,
+    },
 }
 
-/// A page that is in no buffer, and could not be mapped.
-#[derive(Clone, Copy, Debug, PartialEq, Eq)]
+/// A page that is in no buffer, and could not be mapped, as `CopyStop` tells it.
+#[derive(Clone, Copy)]
 pub struct Absent {
-    /// The page, counted from the log's address 0.
     pub page: u64,
-    /// The end of the page that its buffer held, 0 for none.
     pub end: u64,
-    /// The turn's word, where somebody had the turn to map; else 0.
     pub turn: u64,
-    /// Where nobody had it, the written address: the page to be replaced ends above it.
     pub written: u64,
 }
 
@@ -180,7 +184,18 @@ fn copy_or_wait<'p, 'a, D: Disk>(
             backoff.reset();
             Ok(false)
         }
-        CopyStop::Absent(absent) => {
+        CopyStop::Absent {
+            page,
+            end,
+            turn,
+            written,
+        } => {
+            let absent = Absent {
+                page,
+                end,
+                turn,
+                written,
+            };
             reset_behind(backoff, copied.k);
             wait_for_page(seated, held, placed, absent, backoff)?;
             Ok(false)
@@ -264,7 +279,12 @@ fn copy_some<'p, 'a, D: Disk>(
     let next = placed.next_lsn().0;
     match reach_page(seated, next / PAGE_SIZE) {
         Ok(()) => Ok(copy_page(seated, placed, next, end.0, most)),
-        Err(absent) => Err(CopyStop::Absent(absent)),
+        Err(absent) => Err(CopyStop::Absent {
+            page: absent.page,
+            end: absent.end,
+            turn: absent.turn,
+            written: absent.written,
+        }),
     }
 }
 

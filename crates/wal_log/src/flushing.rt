@@ -15,23 +15,21 @@ ghost use Rattle.wal_rule.specs.Downs.{KnowsDown};
 ghost use Rattle.wal_rule.specs.Passes.{view_of_pass};
 ghost use Rattle.wal_rule.specs.SeatedPasses.{StandsAtRest, setup_of, view_of};
 ghost use Rattle.wal_log.specs.Downs.{KnowsNoFault, SetsDownItself};
-ghost use Rattle.wal_log.specs.Flushing.{AnswersFlush, AnswersFlushTry, FlushesOnlyUnflushed, IsToldHard, JudgesFlush, JudgesFlushTry, LoadsHard, MeetsUnflushed, SeesWhether, TriesOnlyUnflushed, flush_err_known_down, flush_err_of_fault, try_flush_err_known_down, try_flush_err_of_turn};
+ghost use Rattle.wal_log.specs.Flushing.{AnswersFlush, AnswersFlushTry, FlushesOnlyUnflushed, IsToldHard, JudgesFlush, JudgesFlushTry, LoadsHard, MeetsUnflushed, SeesWhether, TriesOnlyUnflushed, flush_err_known_down, try_flush_err_known_down, try_flush_err_of_turn};
 ghost use Rattle.wal_log.specs.Hands.{HasAllStored, HasFailed};
 ghost use Rattle.wal_log.specs.Logs.{IsPassOfLog};
 ghost use Rattle.wal_log.specs.PassLogs.{log_of_pass};
 ghost use Rattle.wal_log.specs.Standing.{ComesToRest, HasNoTurn, KeepsPass, SeesMore, StaysAtWork, WorksOn};
 ghost use Rattle.wal_log.specs.Writing.{FlushesAll};
-ghost use Rattle.wal_log.specs.declared.fault.Fault.TheVariants.{Disk};
-ghost use Rattle.wal_log.specs.declared.flushing.TryFlushErr.TheVariants.{Fault};
+ghost use Rattle.wal_log.specs.declared.flushing.TryFlushErr.TheVariants.{Disk};
 
-use crate::fault::Fault;
 use crate::patience::Patience;
 use crate::turns::{TurnErr, give_back, go_down, take_ready};
 use crate::wal::Wal;
 use crate::writing::{store_written, write_pages};
 use byte_position::PAGE_SIZE;
 use flush_core::DiskFault;
-use insert_locks::{Watched, see_end, see_reserved, watch};
+use insert_locks::{LockNo, Watched, see_end, see_reserved, watch};
 use segment_disk::Disk;
 use std::sync::Wait;
 use std::thread;
@@ -54,12 +52,14 @@ const STILL: u32 = 2;
 /// calls the device.
 #[derive(Clone, Copy, Debug, PartialEq, Eq)]
 pub enum TryFlushErr {
-    /// The disk has failed, in this call or before.
-    Fault(Fault),
+    /// A device call failed in this call: the disk's count of faults then.
+    Disk { faults: u64 },
+    /// The disk has failed before: its count of faults then.
+    Down { faults: u64 },
     /// The address is above the end of what is reserved, which is this one.
     Unreserved { end: Lsn },
     /// An insertion lock's holder has not copied so far: the lock's word.
-    Behind { lock: u32, word: u64 },
+    Behind { lock: LockNo, word: u64 },
     /// Somebody has the turn to write: the turn's word.
     Turn { word: u64 },
 }
@@ -80,28 +80,17 @@ impl From<TurnErr> for TryFlushErr {
 
     fn from(e: TurnErr) -> TryFlushErr {
         match e {
-            TurnErr::Down { faults } => TryFlushErr::Fault(Fault::Down { faults }),
+            TurnErr::Down { faults } => TryFlushErr::Down { faults },
             TurnErr::Taken { turn } => TryFlushErr::Turn { word: turn },
         }
     }
 }
 
 impl From<DiskFault> for TryFlushErr {
-    ghost from_gives = { λ e t. t ≡ Fault (Disk e.faults) };
+    ghost from_gives = { λ e t. t ≡ Disk e.faults };
 
     fn from(e: DiskFault) -> TryFlushErr {
-        TryFlushErr::Fault(Fault::Disk { faults: e.faults })
-    }
-}
-
-impl From<Fault> for FlushErr {
-    ghost from_gives = { λ f e. e ≡ flush_err_of_fault f };
-
-    fn from(f: Fault) -> FlushErr {
-        match f {
-            Fault::Disk { faults } => FlushErr::Disk { faults },
-            Fault::Down { faults } => FlushErr::Down { faults },
-        }
+        TryFlushErr::Disk { faults: e.faults }
     }
 }
 
@@ -202,7 +191,8 @@ pub(crate) fn flush_on<'p, D: Disk, R: Wait>(
     for _ in rt.forever() {
         match try_flush(seated, upto) {
             Ok(hard) => return Ok(hard),
-            Err(TryFlushErr::Fault(fault)) => return Err(FlushErr::from(fault)),
+            Err(TryFlushErr::Disk { faults }) => return Err(FlushErr::Disk { faults }),
+            Err(TryFlushErr::Down { faults }) => return Err(FlushErr::Down { faults }),
             Err(TryFlushErr::Unreserved { end }) => return Err(FlushErr::Unreserved { end }),
             Err(TryFlushErr::Behind { .. }) => patience.pause(rt),
             Err(TryFlushErr::Turn { .. }) => {
@@ -282,7 +272,7 @@ fn try_flush<'p, D: Disk>(seated: &mut SeatedPass<'p, D>, upto: Lsn) -> Result<H
 {
     let faults = seated.load_down();
     if faults != 0 {
-        return Err(TryFlushErr::Fault(Fault::Down { faults }));
+        return Err(TryFlushErr::Down { faults });
     }
     try_up(seated, upto)
 }
@@ -327,8 +317,8 @@ fn harden_copied<'p, D: Disk>(
     ensures works { WorksOn seated.old seated.new }
     ensures rests { HasNoTurn seated.new }
 {
-    let known = match watch(seated, upto.0) {
-        Watched::Finished { upto } => upto,
+    let known = match watch(seated, upto) {
+        Watched::Finished { upto } => upto.0,
         Watched::Behind { lock, word } => return Err(TryFlushErr::Behind { lock, word }),
     };
     take_ready(seated)?;

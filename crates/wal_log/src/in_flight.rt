@@ -16,8 +16,9 @@ ghost use Rattle.wal_log.specs.Logs.{IsPassOfLog, setup_of_log};
 
 use crate::beginning::{Begun, TryErr, try_begin};
 use crate::copying::{Copied, copy_front};
+use crate::held_locks::Held;
 use crate::wal::Wal;
-use insert_locks::{Held, release};
+use insert_locks::release;
 use segment_disk::Disk;
 use wal_rule::Pass;
 use wal_spelling::Body;
@@ -92,7 +93,7 @@ impl<'a> Inflight<'a> {
         }
         let Inflight { mut pass, begun } = self;
         let mut seated = pass.seat(&wal.table);
-        release(&mut seated, Held::One(begun.lock));
+        release(&mut seated, begun.lock);
         pass.company.note(begun.start, begun.end);
         pass.put_back(seated);
         let receipt = Receipt {

@@ -17,10 +17,10 @@ ghost use Rattle.wal_log.specs.declared.inserting.InsertErr.TheVariants.{Down};
 
 use crate::beginning::{Begun, TryErr, try_begin};
 use crate::fault::Fault;
+use crate::held_locks::Held;
 use crate::landing::land_and_make_room;
 use crate::wal::Wal;
 use crossbeam_utils::Backoff;
-use insert_locks::Held;
 use segment_disk::Disk;
 use std::hint::spin_loop;
 use std::sync::Wait;
@@ -172,7 +172,7 @@ fn begin<'p, 'a, D: Disk, R: Wait>(
                 });
             }
             Err(TryErr::Busy { .. }) => await_position(seated, &backoff),
-            Err(TryErr::AllHeld(_)) => backoff.snooze(),
+            Err(TryErr::AllHeld { .. }) => backoff.snooze(),
         }
     }
     unreachable!()

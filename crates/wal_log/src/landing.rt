@@ -4,11 +4,11 @@
 // view with which nobody steps any more, so that no watch ever takes the record for copied.
 ghost use Rattle.std.specs.Prelude.{◌≡◌, ◌/◌, ◌<◌, true, IfOk, MatchResult};
 ghost use mathlib.Core.Option.{some};
-ghost use Rattle.insert_locks.specs.Holding.{locks_of};
 ghost use Rattle.wal_page.specs.Placed.{placed_end};
 ghost use Rattle.wal_rule.specs.Company.{IsAlone, has_met_others};
 ghost use Rattle.wal_rule.specs.SeatedPasses.{setup_of, view_of};
 ghost use Rattle.wal_log.specs.Downs.{KnowsNoFault, MeetsFault};
+ghost use Rattle.wal_log.specs.HeldLocks.{locks_of};
 ghost use Rattle.wal_log.specs.PassLogs.{log_of_pass};
 ghost use Rattle.wal_log.specs.Room.{MakesRoomBehind, page_ahead};
 ghost use Rattle.wal_log.specs.Standing.{ComesToRest, CopiesAlone, entry_in_flight};
@@ -16,9 +16,9 @@ ghost use Rattle.wal_log.specs.Whole.{CopiesLast, CopiesWhole};
 
 use crate::copying::copy_whole;
 use crate::fault::Fault;
+use crate::held_locks::{Held, release_held};
 use crate::room::make_room;
 use byte_position::PAGE_SIZE;
-use insert_locks::{Held, release};
 use segment_disk::Disk;
 use std::sync::Wait;
 use std::thread;
@@ -61,7 +61,7 @@ pub(crate) fn land<'p, 'a, D: Disk, R: Wait>(
 {
     match copy_whole(rt, seated, held, end, placed) {
         Ok(()) => {
-            release(seated, held);
+            release_held(seated, held);
             Ok(())
         }
         Err(fault) => {

@@ -7,7 +7,7 @@
 //! are calls of their own in `in_flight`. `switching` ends a segment. A flush is `flushing`;
 //! `promised` tells what is durable without one. `ahead` answers a commit before it is durable, and
 //! `behind` flushes behind such commits. `writing` and `turns` serve a flush, and an insert that
-//! needs a buffer.
+//! needs a buffer; `held_locks` has the locks under which a record is copied.
 #![tactic(auto)]
 
 mod ahead;
@@ -18,6 +18,7 @@ mod committing;
 mod copying;
 mod fault;
 mod flushing;
+mod held_locks;
 mod in_flight;
 mod inserting;
 mod landing;
@@ -37,10 +38,11 @@ mod writing;
 pub use beginning::TryErr;
 pub use behind::Caught;
 pub use closing::Closed;
-pub use copying::{Absent, Copied, CopyStop};
+pub use copying::{Copied, CopyStop};
 pub use fault::Fault;
 pub use flushing::{FlushErr, TryFlushErr};
 pub use in_flight::Inflight;
+pub use insert_locks::LockNo;
 pub use inserting::InsertErr;
 pub use machine_state::Setup;
 pub use opening::{OpenFault, OpenFaultKind};

@@ -21,10 +21,11 @@ ghost use Rattle.wal_log.specs.Waiting.{FindsUp, IsSeenTold};
 ghost use Rattle.wal_log.specs.declared.switching.SwitchErr.TheVariants.{Down};
 
 use crate::fault::Fault;
+use crate::held_locks::Held;
 use crate::landing::land;
 use crate::wal::Wal;
 use crossbeam_utils::Backoff;
-use insert_locks::{Held, advance, release, see_reserved, try_take_lock};
+use insert_locks::{LockNo, advance_below, release_below, see_reserved, try_take_lock};
 use machine_state::layout::LOCKS;
 use reserve_lock::{ReserveErr, Reserved, SwitchTry, try_reserve_switch};
 use segment_disk::Disk;
@@ -159,7 +160,7 @@ fn take_all<'p, D: Disk, R: Wait>(rt: &R, seated: &mut SeatedPass<'p, D>) -> Res
 {
     for count in 0..LOCKS {
         if let Err(e) = take_next(rt, seated, count) {
-            release(seated, Held::Below(count));
+            release_below(seated, count);
             return Err(e);
         }
     }
@@ -212,7 +213,7 @@ fn take_or_wait<'p, D: Disk>(
         (λ e. HoldsOn (lock_run 0 lock) seated.old seated.new
         × TellsDown (view_of seated.old) (view_of seated.new) e) }
 {
-    if try_take_lock(seated, lock) == 0 {
+    if try_take_lock(seated, LockNo(lock as u8)) == 0 {
         return Ok(true);
     }
     tell_seen(seated, lock);
@@ -231,7 +232,7 @@ fn tell_seen<'p, D: Disk>(seated: &mut SeatedPass<'p, D>, count: u32)
 {
     if count > 0 {
         let end = see_reserved(seated);
-        advance(seated, Held::Below(count), end);
+        advance_below(seated, count, Lsn(end));
     }
 }
 
@@ -252,11 +253,11 @@ fn switch_under<'p, D: Disk, R: Wait>(
     let reserved = match reserve(rt, seated, body) {
         Ok(SwitchTry::Switched(reserved)) => reserved,
         Ok(SwitchTry::Stayed { end }) => {
-            release(seated, Held::Below(LOCKS));
+            release_below(seated, LOCKS);
             return Ok(Switch::Stayed { end });
         }
         Err(e) => {
-            release(seated, Held::Below(LOCKS));
+            release_below(seated, LOCKS);
             return Err(e);
         }
     };
@@ -265,7 +266,7 @@ fn switch_under<'p, D: Disk, R: Wait>(
         end,
         mut placed,
     } = reserved;
-    match land(rt, seated, Held::Below(LOCKS), end, &mut placed) {
+    match land(rt, seated, Held::All, end, &mut placed) {
         Ok(()) => Ok(Switch::Done { start, end }),
         Err(fault) => Err(SwitchErr::at(start, fault)),
     }

@@ -6,11 +6,12 @@
 // its own watch back else; it watches; it takes the turn to write and the writer; it writes page by
 // page, stores behind each what is written, and gives writer and turn back.
 ghost use Rattle.std.specs.Prelude.{◌≡◌, ◌≤◌, MatchResult, OnOk};
-ghost use Rattle.insert_locks.specs.Holding.{HasTold, locks_of};
+ghost use Rattle.insert_locks.specs.Holding.{HasTold};
 ghost use Rattle.word_ring.specs.InHand.{IsReady, known_copied, writer_in};
 ghost use Rattle.wal_rule.specs.SeatedPasses.{HasView, setup_of, view_of};
 ghost use Rattle.wal_log.specs.Downs.{KnowsNoFault, SetsDownItself};
 ghost use Rattle.wal_log.specs.Hands.{HasAllStored, HasFailed};
+ghost use Rattle.wal_log.specs.HeldLocks.{locks_of};
 ghost use Rattle.wal_log.specs.Copying.{CopyGoesOn};
 ghost use Rattle.wal_log.specs.Standing.{AddsNothing, CopiesAlone, HasNoTurn};
 ghost use Rattle.wal_log.specs.Writing.{BreaksWriting, TellsWriteErr, WritesAll, WritesCopied, stored_view, write_err_of_turn};
@@ -18,13 +19,15 @@ ghost use Rattle.wal_log.specs.declared.fault.Fault.TheVariants.{Disk};
 ghost use Rattle.wal_log.specs.declared.writing.WriteErr.TheVariants.{Fault};
 
 use crate::fault::Fault;
+use crate::held_locks::{Held, tell_under};
 use crate::turns::{TurnErr, give_back, go_down, take_ready};
 use byte_position::{PAGE_SIZE, Page};
 use flush_core::DiskFault;
-use insert_locks::{Held, Watched, advance, watch};
+use insert_locks::{LockNo, Watched, watch};
 use segment_disk::Disk;
 use wal_page::Placed;
 use wal_rule::SeatedPass;
+use wal_types::Lsn;
 use word_ring::{write_next, writer_now};
 
 /// Why a page was not written early.
@@ -33,7 +36,7 @@ pub enum WriteErr {
     /// The disk has failed, in this call or before.
     Fault(Fault),
     /// An insertion lock's holder has not copied so far: the lock's word.
-    Behind { lock: u32, word: u64 },
+    Behind { lock: LockNo, word: u64 },
     /// Somebody has the turn to write: the turn's word.
     Turn { turn: u64 },
 }
@@ -145,8 +148,7 @@ pub(crate) fn tell_progress<'p, 'a, D: Disk>(
     requires copies { CopiesAlone (locks_of held) placed.now seated.old }
     ensures told { HasTold (locks_of held) placed.now.next seated.old seated.new }
 {
-    let next = placed.next_lsn().0;
-    advance(seated, held, next);
+    tell_under(seated, held, placed.next_lsn());
 }
 
 // For an insert that needs a page's buffer: tells how far its own copy has come, and writes all
@@ -193,8 +195,8 @@ pub(crate) fn write_copied<'p, D: Disk>(
         × KnowsNoFault (view_of seated.new))
         (λ e. TellsWriteErr upto (view_of seated.old) (view_of seated.new) e) }
 {
-    let known = match watch(seated, upto) {
-        Watched::Finished { upto } => upto,
+    let known = match watch(seated, Lsn(upto)) {
+        Watched::Finished { upto } => upto.0,
         Watched::Behind { lock, word } => return Err(WriteErr::Behind { lock, word }),
     };
     take_ready(seated)?;

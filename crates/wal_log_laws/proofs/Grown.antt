@@ -198,7 +198,7 @@ module _ (setup : Setup) (body : Assembled) (old new : View) where
   vain_grows : (e : TryErr) → TellsBeginTry setup body old new e
       → GrowsTo (log_of_pass old) (log_of_pass new)
   vain_grows (begins.Busy seen) told = same_grows old new (told.1).log_is
-  vain_grows (begins.AllHeld held) told = same_grows old new (told.1).log_is
+  vain_grows (begins.AllHeld seen) told = same_grows old new (told.1).log_is
   vain_grows (begins.Full free) told = grows_so (log_of_pass old) _ (log_of_pass new)
       (told.0).log_is (with_full (told.0).at (log_of_pass old))
   vain_grows (begins.Down faults) told = same_grows old new told.1

@@ -133,17 +133,18 @@ module _ (v : View) (alone : IsLonePass v) where
   refused : (setup : Setup) (body : Assembled) (old : View) → IsResting v → (e : TryErr)
       → TellsBeginTry setup body old v e → IsNotHeldUp e
   refused setup body old rests (begins.Busy seen) told = not_busy seen old rests.place told.0
-  refused setup body old rests (begins.AllHeld held) told =
-      not_all_held held.seen (told.1).up rests.locks told.0
+  refused setup body old rests (begins.AllHeld seen) told =
+      not_all_held seen (told.1).up rests.locks told.0
   refused setup body old rests (begins.Full free) told = tt
   refused setup body old rests (begins.Down faults) told = tt
 
   held_back : (asked : ℕ) (old : View) → IsResting v → (e : TryFlushErr)
       → TellsFlushTry asked old v e → IsNotHeldBack e
-  held_back asked old rests (flushes.Fault fault) told = tt
+  held_back asked old rests (flushes.Disk faults) told = tt
+  held_back asked old rests (flushes.Down faults) told = tt
   held_back asked old rests (flushes.Unreserved end) told = tt
   held_back asked old rests (flushes.Behind lock word) told =
-      not_behind asked lock word (told.1).up rests.locks told.0
+      not_behind asked lock.0 word (told.1).up rests.locks told.0
   held_back asked old rests (flushes.Turn word) told = no_writer word rests.hold told.0
 
   stopped : (setup : Setup) (most k told_before : ℕ) (under : List ℕ) (placed : PlacedState)
@@ -153,8 +154,8 @@ module _ (v : View) (alone : IsLonePass v) where
       → StopsUnhindered stop
   stopped setup most k told_before under placed stops.Asked away told = tt
   stopped setup most k told_before under placed stops.Whole away told = tt
-  stopped setup most k told_before under placed (stops.Absent absent) away told = ⊎_elim
-      (λ taken. absurd (no_mapper_as absent.turn away taken.0))
+  stopped setup most k told_before under placed (stops.Absent page end turn written) away told = ⊎_elim
+      (λ taken. absurd (no_mapper_as turn away taken.0))
       (λ old_page. old_page.0) ((told.2).why)
     where
       no_mapper_as : (turn : ℕ) → (v.mapping).stage ≡ Away

@@ -20,7 +20,7 @@ IsLonePass v = IsLone v.opening v
 -- the position was not locked or moved, and a lock was free
 abbrev pub IsNotHeldUp : TryErr → Type 0
 IsNotHeldUp (begins.Busy seen) = ⊥
-IsNotHeldUp (begins.AllHeld held) = ⊥
+IsNotHeldUp (begins.AllHeld seen) = ⊥
 IsNotHeldUp (begins.Full free) = Unit {0}
 IsNotHeldUp (begins.Down faults) = Unit {0}
 
@@ -30,7 +30,8 @@ BeginsUnhindered (Err refused) = IsNotHeldUp refused.0
 
 -- no lock held the flush back, and the turn to write was free
 abbrev pub IsNotHeldBack : TryFlushErr → Type 0
-IsNotHeldBack (flushes.Fault fault) = Unit {0}
+IsNotHeldBack (flushes.Disk faults) = Unit {0}
+IsNotHeldBack (flushes.Down faults) = Unit {0}
 IsNotHeldBack (flushes.Unreserved end) = Unit {0}
 IsNotHeldBack (flushes.Behind lock word) = ⊥
 IsNotHeldBack (flushes.Turn turn) = ⊥
@@ -43,4 +44,4 @@ FlushesUnhindered (Err e) = IsNotHeldBack e
 abbrev pub StopsUnhindered : CopyStop → Type 0
 StopsUnhindered stops.Asked = Unit {0}
 StopsUnhindered stops.Whole = Unit {0}
-StopsUnhindered (stops.Absent absent) = absent.turn ≡ 0
+StopsUnhindered (stops.Absent page end turn written) = turn ≡ 0

@@ -62,13 +62,13 @@ reserve_under-requires-clause-holds g c =
     let load = c.load_down-faults in
     let took = c.in_ok-lock.ensures.taken in
     held_one c.args.seated.now load.new.self c.try_take.new.seated load.result load.ensures.steps
-    load.ensures.known c.in_ok-lock.lock took.0 took.1 c.requires.rests
+    load.ensures.known c.in_ok-lock.lock.0 took.0 took.1 c.requires.rests
 
 pub reserve_under-requires-clause-up : goal.reserve_under-requires-clause-up
 reserve_under-requires-clause-up g c =
     let load = c.load_down-faults in
     taken_up (view_of c.args.seated.now) (view_of load.new.self) load.result
-    (view_is load.ensures.steps) load.ensures.known c.in_ok-lock.lock
+    (view_is load.ensures.steps) load.ensures.known c.in_ok-lock.lock.0
     (view_of c.try_take.new.seated) (view_is c.in_ok-lock.ensures.taken.1) c.if-faults-ne0.false
 
 pub returns-clause-begins : goal.returns-clause-begins
@@ -82,16 +82,16 @@ returns-clause-begins g c =
     let takes = view_is took in
     answers_since (setup_of c.args.seated.now) c.args.body.now old taken new
     (taken_keeps old (view_of load.new.self) load.result loads load.ensures.known
-    c.in_ok-lock.lock taken takes)
-    (taken_log old (view_of load.new.self) load.result loads load.ensures.known c.in_ok-lock.lock
+    c.in_ok-lock.lock.0 taken takes)
+    (taken_log old (view_of load.new.self) load.result loads load.ensures.known c.in_ok-lock.lock.0
     taken takes)
     (taken_sets_none old (view_of load.new.self) load.result loads load.ensures.known
-    c.in_ok-lock.lock taken takes) (setup_of c.try_take.new.seated)
+    c.in_ok-lock.lock.0 taken takes) (setup_of c.try_take.new.seated)
     (same_setup c.args.seated.now c.try_take.new.seated
     (took.same_table ∙ load.ensures.steps.same_table))
     c.reserve_under.result
     (λ seen busy. taken_sight old (view_of load.new.self) load.result loads load.ensures.known
-    c.in_ok-lock.lock taken takes)
+    c.in_ok-lock.lock.0 taken takes)
     c.reserve_under.ensures.begins
 
 pub returns-clause-down_again : goal.returns-clause-down_again
@@ -111,7 +111,7 @@ returns-clause-goes_on g c =
           (seat_stays load.ensures.steps) (seat_stays took)) c.reserve_under.ensures.goes_on.stays;
       keeps = further_pass old taken (view_of c.reserve_under.new.seated)
           (taken_keeps old (view_of load.new.self) load.result (view_is load.ensures.steps)
-          load.ensures.known c.in_ok-lock.lock taken (view_is took))
+          load.ensures.known c.in_ok-lock.lock.0 taken (view_is took))
           c.reserve_under.ensures.goes_on.keeps;
       async = c.reserve_under.ensures.goes_on.async
           ∙ ap (λ (v : View). v.async_met) (view_is took)

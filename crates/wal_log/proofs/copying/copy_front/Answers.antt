@@ -4,7 +4,7 @@ use Rattle.machine_state.specs.declared.setup.Setup.{Setup}
 use Rattle.machine_state.specs.Moves.{with_told}
 use Rattle.machine_state.specs.Views.{View}
 use Rattle.wal_rule.specs.SeatedPasses.{setup_of, view_of}
-use Rattle.insert_locks.specs.Holding.{locks_of}
+use Rattle.wal_log.specs.HeldLocks.{locks_of}
 use Rattle.word_ring.proofs.CopyLaws.{words-left}
 use Rattle.wal_log.specs.declared.copying.CopyStop.{CopyStop}
 use Rattle.wal_log.specs.declared.copying.CopyStop.TheVariants.{Asked, Whole, Absent}
@@ -59,7 +59,7 @@ stops : (setup : Setup) (most k : ℕ) (p : PlacedState) (v : View) → k ≤ mo
     → TellsStop setup most k p v stop
 stops setup most k p v few left Asked none = (omega (arith, few, none), left)
 stops setup most k p v few left Whole none = absurd none
-stops setup most k p v few left (Absent absent) tells =
+stops setup most k p v few left (Absent page end turn written) tells =
     let some = tells.0 in (omega (arith, few, some), left, tells.1)
 
 pub returns-then-most-eq0-clause-tells : goal.returns-then-most-eq0-clause-tells

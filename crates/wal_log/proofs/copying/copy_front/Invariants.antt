@@ -2,7 +2,7 @@
 use Rattle.std.proofs.Common.{◌≡◌, ◌+◌, ◌-◌, ◌*◌, ◌≤◌}
 use Rattle.wal_page.specs.Placed.{placed_end}
 use Rattle.wal_rule.specs.SeatedPasses.{view_of}
-use Rattle.insert_locks.specs.Holding.{locks_of}
+use Rattle.wal_log.specs.HeldLocks.{locks_of}
 use Rattle.wal_log.specs.Copying.{CopyGoesOn}
 use Rattle.wal_log.specs.Downs.{KnowsNoFault}
 use Rattle.wal_log.specs.Standing.{CopiesAlone}

@@ -4,7 +4,7 @@ use Rattle.machine_state.specs.declared.setup.Setup.{Setup}
 use Rattle.machine_state.specs.Moves.{with_told}
 use Rattle.machine_state.specs.Views.{View}
 use Rattle.wal_rule.specs.SeatedPasses.{view_of}
-use Rattle.wal_log.specs.Copying.{TellsAbsent}
+use Rattle.wal_log.specs.Copying.{TellsAbsent, absent_page}
 use Rattle.wal_log.proofs.CopyLaws.{copied_on}
 use Rattle.wal_log.proofs.Seated.{same_setup}
 use Rattle.wal_log.proofs.copying.copy_or_wait.Goals as goal
@@ -16,7 +16,8 @@ wait_for_page-requires-clause-absent g c =
     let met : View = with_told tells.earlier tells.earlier_under (view_of front.new.seated) in
     let stop = rw c.in-Absent.is at tells.stop in (
       met,
-      subst (λ (s : Setup). TellsAbsent s (front.new.placed.next / 8192) met c.in-Absent.absent)
+      subst (λ (s : Setup). TellsAbsent s (front.new.placed.next / 8192) met
+          (absent_page c.in-Absent.page c.in-Absent.end c.in-Absent.turn c.in-Absent.written))
           (sym (same_setup c.args.seated.now front.new.seated
           front.ensures.copies_on.goes_on.stays.same_table)) stop.2,
     )
@@ -40,7 +41,8 @@ returns-in_ok-wait_for_page-in-Absent-clause-ends g c =
     let stop = rw c.in-Absent.is at tells.stop in (
       waits.0,
       inr (
-        c.in-Absent.absent,
+        (absent_page c.in-Absent.page c.in-Absent.end c.in-Absent.turn
+            c.in-Absent.written),
         met,
         view_of c.copy_front-copied.new.seated,
         stop.2,

@@ -1,6 +1,6 @@
 -- So far words were copied of the record at its place.
 use Rattle.wal_rule.specs.SeatedPasses.{view_of}
-use Rattle.insert_locks.specs.Holding.{locks_of}
+use Rattle.wal_log.specs.HeldLocks.{locks_of}
 use Rattle.wal_log.specs.Copying.{CopyGoesOn}
 use Rattle.wal_log.specs.Downs.{KnowsNoFault}
 use Rattle.wal_log.specs.Standing.{CopiesAlone}

@@ -1,4 +1,6 @@
-use Rattle.std.proofs.Common.{refl, arith}
+use Rattle.std.proofs.Common.{ℕ, ◌/◌, refl, subst, arith}
+use Rattle.wal_rule.specs.SeatedPasses.{setup_of, view_of}
+use Rattle.wal_log.specs.Copying.{TellsAbsent}
 use Rattle.wal_log.proofs.CopyLaws.{alone_low, copies_still, reached_stays, went_on}
 use Rattle.wal_log.proofs.copying.copy_some.Goals as goal
 
@@ -21,3 +23,16 @@ returns-in-Err-clause-copies_on g c =
     c.args.placed.now c.args.placed.now
     (reached_stays c.args.placed.now c.args.seated.now c.reach_page.new.seated
     c.reach_page.ensures.maps) refl
+
+pub returns-in-Err-clause-tells : goal.returns-in-Err-clause-tells
+returns-in-Err-clause-tells g c =
+    let some = c.if-most-eq0.false in
+    let absent = c.in-Err.absent in
+    let tells = subst (λ (n : ℕ). TellsAbsent (setup_of c.args.seated.now) (n / 8192)
+    (view_of c.reach_page.new.seated) absent) c.next_lsn-next.ensures c.in-Err.ensures.ends in (
+      refl,
+      (
+        omega (arith, some),
+        record { page_is = tells.page_is; other = tells.other; why = tells.why; low = tells.low },
+      ),
+    )

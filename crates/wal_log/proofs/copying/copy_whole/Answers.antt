@@ -1,6 +1,6 @@
 use Rattle.std.proofs.Common.{sym, ap, ◌∙◌}
 use Rattle.wal_page.specs.Placed.{placed_end}
-use Rattle.insert_locks.specs.Holding.{locks_of}
+use Rattle.wal_log.specs.HeldLocks.{locks_of}
 use Rattle.wal_log.proofs.copying.copy_whole.Goals as goal
 
 pub copy_there-requires-clause-copies : goal.copy_there-requires-clause-copies

@@ -1,6 +1,6 @@
 use Rattle.std.proofs.Common.{◌+◌, ◌*◌, ◌/◌, inl, inr, refl, arith}
 use Rattle.wal_rule.specs.SeatedPasses.{view_of}
-use Rattle.insert_locks.specs.Holding.{locks_of}
+use Rattle.wal_log.specs.HeldLocks.{locks_of}
 use Rattle.wal_log.specs.Waiting.{AsksForRoom}
 use Rattle.wal_log.proofs.CopyLaws.{alone_low}
 use Rattle.wal_log.proofs.Keeping.{both_up}

@@ -3,14 +3,12 @@ use Rattle.std.proofs.Common.{inl, inr, refl, sym, ap, ◌∙◌, subst}
 use Rattle.byte_position.specs.Geometry.{IsSegmentSize}
 use Rattle.machine_state.specs.declared.setup.Setup.{Setup}
 use Rattle.wal_rule.specs.SeatedPasses.{view_of}
-use Rattle.wal_log.specs.declared.flushing.FlushErr.{FlushErr}
-use Rattle.wal_log.specs.declared.flushing.TryFlushErr.TheVariants.{Fault, Unreserved}
-use Rattle.wal_log.specs.Flushing.{FlushesOnlyUnflushed, JudgesFlush, TellsFlushErr}
+use Rattle.wal_log.specs.declared.flushing.TryFlushErr.TheVariants as tries
 use Rattle.wal_log.specs.Standing.{ComesToRest}
 use Rattle.wal_log.proofs.AwaitLaws.{rests_at_work, sees_keep, sees_same, tried_and_looked}
-use Rattle.wal_log.proofs.FlushLaws.{answer_again, answer_of, fault_behind, told_behind, unreserved_behind}
-use Rattle.wal_log.proofs.Keeping.{further_pass, same_pass}
-use Rattle.wal_log.proofs.LookLaws.{fault_only, last_tried, only_found}
+use Rattle.wal_log.proofs.FlushLaws.{answer_again, answer_of, fails_behind, told_behind, unreserved_behind}
+use Rattle.wal_log.proofs.Keeping.{further_pass, meets_since, same_pass}
+use Rattle.wal_log.proofs.LookLaws.{last_tried, only_found}
 use Rattle.wal_log.proofs.ReservedLaws.{judged_again, last_judged}
 use Rattle.wal_log.proofs.Seated.{own_setup, valid_size}
 use Rattle.wal_log.proofs.Trying.{first_try, rests_again, tried_again}
@@ -54,28 +52,44 @@ pub returns-in-Ok-clause-rests : goal.returns-in-Ok-clause-rests
 returns-in-Ok-clause-rests g c =
     rests g (goal.at.returns-in-Ok-clause-rests g c).After-try_flush
 
-pub returns-in-Err-Fault-clause-flushes : goal.returns-in-Err-Fault-clause-flushes
-returns-in-Err-Fault-clause-flushes g c =
-    let why = rw c.in-Err-Fault.field-0-is at c.in-Err-Fault.ensures.tries in (
+pub returns-in-Err-Disk-clause-flushes : goal.returns-in-Err-Disk-clause-flushes
+returns-in-Err-Disk-clause-flushes g c =
+    let why = rw c.in-Err-Disk.field-0-is at c.in-Err-Disk.ensures.tries in (
       why.1 ∙ c.loop.invariant.tried.log,
-      subst (λ (e : FlushErr). TellsFlushErr c.args.upto.0 (view_of c.args.seated.now)
-          (view_of c.try_flush.new.seated) e) (sym c.from.ensures)
-          (fault_behind c.args.upto.0 (view_of c.args.seated.now) (view_of c.loop.seated)
+      fails_behind c.args.upto.0 (view_of c.args.seated.now) (view_of c.loop.seated)
           (view_of c.try_flush.new.seated) c.loop.invariant.tried.comes.keeps
-          c.loop.invariant.tried.down_set c.in-Err-Fault.fault why.0),
+          c.in-Err-Disk.faults why.0,
     )
 
-pub returns-in-Err-Fault-clause-down_again : goal.returns-in-Err-Fault-clause-down_again
-returns-in-Err-Fault-clause-down_again g c = λ faults knows.
+pub returns-in-Err-Down-clause-flushes : goal.returns-in-Err-Down-clause-flushes
+returns-in-Err-Down-clause-flushes g c =
+    let why = rw c.in-Err-Down.field-0-is at c.in-Err-Down.ensures.tries in (
+      why.1 ∙ c.loop.invariant.tried.log,
+      meets_since (view_of c.args.seated.now) (view_of c.loop.seated)
+          (view_of c.try_flush.new.seated) c.in-Err-Down.faults c.loop.invariant.tried.down_set why.0,
+    )
+
+pub returns-in-Err-Disk-clause-down_again : goal.returns-in-Err-Disk-clause-down_again
+returns-in-Err-Disk-clause-down_again g c = λ faults knows.
     answer_again c.try_flush.result _ faults
-    (ap answer_of (c.in-Err-Fault.is ∙ ap Err c.in-Err-Fault.field-0-is)
-    ∙ ap Err (sym c.from.ensures))
+    (ap answer_of (c.in-Err-Disk.is ∙ ap Err c.in-Err-Disk.field-0-is))
     (c.try_flush.ensures.down_again faults
     (c.loop.invariant.tried.comes.keeps.down faults knows))
 
-pub returns-in-Err-Fault-clause-rests : goal.returns-in-Err-Fault-clause-rests
-returns-in-Err-Fault-clause-rests g c =
-    rests g (goal.at.returns-in-Err-Fault-clause-rests g c).After-try_flush
+pub returns-in-Err-Down-clause-down_again : goal.returns-in-Err-Down-clause-down_again
+returns-in-Err-Down-clause-down_again g c = λ faults knows.
+    answer_again c.try_flush.result _ faults
+    (ap answer_of (c.in-Err-Down.is ∙ ap Err c.in-Err-Down.field-0-is))
+    (c.try_flush.ensures.down_again faults
+    (c.loop.invariant.tried.comes.keeps.down faults knows))
+
+pub returns-in-Err-Disk-clause-rests : goal.returns-in-Err-Disk-clause-rests
+returns-in-Err-Disk-clause-rests g c =
+    rests g (goal.at.returns-in-Err-Disk-clause-rests g c).After-try_flush
+
+pub returns-in-Err-Down-clause-rests : goal.returns-in-Err-Down-clause-rests
+returns-in-Err-Down-clause-rests g c =
+    rests g (goal.at.returns-in-Err-Down-clause-rests g c).After-try_flush
 
 pub returns-in-Err-Unreserved-clause-flushes : goal.returns-in-Err-Unreserved-clause-flushes
 returns-in-Err-Unreserved-clause-flushes g c =
@@ -158,20 +172,22 @@ returns-in-Ok-clause-only_unflushed g c =
     last_tried c.args.upto.0 c.args.seated.now c.loop.seated (view_of c.try_flush.new.seated)
     c.loop.invariant.looked (Ok c.in-Ok.hard) c.in-Ok.ensures.only_unflushed
 
-pub returns-in-Err-Fault-clause-only_unflushed : goal.returns-in-Err-Fault-clause-only_unflushed
-returns-in-Err-Fault-clause-only_unflushed g c =
-    let old = view_of c.args.seated.now in
-    let new = view_of c.try_flush.new.seated in
-    subst (λ (e : FlushErr). FlushesOnlyUnflushed c.args.upto.0 old (Err e) new)
-    (sym c.from.ensures) (fault_only c.args.upto.0 old new c.in-Err-Fault.fault
-    (last_tried c.args.upto.0 c.args.seated.now c.loop.seated new c.loop.invariant.looked
-    (Err (Fault c.in-Err-Fault.fault))
-    (rw c.in-Err-Fault.field-0-is at c.in-Err-Fault.ensures.only_unflushed)))
+pub returns-in-Err-Disk-clause-only_unflushed : goal.returns-in-Err-Disk-clause-only_unflushed
+returns-in-Err-Disk-clause-only_unflushed g c =
+    last_tried c.args.upto.0 c.args.seated.now c.loop.seated (view_of c.try_flush.new.seated)
+    c.loop.invariant.looked (Err (tries.Disk c.in-Err-Disk.faults))
+    (rw c.in-Err-Disk.field-0-is at c.in-Err-Disk.ensures.only_unflushed)
+
+pub returns-in-Err-Down-clause-only_unflushed : goal.returns-in-Err-Down-clause-only_unflushed
+returns-in-Err-Down-clause-only_unflushed g c =
+    last_tried c.args.upto.0 c.args.seated.now c.loop.seated (view_of c.try_flush.new.seated)
+    c.loop.invariant.looked (Err (tries.Down c.in-Err-Down.faults))
+    (rw c.in-Err-Down.field-0-is at c.in-Err-Down.ensures.only_unflushed)
 
 pub returns-in-Err-Unreserved-clause-only_unflushed : goal.returns-in-Err-Unreserved-clause-only_unflushed
 returns-in-Err-Unreserved-clause-only_unflushed g c =
     last_tried c.args.upto.0 c.args.seated.now c.loop.seated (view_of c.try_flush.new.seated)
-    c.loop.invariant.looked (Err (Unreserved c.in-Err-Unreserved.end))
+    c.loop.invariant.looked (Err (tries.Unreserved c.in-Err-Unreserved.end))
     (rw c.in-Err-Unreserved.field-0-is at c.in-Err-Unreserved.ensures.only_unflushed)
 
 -- ---- whether the address is reserved
@@ -183,21 +199,27 @@ returns-in-Ok-clause-unreserved g c =
     (size_so g at) c.loop.invariant.judged (Ok c.in-Ok.hard) c.in-Ok.ensures.unreserved
     c.in-Ok.ensures.tries
 
-pub returns-in-Err-Fault-clause-unreserved : goal.returns-in-Err-Fault-clause-unreserved
-returns-in-Err-Fault-clause-unreserved g c =
-    let at = (goal.at.returns-in-Err-Fault-clause-unreserved g c).After-try_flush in
-    subst (λ (e : FlushErr). JudgesFlush c.args.upto.0 (view_of c.args.seated.now) (Err e))
-    (sym c.from.ensures) (last_judged c.args.upto.0 c.args.seated.now c.loop.seated
-    (view_of c.try_flush.new.seated) (size_so g at) c.loop.invariant.judged
-    (Err (Fault c.in-Err-Fault.fault))
-    (rw c.in-Err-Fault.field-0-is at c.in-Err-Fault.ensures.unreserved)
-    (rw c.in-Err-Fault.field-0-is at c.in-Err-Fault.ensures.tries))
+pub returns-in-Err-Disk-clause-unreserved : goal.returns-in-Err-Disk-clause-unreserved
+returns-in-Err-Disk-clause-unreserved g c =
+    let at = (goal.at.returns-in-Err-Disk-clause-unreserved g c).After-try_flush in
+    last_judged c.args.upto.0 c.args.seated.now c.loop.seated (view_of c.try_flush.new.seated)
+    (size_so g at) c.loop.invariant.judged (Err (tries.Disk c.in-Err-Disk.faults))
+    (rw c.in-Err-Disk.field-0-is at c.in-Err-Disk.ensures.unreserved)
+    (rw c.in-Err-Disk.field-0-is at c.in-Err-Disk.ensures.tries)
+
+pub returns-in-Err-Down-clause-unreserved : goal.returns-in-Err-Down-clause-unreserved
+returns-in-Err-Down-clause-unreserved g c =
+    let at = (goal.at.returns-in-Err-Down-clause-unreserved g c).After-try_flush in
+    last_judged c.args.upto.0 c.args.seated.now c.loop.seated (view_of c.try_flush.new.seated)
+    (size_so g at) c.loop.invariant.judged (Err (tries.Down c.in-Err-Down.faults))
+    (rw c.in-Err-Down.field-0-is at c.in-Err-Down.ensures.unreserved)
+    (rw c.in-Err-Down.field-0-is at c.in-Err-Down.ensures.tries)
 
 pub returns-in-Err-Unreserved-clause-unreserved : goal.returns-in-Err-Unreserved-clause-unreserved
 returns-in-Err-Unreserved-clause-unreserved g c =
     let at = (goal.at.returns-in-Err-Unreserved-clause-unreserved g c).After-try_flush in
     last_judged c.args.upto.0 c.args.seated.now c.loop.seated (view_of c.try_flush.new.seated)
-    (size_so g at) c.loop.invariant.judged (Err (Unreserved c.in-Err-Unreserved.end))
+    (size_so g at) c.loop.invariant.judged (Err (tries.Unreserved c.in-Err-Unreserved.end))
     (rw c.in-Err-Unreserved.field-0-is at c.in-Err-Unreserved.ensures.unreserved)
     (rw c.in-Err-Unreserved.field-0-is at c.in-Err-Unreserved.ensures.tries)
 
@@ -205,8 +227,12 @@ pub returns-in-Ok-clause-async_met : goal.returns-in-Ok-clause-async_met
 returns-in-Ok-clause-async_met g c =
     c.try_flush.ensures.async_met ∙ c.loop.invariant.tried.async
 
-pub returns-in-Err-Fault-clause-async_met : goal.returns-in-Err-Fault-clause-async_met
-returns-in-Err-Fault-clause-async_met g c =
+pub returns-in-Err-Disk-clause-async_met : goal.returns-in-Err-Disk-clause-async_met
+returns-in-Err-Disk-clause-async_met g c =
+    c.try_flush.ensures.async_met ∙ c.loop.invariant.tried.async
+
+pub returns-in-Err-Down-clause-async_met : goal.returns-in-Err-Down-clause-async_met
+returns-in-Err-Down-clause-async_met g c =
     c.try_flush.ensures.async_met ∙ c.loop.invariant.tried.async
 
 pub returns-in-Err-Unreserved-clause-async_met : goal.returns-in-Err-Unreserved-clause-async_met

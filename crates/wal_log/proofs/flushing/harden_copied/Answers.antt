@@ -6,6 +6,8 @@ use Rattle.machine_state.specs.declared.setup.Setup.{Setup}
 use Rattle.machine_state.specs.Words.{end_form}
 use Rattle.machine_state.specs.Views.{View}
 use Rattle.wal_rule.specs.SeatedPasses.{setup_of, view_of}
+use Rattle.wal_types.specs.declared.lsn.Lsn.{Lsn}
+use Rattle.insert_locks.specs.declared.numbers.LockNo.{LockNo}
 use Rattle.insert_locks.specs.declared.watching.Watched.{Watched}
 use Rattle.wal_log.specs.Flushing.{HasPassedLocks}
 use Rattle.wal_log.specs.Standing.{AddsNothing}
@@ -30,24 +32,24 @@ module _ (g : Over) (c : After-watch g) where
   reserved = subst (λ (s : Setup). c.args.upto.0 ≤ end_form s old.reserving.seen)
       (sym (own_setup c.args.seated.now)) c.requires.reserved
 
-  held_back : (lock word : ℕ) → c.watch.result ≡ Watched.Behind lock word
+  held_back : (lock : LockNo) (word : ℕ) → c.watch.result ≡ Watched.Behind lock word
       → Watches c.args.seated.now c.watch.new.seated
   held_back lock word is = watches c.args.seated.now c.watch.new.seated c.watch.ensures.stays
-      (behind_leaves c.args.upto.0 old (view_of c.watch.new.seated) lock word
+      (behind_leaves c.args.upto.0 old (view_of c.watch.new.seated) lock.0 word
       (c.watch.ensures.behind lock word is))
 
-  all_seen : (bound : ℕ) → c.watch.result ≡ Watched.Finished bound
+  all_seen : (bound : Lsn) → c.watch.result ≡ Watched.Finished bound
       → Watches c.args.seated.now c.watch.new.seated
   all_seen bound is = watches c.args.seated.now c.watch.new.seated c.watch.ensures.stays
-      (finished_leaves c.args.upto.0 old (view_of c.watch.new.seated) bound
+      (finished_leaves c.args.upto.0 old (view_of c.watch.new.seated) bound.0
       (c.watch.ensures.finished bound is))
 
-  all_passed : (bound : ℕ) → c.watch.result ≡ Watched.Finished bound
+  all_passed : (bound : Lsn) → c.watch.result ≡ Watched.Finished bound
       → HasPassedLocks c.args.upto.0 (view_of c.watch.new.seated)
   all_passed bound is =
       let done = c.watch.ensures.finished bound is in
-      passed_locks c.args.upto.0 old (view_of c.watch.new.seated) bound done
-      (reached c.args.upto.0 old (view_of c.watch.new.seated) bound done size reserved)
+      passed_locks c.args.upto.0 old (view_of c.watch.new.seated) bound.0 done
+      (reached c.args.upto.0 old (view_of c.watch.new.seated) bound.0 done size reserved)
 
 -- ---- a lock held the watch back
 
@@ -60,7 +62,7 @@ returns-in-Behind-clause-tries g c =
     let same = left.flushed in (
       (
         behind_word c.args.upto.0 (view_of c.args.seated.now) (view_of c.watch.new.seated)
-            c.in-Behind.lock c.in-Behind.word
+            c.in-Behind.lock.0 c.in-Behind.word
             (c.watch.ensures.behind c.in-Behind.lock c.in-Behind.word c.in-Behind.is),
         is_to_be_flushed c.args.upto.0 (view_of c.args.seated.now) (view_of c.watch.new.seated)
             (size g at) (reserved g at) left.work.pass (omega (arith, above, same))
@@ -127,13 +129,13 @@ pub harden_in_turn-requires-clause-known : goal.harden_in_turn-requires-clause-k
 harden_in_turn-requires-clause-known g c =
     sym (c.in_ok-take_ready.ensures.ready.1
     ∙ copied_is c.args.upto.0 (view_of c.args.seated.now) (view_of c.watch.new.seated)
-    c.in-Finished.upto (c.watch.ensures.finished c.in-Finished.upto c.in-Finished.is))
+    c.in-Finished.upto.0 (c.watch.ensures.finished c.in-Finished.upto c.in-Finished.is))
 
 pub harden_in_turn-requires-clause-reaches : goal.harden_in_turn-requires-clause-reaches
 harden_in_turn-requires-clause-reaches g c =
     let at = (goal.at.harden_in_turn-requires-clause-reaches g c).After-watch in
     reached c.args.upto.0 (view_of c.args.seated.now) (view_of c.watch.new.seated)
-    c.in-Finished.upto (c.watch.ensures.finished c.in-Finished.upto c.in-Finished.is)
+    c.in-Finished.upto.0 (c.watch.ensures.finished c.in-Finished.upto c.in-Finished.is)
     (size g at) (reserved g at)
 
 pub harden_in_turn-requires-clause-reserved : goal.harden_in_turn-requires-clause-reserved

@@ -5,8 +5,7 @@ use mathlib.Core.Option.{none}
 use Rattle.machine_state.specs.Views.{View}
 use Rattle.wal_rule.specs.SeatedPasses.{view_of}
 use Rattle.wal_rule.specs.Stepping.{Meets}
-use Rattle.wal_log.specs.declared.fault.Fault.TheVariants.{Down}
-use Rattle.wal_log.specs.declared.flushing.TryFlushErr.TheVariants.{Fault}
+use Rattle.wal_log.specs.declared.flushing.TryFlushErr.TheVariants.{Down}
 use Rattle.wal_log.specs.Flushing.{view_looked}
 use Rattle.wal_log.specs.PassLogs.{log_of_pass}
 use Rattle.wal_log.specs.Standing.{KeepsWork}
@@ -33,7 +32,7 @@ module _ (g : Over) (c : After-load_down-faults g) where
 
 pub returns-then-faults-ne0-clause-down_again : goal.returns-then-faults-ne0-clause-down_again
 returns-then-faults-ne0-clause-down_again g c = λ faults knows.
-    ap (λ (n : ℕ). Err (Fault (Down n))) (c.load_down-faults.ensures.known faults knows)
+    ap (λ (n : ℕ). Err (Down n)) (c.load_down-faults.ensures.known faults knows)
 
 pub returns-then-faults-ne0-clause-rests : goal.returns-then-faults-ne0-clause-rests
 returns-then-faults-ne0-clause-rests g c =

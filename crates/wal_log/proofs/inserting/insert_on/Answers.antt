@@ -51,8 +51,8 @@ land_and_make_room-requires-clause-copies g c =
     let begun = c.in_ok-begun.ensures.begins in
     let stays = c.begin.ensures.goes_on.stays in record {
       some = omega arith;
-      are = one_lock c.in_ok-begun.begun.lock begun.lock_low;
-      under = subst (λ (s : Setup). CopiesUnder s (c.in_ok-begun.begun.lock ∷ [])
+      are = one_lock c.in_ok-begun.begun.lock.0 begun.lock_low;
+      under = subst (λ (s : Setup). CopiesUnder s (c.in_ok-begun.begun.lock.0 ∷ [])
           c.in_ok-begun.begun.placed (view_of c.begin.new.seated))
           (sym (same_setup c.args.seated.now c.begin.new.seated stays.same_table))
           begun.place.copies;

@@ -5,7 +5,7 @@ use Rattle.wal_page.specs.Order.{Entry}
 use Rattle.wal_page.specs.Placed.{placed_end}
 use Rattle.machine_state.specs.Views.{View}
 use Rattle.wal_rule.specs.SeatedPasses.{setup_of, view_of}
-use Rattle.insert_locks.specs.Holding.{locks_of}
+use Rattle.wal_log.specs.HeldLocks.{locks_of}
 use Rattle.wal_log.specs.Standing.{KeepsPass, entry_in_flight}
 use Rattle.wal_log.proofs.CopyLaws.{alone_whole}
 use Rattle.wal_log.proofs.Keeping.{same_pass}
@@ -27,20 +27,20 @@ module _ (g : Over) (c : After-copy_whole g) where
       c.copy_whole.new.placed c.copy_whole.ensures.copies c.args.placed.now
       c.copy_whole.ensures.copies_on.place
 
-pub release-requires-clause-locks : goal.release-requires-clause-locks
-release-requires-clause-locks g c = c.copy_whole.ensures.copies.are
+pub release_held-requires-clause-locks : goal.release_held-requires-clause-locks
+release_held-requires-clause-locks g c = c.copy_whole.ensures.copies.are
 
-pub release-requires-clause-holds : goal.release-requires-clause-holds
-release-requires-clause-holds g c =
+pub release_held-requires-clause-holds : goal.release_held-requires-clause-holds
+release_held-requires-clause-holds g c =
     locks_under (setup_of c.copy_whole.new.seated) (locks_of c.args.held)
     c.copy_whole.new.placed (view_of c.copy_whole.new.seated) c.copy_whole.ensures.copies.under
 
-pub release-requires-clause-left : goal.release-requires-clause-left
-release-requires-clause-left g c =
+pub release_held-requires-clause-left : goal.release_held-requires-clause-left
+release_held-requires-clause-left g c =
     let copied = c.copy_whole.ensures in
     none_left (setup_of c.copy_whole.new.seated) (locks_of c.args.held) c.copy_whole.new.placed
     (view_of c.copy_whole.new.seated) copied.copies.under copied.copies.some
-    (all_copied g (goal.at.release-requires-clause-left g c).After-copy_whole
+    (all_copied g (goal.at.release_held-requires-clause-left g c).After-copy_whole
     c.in-Ok.ensures.ends.0)
 
 pub give_up-requires : goal.give_up-requires
@@ -58,17 +58,17 @@ pub returns-in-Ok-clause-lands : goal.returns-in-Ok-clause-lands
 returns-in-Ok-clause-lands g c =
     let copied = c.copy_whole.ensures in
     let v : View = view_of c.copy_whole.new.seated in
-    let landed : view_of c.release.new.seated ≡ rested v = view_is c.release.ensures.view in
+    let landed : view_of c.release_held.new.seated ≡ rested v = view_is c.release_held.ensures.view in
     λ (e : Entry) (flies : entry_in_flight (view_of c.args.seated.now) ≡ some e). (
       copies_whole (setup_of c.copy_whole.new.seated) (locks_of c.args.held)
-          c.copy_whole.new.placed (view_of c.args.seated.now) v (view_of c.release.new.seated)
+          c.copy_whole.new.placed (view_of c.args.seated.now) v (view_of c.release_held.new.seated)
           copied.copies.under c.copy_whole.new.seated.seated.stands
           (all_copied g (goal.at.returns-in-Ok-clause-lands g c).After-copy_whole
           c.in-Ok.ensures.ends.0) e (copied.copies_on.entry ∙ flies)
           copied.copies_on.goes_on.keeps
           (subst (KeepsPass v) (sym landed) (rested_keeps v v (same_pass v))),
       landed_up (setup_of c.copy_whole.new.seated) (locks_of c.args.held)
-          c.copy_whole.new.placed (view_of c.args.seated.now) v (view_of c.release.new.seated)
+          c.copy_whole.new.placed (view_of c.args.seated.now) v (view_of c.release_held.new.seated)
           copied.copies.under landed c.in-Ok.ensures.ends.1,
     )
 
@@ -76,10 +76,10 @@ pub returns-in-Ok-clause-last : goal.returns-in-Ok-clause-last
 returns-in-Ok-clause-last g c =
     let copied = c.copy_whole.ensures in
     let v : View = view_of c.copy_whole.new.seated in
-    let landed : view_of c.release.new.seated ≡ rested v = view_is c.release.ensures.view in
+    let landed : view_of c.release_held.new.seated ≡ rested v = view_is c.release_held.ensures.view in
     λ (e : Entry) (flies : entry_in_flight (view_of c.args.seated.now) ≡ some e).
     copies_last (setup_of c.copy_whole.new.seated) (locks_of c.args.held)
-    c.copy_whole.new.placed (view_of c.args.seated.now) v (view_of c.release.new.seated)
+    c.copy_whole.new.placed (view_of c.args.seated.now) v (view_of c.release_held.new.seated)
     copied.copies.under c.copy_whole.new.seated.seated.stands
     (all_copied g (goal.at.returns-in-Ok-clause-last g c).After-copy_whole
     c.in-Ok.ensures.ends.0) e (copied.copies_on.entry ∙ flies)
@@ -90,28 +90,28 @@ pub returns-in-Ok-clause-log : goal.returns-in-Ok-clause-log
 returns-in-Ok-clause-log g c =
     let copied = c.copy_whole.ensures in
     landed_log (setup_of c.copy_whole.new.seated) (locks_of c.args.held) c.copy_whole.new.placed
-    (view_of c.args.seated.now) (view_of c.copy_whole.new.seated) (view_of c.release.new.seated)
-    copied.copies.under (view_is c.release.ensures.view) copied.copies_on.log
+    (view_of c.args.seated.now) (view_of c.copy_whole.new.seated) (view_of c.release_held.new.seated)
+    copied.copies.under (view_is c.release_held.ensures.view) copied.copies_on.log
 
 pub returns-in-Ok-clause-rests : goal.returns-in-Ok-clause-rests
 returns-in-Ok-clause-rests g c =
     let copied = c.copy_whole.ensures in
     let v : View = view_of c.copy_whole.new.seated in record {
-      same_table = c.release.ensures.view.same_table
+      same_table = c.release_held.ensures.view.same_table
           ∙ copied.copies_on.goes_on.stays.same_table;
       keeps = landed_keeps (setup_of c.copy_whole.new.seated) (locks_of c.args.held)
-          c.copy_whole.new.placed (view_of c.args.seated.now) v (view_of c.release.new.seated)
-          copied.copies.under (view_is c.release.ensures.view) copied.copies_on.goes_on.keeps;
+          c.copy_whole.new.placed (view_of c.args.seated.now) v (view_of c.release_held.new.seated)
+          copied.copies.under (view_is c.release_held.ensures.view) copied.copies_on.goes_on.keeps;
       rests = record {
         rests = landed_is_rest (setup_of c.copy_whole.new.seated) (locks_of c.args.held)
             c.copy_whole.new.placed (view_of c.args.seated.now) v
-            (view_of c.release.new.seated) copied.copies.under (view_is c.release.ensures.view);
-        empty = hand_is c.release.ensures.view ∙ copied.copies.empty;
+            (view_of c.release_held.new.seated) copied.copies.under (view_is c.release_held.ensures.view);
+        empty = hand_is c.release_held.ensures.view ∙ copied.copies.empty;
       };
     }
 
 pub returns-in-Ok-clause-async_met : goal.returns-in-Ok-clause-async_met
-returns-in-Ok-clause-async_met g c = ap (λ (v : View). v.async_met) (view_is c.release.ensures.view)
+returns-in-Ok-clause-async_met g c = ap (λ (v : View). v.async_met) (view_is c.release_held.ensures.view)
     ∙ c.copy_whole.ensures.copies_on.goes_on.async
 
 -- ---- it was given up

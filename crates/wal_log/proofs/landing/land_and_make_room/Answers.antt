@@ -4,7 +4,7 @@ use mathlib.Core.Option.{some}
 use Rattle.wal_page.specs.Order.{Entry}
 use Rattle.machine_state.specs.declared.setup.Setup.{Setup}
 use Rattle.wal_rule.specs.SeatedPasses.{setup_of, view_of}
-use Rattle.insert_locks.specs.Holding.{locks_of}
+use Rattle.wal_log.specs.HeldLocks.{locks_of}
 use Rattle.wal_log.specs.Room.{MakesRoom, page_ahead}
 use Rattle.wal_log.specs.Standing.{entry_in_flight}
 use Rattle.wal_log.proofs.CopyLaws.{alone_low}

@@ -24,5 +24,5 @@ loop-look-preserved g c =
       made = made_on c.args.seated.now c.loop-look.seated c.write_copied.new.seated
           c.loop-look.invariant.made c.write_copied.ensures.adds_nothing
           c.write_copied.ensures.rests told.1;
-      met = λ _. (c.in-Err-Behind.field-0-0, c.in-Err-Behind.field-0-1, told.0);
+      met = λ _. (c.in-Err-Behind.field-0-0.0, c.in-Err-Behind.field-0-1, told.0);
     }

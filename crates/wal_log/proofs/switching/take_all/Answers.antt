@@ -1,7 +1,6 @@
 use Rattle.std.proofs.Common.{◌≡◌, ◌+◌, ℕ, [], subst, arith}
 use Rattle.wal_rule.specs.SeatedPasses.{view_of}
 use Rattle.insert_locks.specs.Holding.{lock_run}
-use Rattle.insert_locks.proofs.Runs.{run_locks}
 use Rattle.wal_log.specs.Switching.{HoldsOn}
 use Rattle.wal_log.proofs.SwitchLaws.{first_holds, further_holds}
 use Rattle.wal_log.proofs.Unlocking.{locks_held}
@@ -25,12 +24,8 @@ loop-count-preserved g c =
       up = takes.1;
     }
 
-pub release-requires-clause-locks : goal.release-requires-clause-locks
-release-requires-clause-locks g c =
-    run_locks c.loop-count.count c.loop-count.invariant.few
-
-pub release-requires-clause-holds : goal.release-requires-clause-holds
-release-requires-clause-holds g c = locks_held (lock_run 0 c.loop-count.count)
+pub release_below-requires-clause-holds : goal.release_below-requires-clause-holds
+release_below-requires-clause-holds g c = locks_held (lock_run 0 c.loop-count.count)
     (view_of c.take_next.new.seated) c.in-Err.ensures.takes.0.has
 
 pub returns : goal.returns

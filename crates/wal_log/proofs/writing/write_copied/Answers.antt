@@ -2,6 +2,8 @@ use Rattle.std.proofs.Common.{◌≡◌, ℕ, sym, ap, ◌∙◌}
 use Rattle.std.proofs.lemmas.Result.{err_from_is_err_and}
 use Rattle.machine_state.specs.Views.{Idle, View}
 use Rattle.wal_rule.specs.SeatedPasses.{view_of}
+use Rattle.wal_types.specs.declared.lsn.Lsn.{Lsn}
+use Rattle.insert_locks.specs.declared.numbers.LockNo.{LockNo}
 use Rattle.insert_locks.specs.declared.watching.Watched.{Watched}
 use Rattle.wal_log.specs.Downs.{KnowsNoFault}
 use Rattle.wal_log.specs.Hands.{TellsTurnErr}
@@ -20,16 +22,16 @@ use Rattle.wal_log.proofs.writing.write_copied.Goals.{After-give_back, After-tak
 -- ---- behind the watch
 
 module _ (g : Over) (c : After-watch g) where
-  behind : (lock word : ℕ) → c.watch.result ≡ Watched.Behind lock word
+  behind : (lock : LockNo) (word : ℕ) → c.watch.result ≡ Watched.Behind lock word
       → Watches c.args.seated.now c.watch.new.seated
   behind lock word is = watches c.args.seated.now c.watch.new.seated c.watch.ensures.stays
-      (behind_leaves c.args.upto (view_of c.args.seated.now) (view_of c.watch.new.seated) lock word
+      (behind_leaves c.args.upto (view_of c.args.seated.now) (view_of c.watch.new.seated) lock.0 word
       (c.watch.ensures.behind lock word is))
 
-  all_seen : (bound : ℕ) → c.watch.result ≡ Watched.Finished bound
+  all_seen : (bound : Lsn) → c.watch.result ≡ Watched.Finished bound
       → Watches c.args.seated.now c.watch.new.seated
   all_seen bound is = watches c.args.seated.now c.watch.new.seated c.watch.ensures.stays
-      (finished_leaves c.args.upto (view_of c.args.seated.now) (view_of c.watch.new.seated) bound
+      (finished_leaves c.args.upto (view_of c.args.seated.now) (view_of c.watch.new.seated) bound.0
       (c.watch.ensures.finished bound is))
 
 pub returns-in-Behind-clause-adds_nothing : goal.returns-in-Behind-clause-adds_nothing
@@ -45,7 +47,7 @@ returns-in-Behind-clause-rests g c = still_no_turn c.args.seated.now c.watch.new
 pub returns-in-Behind-clause-ends : goal.returns-in-Behind-clause-ends
 returns-in-Behind-clause-ends g c = (
   behind_word c.args.upto (view_of c.args.seated.now) (view_of c.watch.new.seated)
-      c.in-Behind.lock c.in-Behind.word
+      c.in-Behind.lock.0 c.in-Behind.word
       (c.watch.ensures.behind c.in-Behind.lock c.in-Behind.word c.in-Behind.is),
   (behind g (goal.at.returns-in-Behind-clause-ends g c).After-watch
       c.in-Behind.lock c.in-Behind.word c.in-Behind.is).leaves.up c.requires.up,
@@ -101,7 +103,7 @@ write_known-requires-clause-known g c =
     let done = c.watch.ensures.finished c.in-Finished.upto c.in-Finished.is in
     sym (c.in_ok-take_ready.ensures.ready.1
     ∙ copied_is c.args.upto (view_of c.args.seated.now) (view_of c.watch.new.seated)
-    c.in-Finished.upto done)
+    c.in-Finished.upto.0 done)
 
 module _ (g : Over) (c : After-write_known g)
     (before : AddsNothing c.args.seated.now c.take_ready.new.seated) where
@@ -147,7 +149,7 @@ returns-clause-ends g c =
     let adds = adds_on c.watch.new.seated c.take_ready.new.seated c.write_known.new.seated
     c.take_ready.ensures.adds_nothing c.write_known.ensures.adds_nothing in (
       record {
-        bound = c.in-Finished.upto;
+        bound = c.in-Finished.upto.0;
         asked = view_of c.args.seated.now;
         since = same_pass (view_of c.args.seated.now);
         watched = view_of c.watch.new.seated;

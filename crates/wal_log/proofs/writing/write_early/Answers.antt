@@ -2,7 +2,8 @@ use Rattle.std.proofs.Common.{◌≡◌, ℕ, List, MatchResult, Result, Ok, Err
 use Rattle.machine_state.specs.Views.{View}
 use Rattle.wal_rule.specs.declared.seated.SeatedPass.{SeatedPass}
 use Rattle.wal_rule.specs.SeatedPasses.{view_of}
-use Rattle.insert_locks.specs.Holding.{HasTold, locks_of}
+use Rattle.insert_locks.specs.Holding.{HasTold}
+use Rattle.wal_log.specs.HeldLocks.{locks_of}
 use Rattle.wal_log.specs.Downs.{KnowsNoFault}
 use Rattle.wal_log.specs.PassLogs.{log_of_pass}
 use Rattle.wal_log.specs.Standing.{AddsNothing, HasNoTurn, KeepsWork}

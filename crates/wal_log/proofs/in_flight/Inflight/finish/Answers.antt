@@ -1,6 +1,5 @@
 use Rattle.std.proofs.Common.{◌≡◌, refl, arith}
 use Rattle.wal_page.specs.Placed.{placed_end}
-use Rattle.insert_locks.proofs.Runs.{one_lock}
 use Rattle.wal_log.proofs.FlightLaws.{flight_ended, flight_finishes, flight_locks, flight_whole}
 use Rattle.wal_log.proofs.in_flight.Inflight.finish.Given.{Over}
 use Rattle.wal_log.proofs.in_flight.Inflight.finish.Goals as goal
@@ -15,9 +14,8 @@ ended g c =
     flight_ended c.args.wal.now c.args.self c.requires.flight c.seat-seated.result
     c.seat-seated.ensures.view c.seat-seated.ensures.table (omega (arith, far, next, end))
 
-pub release-requires-clause-locks : goal.release-requires-clause-locks
-release-requires-clause-locks g c =
-    one_lock c.args.self.begun.lock c.requires.flight.lock_low
+pub release-requires-clause-lock : goal.release-requires-clause-lock
+release-requires-clause-lock g c = c.requires.flight.lock_low
 
 pub release-requires-clause-holds : goal.release-requires-clause-holds
 release-requires-clause-holds g c = flight_locks c.args.wal.now c.args.self c.requires.flight
