@@ -10,7 +10,7 @@ ghost use Rattle.wal_rule.specs.Passes.{view_of_pass};
 ghost use Rattle.machine_state.specs.Steps.{IsResting};
 ghost use Rattle.wal_rule.specs.Tables.{IsPassOn, IsSeatOn, began_of_table, opening_of_table};
 
-use crate::memory::POSITION;
+use crate::memory::POSITION_PLACE;
 use crate::pass::Pass;
 use crate::table::{LogSeat, LogTable};
 use crate::writer::LogWriter;
@@ -29,7 +29,7 @@ impl<D: Disk> LogTable<D> {
     {
         let LogTable { table, shape: _ } = self;
         let mut closed = table.close_with(seat);
-        let position = closed.word(POSITION);
+        let position = closed.word(POSITION_PLACE);
         let writer = closed.take(0);
         closed.free();
         (writer, position)

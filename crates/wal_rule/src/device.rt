@@ -14,7 +14,7 @@ ghost use Rattle.wal_rule.specs.Ruled.{HasInHand};
 ghost use Rattle.machine_state.specs.Views.{Lent};
 ghost use Rattle.wal_rule.specs.SeatedPasses.{Steps, began_of, opening_of, view_of};
 
-use crate::memory::WRITE_TURN;
+use crate::memory::WRITE_TURN_PLACE;
 use crate::plays::{CatchesUp, OfCall};
 use crate::seated::SeatedPass;
 use byte_position::Page;
@@ -100,6 +100,6 @@ impl<'a, D: Disk> SeatedPass<'a, D> {
         self.table
             .table
             .shared
-            .load::<CatchesUp<D, B>>(&mut self.seat, WRITE_TURN);
+            .load::<CatchesUp<D, B>>(&mut self.seat, WRITE_TURN_PLACE);
     }
 }

@@ -11,7 +11,7 @@ ghost use Rattle.machine_state.specs.Steps.{clear_end, load_initialised_end, pub
 ghost use Rattle.wal_rule.specs.Stepping.{Meets};
 ghost use Rattle.wal_rule.specs.SeatedPasses.{Steps, view_of};
 
-use crate::memory::{INITIALISED_END, MAPPING_TURN, place_behind};
+use crate::memory::{INITIALISED_END_PLACE, MAPPING_TURN_PLACE, place_behind};
 use crate::plays::OfKind;
 use crate::quiet::NO_OPERANDS;
 use crate::seated::SeatedPass;
@@ -68,7 +68,12 @@ impl<'a, D: Disk> SeatedPass<'a, D> {
         ensures steps { Steps take_mapping_turn result self.old self.new }
         ensures met { Meets (view_of self.old) take_mapping_turn result }
     {
-        self.exchanges::<TakesMappingTurn>(MAPPING_TURN, 0, u64::from(self.number) + 1, NO_OPERANDS)
+        self.exchanges::<TakesMappingTurn>(
+            MAPPING_TURN_PLACE,
+            0,
+            u64::from(self.number) + 1,
+            NO_OPERANDS,
+        )
     }
 
     /// The address below which each page has been mapped. Anybody may load it; to who has just
@@ -77,7 +82,7 @@ impl<'a, D: Disk> SeatedPass<'a, D> {
         ensures steps { Steps load_initialised_end result self.old self.new }
         ensures met { Meets (view_of self.old) load_initialised_end result }
     {
-        self.loads::<LoadsInitialisedEnd>(INITIALISED_END, NO_OPERANDS)
+        self.loads::<LoadsInitialisedEnd>(INITIALISED_END_PLACE, NO_OPERANDS)
     }
 
     /// Clears the end word of the page's buffer, by its number among all words: the page that it
@@ -121,7 +126,7 @@ impl<'a, D: Disk> SeatedPass<'a, D> {
         requires value { page_end ≡ value_behind (view_of self.old) publish_initialised_end 0 }
         ensures steps { Steps publish_initialised_end 0 self.old self.new }
     {
-        self.stores::<PublishesInitialisedEnd>(INITIALISED_END, page_end, NO_OPERANDS);
+        self.stores::<PublishesInitialisedEnd>(INITIALISED_END_PLACE, page_end, NO_OPERANDS);
     }
 
     /// Gives the turn to map back, before anything was changed or once the page is there.
@@ -129,6 +134,6 @@ impl<'a, D: Disk> SeatedPass<'a, D> {
         requires may { MayStep (view_of self.old) release_mapping_turn }
         ensures steps { Steps release_mapping_turn 0 self.old self.new }
     {
-        self.stores::<ReleasesMappingTurn>(MAPPING_TURN, 0, NO_OPERANDS);
+        self.stores::<ReleasesMappingTurn>(MAPPING_TURN_PLACE, 0, NO_OPERANDS);
     }
 }

@@ -10,10 +10,10 @@ ghost use Rattle.wal_rule.specs.WordPlaces.{first_end_place, place_of_word, plac
 use std::alloc::{AllocError, Global};
 
 /// The byte position up to which records are reserved.
-pub const POSITION: usize = 0;
+pub const POSITION_PLACE: usize = 0;
 
 /// The address at which the last reserved record starts: stored together with the position.
-pub const LAST_START: usize = 1;
+pub const LAST_START_PLACE: usize = 1;
 
 // The first of the insertion locks, and how far apart they are: as many words as two lines have.
 const FIRST_LOCK: usize = 16;
@@ -21,30 +21,30 @@ const FIRST_LOCK: usize = 16;
 const LOCK_STRIDE: usize = 16;
 
 /// Who has the turn to map a page.
-pub const MAPPING_TURN: usize = 144;
+pub const MAPPING_TURN_PLACE: usize = 144;
 
 /// Who has the turn to write.
-pub const WRITE_TURN: usize = 160;
+pub const WRITE_TURN_PLACE: usize = 160;
 
 /// The address below which each page has been mapped.
-pub const INITIALISED_END: usize = 176;
+pub const INITIALISED_END_PLACE: usize = 176;
 
 /// The address below which the log is written.
-pub const WRITTEN: usize = 192;
+pub const WRITTEN_PLACE: usize = 192;
 
 /// The address below which the log is durable.
-pub const FLUSHED: usize = 208;
+pub const FLUSHED_PLACE: usize = 208;
 
 /// The disk's moment when the last flush had ended: stored together with the flushed address.
-pub const MOMENT: usize = 209;
+pub const MOMENT_PLACE: usize = 209;
 
 /// The disk's count of faults, where it has failed.
-pub const DOWN: usize = 224;
+pub const DOWN_PLACE: usize = 224;
 
 // The words before the buffers' ends, in the order of their numbers.
 const FIRST_PLACES: [usize; 17] = [
-    POSITION,
-    LAST_START,
+    POSITION_PLACE,
+    LAST_START_PLACE,
     16,
     32,
     48,
@@ -53,13 +53,13 @@ const FIRST_PLACES: [usize; 17] = [
     96,
     112,
     128,
-    MAPPING_TURN,
-    WRITE_TURN,
-    INITIALISED_END,
-    WRITTEN,
-    FLUSHED,
-    MOMENT,
-    DOWN,
+    MAPPING_TURN_PLACE,
+    WRITE_TURN_PLACE,
+    INITIALISED_END_PLACE,
+    WRITTEN_PLACE,
+    FLUSHED_PLACE,
+    MOMENT_PLACE,
+    DOWN_PLACE,
 ];
 
 // How much further on than its number a word lies, from the first buffer's end on.

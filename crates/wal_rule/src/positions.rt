@@ -16,7 +16,9 @@ ghost use Rattle.wal_rule.specs.Downs.{KnowsDown};
 ghost use Rattle.wal_rule.specs.Stepping.{Meets};
 ghost use Rattle.wal_rule.specs.SeatedPasses.{Steps, opening_of, view_of};
 
-use crate::memory::{DOWN, FLUSHED, MOMENT, POSITION, WRITTEN, place_behind};
+use crate::memory::{
+    DOWN_PLACE, FLUSHED_PLACE, MOMENT_PLACE, POSITION_PLACE, WRITTEN_PLACE, place_behind,
+};
 use crate::plays::OfKind;
 use crate::quiet::{NO_OPERANDS, Operands};
 use crate::seated::SeatedPass;
@@ -94,7 +96,7 @@ impl<'a, D: Disk> SeatedPass<'a, D> {
         ensures rises { (view_of self.old).reserving.seen ≤ unlocked result }
         ensures low { result < 2 ^ 60 }
     {
-        self.loads::<LoadsPosition>(POSITION, NO_OPERANDS)
+        self.loads::<LoadsPosition>(POSITION_PLACE, NO_OPERANDS)
     }
 
     /// The written address.
@@ -102,7 +104,7 @@ impl<'a, D: Disk> SeatedPass<'a, D> {
         ensures steps { Steps load_written result self.old self.new }
         ensures met { Meets (view_of self.old) load_written result }
     {
-        self.loads::<LoadsWritten>(WRITTEN, NO_OPERANDS)
+        self.loads::<LoadsWritten>(WRITTEN_PLACE, NO_OPERANDS)
     }
 
     /// The flushed address. The pass was promised nothing beyond it.
@@ -113,7 +115,7 @@ impl<'a, D: Disk> SeatedPass<'a, D> {
         ensures furthest { All (λ (p : FlushPromise). p.upto ≤ result)
             (view_of self.old).writing.promises }
     {
-        self.loads::<LoadsFlushed>(FLUSHED, NO_OPERANDS)
+        self.loads::<LoadsFlushed>(FLUSHED_PLACE, NO_OPERANDS)
     }
 
     /// The disk's moment when the last flush had ended. The pass was promised nothing of a later
@@ -126,7 +128,7 @@ impl<'a, D: Disk> SeatedPass<'a, D> {
         ensures latest { All (λ (p : FlushPromise). p.moment ≤ result)
             (view_of self.old).writing.promises }
     {
-        self.loads::<LoadsMoment>(MOMENT, NO_OPERANDS)
+        self.loads::<LoadsMoment>(MOMENT_PLACE, NO_OPERANDS)
     }
 
     /// The disk's count of faults where it has failed, else 0. It is the count that the pass knows,
@@ -137,7 +139,7 @@ impl<'a, D: Disk> SeatedPass<'a, D> {
         ensures known { (faults : ℕ) → KnowsDown faults (view_of self.old) → result ≡ faults }
         ensures rose { result ≢ 0 → Rose (opening_of self.old).faults result }
     {
-        self.loads::<LoadsDown>(DOWN, NO_OPERANDS)
+        self.loads::<LoadsDown>(DOWN_PLACE, NO_OPERANDS)
     }
 
     /// The address up to which commits are answered that may not be durable yet. The pass counts on
@@ -169,7 +171,7 @@ impl<'a, D: Disk> SeatedPass<'a, D> {
         requires value { written ≡ value_behind (view_of self.old) store_written 0 }
         ensures steps { Steps store_written 0 self.old self.new }
     {
-        self.stores::<StoresWritten>(WRITTEN, written, NO_OPERANDS);
+        self.stores::<StoresWritten>(WRITTEN_PLACE, written, NO_OPERANDS);
     }
 
     /// Stores the disk's moment, behind which all that is written is durable: the writer has met no
@@ -179,7 +181,7 @@ impl<'a, D: Disk> SeatedPass<'a, D> {
         requires value { moment ≡ value_behind (view_of self.old) store_moment 0 }
         ensures steps { Steps store_moment 0 self.old self.new }
     {
-        self.stores::<StoresMoment>(MOMENT, moment, NO_OPERANDS);
+        self.stores::<StoresMoment>(MOMENT_PLACE, moment, NO_OPERANDS);
     }
 
     /// Stores as flushed what is durable from the moment on that was stored, which is all that is
@@ -189,7 +191,7 @@ impl<'a, D: Disk> SeatedPass<'a, D> {
         requires value { flushed ≡ value_behind (view_of self.old) store_flushed 0 }
         ensures steps { Steps store_flushed 0 self.old self.new }
     {
-        self.stores::<StoresFlushed>(FLUSHED, flushed, NO_OPERANDS);
+        self.stores::<StoresFlushed>(FLUSHED_PLACE, flushed, NO_OPERANDS);
     }
 
     /// Stores the disk's count of faults, which the writer in hand has met: from now on no call of
@@ -199,7 +201,7 @@ impl<'a, D: Disk> SeatedPass<'a, D> {
         requires value { faults ≡ value_behind (view_of self.old) set_down 0 }
         ensures steps { Steps set_down 0 self.old self.new }
     {
-        self.stores::<SetsDown>(DOWN, faults, NO_OPERANDS);
+        self.stores::<SetsDown>(DOWN_PLACE, faults, NO_OPERANDS);
     }
 }
 

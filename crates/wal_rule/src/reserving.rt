@@ -13,7 +13,7 @@ ghost use Rattle.machine_state.specs.Steps.{give_position_back, load_prev, lock_
 ghost use Rattle.wal_rule.specs.Stepping.{Meets};
 ghost use Rattle.wal_rule.specs.SeatedPasses.{Steps, view_of};
 
-use crate::memory::{LAST_START, POSITION};
+use crate::memory::{LAST_START_PLACE, POSITION_PLACE};
 use crate::plays::OfKind;
 use crate::quiet::NO_OPERANDS;
 use crate::seated::SeatedPass;
@@ -46,7 +46,7 @@ impl<'a, D: Disk> SeatedPass<'a, D> {
         ensures steps { Steps (lock_position expected) result self.old self.new }
         ensures met { Meets (view_of self.old) (lock_position expected) result }
     {
-        self.exchanges::<Brand>(POSITION, expected, expected + 1, NO_OPERANDS)
+        self.exchanges::<Brand>(POSITION_PLACE, expected, expected + 1, NO_OPERANDS)
     }
 
     /// The address at which the last reserved record starts, 0 where there is none. The pass has
@@ -55,7 +55,7 @@ impl<'a, D: Disk> SeatedPass<'a, D> {
         requires may { MayStep (view_of self.old) load_prev }
         ensures steps { Steps load_prev result self.old self.new }
     {
-        self.loads::<LoadsPrev>(LAST_START, NO_OPERANDS)
+        self.loads::<LoadsPrev>(LAST_START_PLACE, NO_OPERANDS)
     }
 
     /// Stores, for the next record, the address at which this one starts: that of the position that
@@ -65,7 +65,7 @@ impl<'a, D: Disk> SeatedPass<'a, D> {
         requires value { start ≡ value_behind (view_of self.old) store_prev 0 }
         ensures steps { Steps store_prev 0 self.old self.new }
     {
-        self.stores::<StoresPrev>(LAST_START, start, NO_OPERANDS);
+        self.stores::<StoresPrev>(LAST_START_PLACE, start, NO_OPERANDS);
     }
 
     /// Stores the byte position behind the record, and so reserves its place. The locks under which
@@ -79,7 +79,7 @@ impl<'a, D: Disk> SeatedPass<'a, D> {
         requires value { position ≡ value_behind (view_of self.old) K.kind 0 }
         ensures steps { Steps K.kind 0 self.old self.new }
     {
-        self.stores::<K>(POSITION, position, NO_OPERANDS);
+        self.stores::<K>(POSITION_PLACE, position, NO_OPERANDS);
     }
 
     /// Stores the position as it was before it was locked, where too few bytes are left for the
@@ -91,7 +91,7 @@ impl<'a, D: Disk> SeatedPass<'a, D> {
         requires value { position ≡ value_behind (view_of self.old) K.kind 0 }
         ensures steps { Steps K.kind 0 self.old self.new }
     {
-        self.stores::<K>(POSITION, position, NO_OPERANDS);
+        self.stores::<K>(POSITION_PLACE, position, NO_OPERANDS);
     }
 
     /// Stores the position as it was before it was locked, where the log stands at a segment's
@@ -102,6 +102,6 @@ impl<'a, D: Disk> SeatedPass<'a, D> {
         requires value { position ≡ value_behind (view_of self.old) stay 0 }
         ensures steps { Steps stay 0 self.old self.new }
     {
-        self.stores::<Stays>(POSITION, position, NO_OPERANDS);
+        self.stores::<Stays>(POSITION_PLACE, position, NO_OPERANDS);
     }
 }

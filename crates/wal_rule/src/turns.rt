@@ -13,7 +13,7 @@ ghost use Rattle.machine_state.specs.Views.{Lent};
 ghost use Rattle.wal_rule.specs.Stepping.{Meets};
 ghost use Rattle.wal_rule.specs.SeatedPasses.{Steps, began_of, hand_of, opening_of, view_of};
 
-use crate::memory::WRITE_TURN;
+use crate::memory::WRITE_TURN_PLACE;
 use crate::plays::{BeganOn, OfKind, SlotIn, SlotOut};
 use crate::quiet::NO_OPERANDS;
 use crate::seated::SeatedPass;
@@ -40,7 +40,12 @@ impl<'a, D: Disk> SeatedPass<'a, D> {
         ensures steps { Steps take_write_turn result self.old self.new }
         ensures met { Meets (view_of self.old) take_write_turn result }
     {
-        self.exchanges::<TakesWriteTurn>(WRITE_TURN, 0, u64::from(self.number) + 1, NO_OPERANDS)
+        self.exchanges::<TakesWriteTurn>(
+            WRITE_TURN_PLACE,
+            0,
+            u64::from(self.number) + 1,
+            NO_OPERANDS,
+        )
     }
 
     /// Takes the writer out of its slot. The pass has the turn to write. It is the log's writer, as
@@ -67,7 +72,7 @@ impl<'a, D: Disk> SeatedPass<'a, D> {
         self.table
             .table
             .shared
-            .load::<SlotOut<D, B>>(&mut self.seat, WRITE_TURN);
+            .load::<SlotOut<D, B>>(&mut self.seat, WRITE_TURN_PLACE);
     }
 
     /// Puts the writer back into its slot, as the pass's view keeps it. Its written address is
@@ -83,7 +88,7 @@ impl<'a, D: Disk> SeatedPass<'a, D> {
         self.table
             .table
             .shared
-            .load::<SlotIn>(&mut self.seat, WRITE_TURN);
+            .load::<SlotIn>(&mut self.seat, WRITE_TURN_PLACE);
     }
 
     /// Gives the turn to write back, with the writer in its slot.
@@ -91,7 +96,7 @@ impl<'a, D: Disk> SeatedPass<'a, D> {
         requires may { MayStep (view_of self.old) release_write_turn }
         ensures steps { Steps release_write_turn 0 self.old self.new }
     {
-        self.stores::<ReleasesWriteTurn>(WRITE_TURN, 0, NO_OPERANDS);
+        self.stores::<ReleasesWriteTurn>(WRITE_TURN_PLACE, 0, NO_OPERANDS);
     }
 
     /// Where the turn to write is free, takes it and the writer. A call that waits tries again

@@ -16,7 +16,7 @@ ghost use Rattle.wal_rule.specs.Opening.{IsAsFounded, IsUnsettledWriter, IsWaiti
 ghost use Rattle.wal_rule.specs.Slotted.{slot_disk, slot_plain};
 ghost use Rattle.wal_rule.specs.Tables.{IsSeatOn, began_of_table, opening_of_table, table_number};
 
-use crate::memory::{WRITE_TURN, memory_of};
+use crate::memory::{WRITE_TURN_PLACE, memory_of};
 use crate::plays::{BeganOn, Begins, GoesOut, WaitsAgain};
 use crate::seats::Founding;
 use crate::table::{LogSeat, LogTable};
@@ -67,7 +67,9 @@ impl<D: Disk> LogTable<D> {
             × IsAsFounded D.tape D.moment D.faults self.now.table.shared.key w
             × (seat.new.me ≡ (reading_view (opening_of_table self.now), (0, w) ∷ [])) }
     {
-        self.table.shared.load::<GoesOut<D, B>>(seat, WRITE_TURN);
+        self.table
+            .shared
+            .load::<GoesOut<D, B>>(seat, WRITE_TURN_PLACE);
     }
 
     /// Gives the writer back, and makes the seat the first pass's: the log begins sound.
@@ -82,7 +84,7 @@ impl<D: Disk> LogTable<D> {
         ensures view { seat.new.me ≡ (first_view (opening_of_table self.now), []) }
         ensures seat { IsSeatOn self.now seat.new }
     {
-        self.table.shared.load::<Begins>(seat, WRITE_TURN);
+        self.table.shared.load::<Begins>(seat, WRITE_TURN_PLACE);
     }
 
     /// Ends the table: the disk comes back as it is in the seat's hand.
@@ -118,7 +120,9 @@ impl<D: Disk> LogTable<D> {
               [],
             ) }
     {
-        self.table.shared.load::<WaitsAgain<D>>(seat, WRITE_TURN);
+        self.table
+            .shared
+            .load::<WaitsAgain<D>>(seat, WRITE_TURN_PLACE);
     }
 }
 
