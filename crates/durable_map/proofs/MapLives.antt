@@ -35,7 +35,7 @@ use Rattle.durable_map.specs.Lives.{AnsweredChangesStay}
 use Rattle.durable_map.specs.Opening.{AreSaid, IsAllOfLog, OpensMap, TellsMapFault}
 use Rattle.durable_map.specs.Stores.{log_under, view_under}
 use Rattle.durable_map.specs.declared.fault.MapFaultKind.{MapFaultKind}
-use Rattle.durable_map.specs.declared.fault.MapFaultKind.TheVariants.{Memory, Disk, Foreign, Log}
+use Rattle.durable_map.specs.declared.fault.MapFaultKind.TheVariants.{Memory, Disk, NoChange, Log}
 use Rattle.durable_map.specs.declared.store.DurableMap.{DurableMap}
 use Rattle.durable_map.proofs.Begun.{IsCommitted, all_added, committed, entries_of, same_log, still_open}
 use Rattle.durable_map.proofs.Fronts.{SayEach, are_said_append, found_from-append, front_said, reaches, said_each}
@@ -430,9 +430,9 @@ module _ {D : Type 0} (tape : D → Option Tape) (moment faults : D → ℕ)
       × TellsReopenFault tape moment faults setup handed new why)
   refused_how setup old new Memory tells = inl tells.uncalled
   refused_how setup old new (Disk told) tells = inl tells.0
-  refused_how setup old new (Foreign at) tells = inl tells.0.uncalled
+  refused_how setup old new (NoChange at) tells = inl tells.0.uncalled
   refused_how setup old new (Log why) tells =
-      inr (tells.0, why, tells.1.uncalled, tells.2)
+      inr (tells.1, why, tells.2.uncalled, tells.3)
 
   -- a disk on which nothing was called is handed on
   module _ (size sysid : ℕ) (t : Tape) (setup : Setup) (disk later_disk : D)

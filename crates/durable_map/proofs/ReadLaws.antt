@@ -25,7 +25,8 @@ use Rattle.wal_types.specs.declared.lsn.Lsn.{Lsn}
 use Rattle.wal_page.specs.LogPlace.{LogPlace}
 use Rattle.found_log.specs.Found.{IsDiskLog}
 use Rattle.wal_reader.proofs.SettledLaws.{gives_something}
-use Rattle.durable_map.specs.Opening.{HasForeign, IsAllOfLog, RefusesFound, TellsReadFault, next_of}
+use Rattle.durable_map.specs.Changes.{MapChange}
+use Rattle.durable_map.specs.Opening.{AreSaid, HasNoChangeAt, IsAllOfLog, RefusesFound, TellsReadFault, next_of}
 use Rattle.durable_map.specs.Reading.{SaysNoChange}
 use Rattle.durable_map.specs.declared.fault.MapFaultKind.{MapFaultKind}
 use Rattle.durable_map.specs.declared.fault.MapFaultKind.TheVariants as kinds
@@ -145,12 +146,13 @@ module _ (size : ℕ) (reader next : Reader) (records : List FoundRecord)
       }
 
   -- one is given that says no change
-  pub given_foreign : (found : FoundRecord) (tape : Option Tape) → IsSegmentSize size
+  pub given_no_change : (found : FoundRecord) (tape : Option Tape) (changes : List MapChange)
+      → AreSaid records changes → IsSegmentSize size
       → (reader_state next).size ≡ size → IfSome tape (HasGiven size reader records)
       → Steps tape reader next (step_to found) → SaysNoChange found.value
-      → IfSome tape (HasForeign size found.head.start.0)
-  given_foreign found None valid next_sized given steps none = tt
-  given_foreign found (Some t) valid next_sized given steps none =
+      → IfSome tape (HasNoChangeAt size found.head.start.0)
+  given_no_change found None changes said valid next_sized given steps none = tt
+  given_no_change found (Some t) changes said valid next_sized given steps none =
       let one = step_of t (step_to found) steps given.knows in
       let image = image_as_read (state_now t) in
       let rest = gives_something image (reader_state next)
@@ -159,6 +161,8 @@ module _ (size : ℕ) (reader next : Reader) (records : List FoundRecord)
       rest.1) next_sized rest.2 in
       record {
         before = records;
+        earlier = changes;
+        said = said;
         found = found;
         others = rest.0;
         answer = rest.1;
@@ -179,13 +183,13 @@ said_as step said read f is ok some = sym is ∙ ok ∙ ap ok_of some
 
 pub tells_fault : (size : ℕ) (tape : Option Tape) (old new : ℕ) (found : FoundRecord)
     (kind : MapFaultKind) → RefusesFound found kind → new ≡ old
-    → (SaysNoChange found.value → IfSome tape (HasForeign size found.head.start.0))
+    → (SaysNoChange found.value → IfSome tape (HasNoChangeAt size found.head.start.0))
     → TellsReadFault size tape old new kind
 tells_fault size tape old new found kinds.Memory refuses same foreign = same
 tells_fault size tape old new found (kinds.Disk faults) refuses same foreign = absurd refuses
-tells_fault size tape old new found (kinds.Foreign at) refuses same foreign = (
+tells_fault size tape old new found (kinds.NoChange at) refuses same foreign = (
   same,
-  subst (λ (l : Lsn). IfSome tape (HasForeign size l.0)) (sym refuses.0) (foreign refuses.1),
+  subst (λ (l : Lsn). IfSome tape (HasNoChangeAt size l.0)) (sym refuses.0) (foreign refuses.1),
 )
 tells_fault size tape old new found (kinds.Log kind) refuses same foreign = absurd refuses
 

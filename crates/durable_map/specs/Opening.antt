@@ -1,5 +1,6 @@
 -- What an opening answers: the map of the changes that a disk's log says.
 use Rattle.std.specs.Prelude.{◌≡◌, ℕ, List, [], ◌∷◌, ◌++◌, Option, Some, None, IfSome, Result, Ok, Err}
+use Rattle.byte_position.specs.Geometry.{IsSegmentSize}
 use Rattle.segment_disk.specs.Cause.{RoseByOne}
 use Rattle.segment_disk.specs.Tape.{IsUncalled, Tape}
 use Rattle.machine_state.specs.declared.setup.Setup.{Setup}
@@ -19,7 +20,7 @@ use Rattle.durable_map.specs.Reading.{SaysNoChange}
 use Rattle.durable_map.specs.Records.{SaysChange}
 use Rattle.durable_map.specs.Stores.{AreOf, Slots}
 use Rattle.durable_map.specs.declared.fault.MapFaultKind.{MapFaultKind}
-use Rattle.durable_map.specs.declared.fault.MapFaultKind.TheVariants.{Memory, Disk, Foreign, Log}
+use Rattle.durable_map.specs.declared.fault.MapFaultKind.TheVariants.{Memory, Disk, NoChange, Log}
 use Rattle.durable_map.specs.declared.store.DurableMap.{DurableMap}
 
 -- each record says the change at its place
@@ -43,9 +44,15 @@ pub record AreRead (size : ℕ) (tape : Option Tape) (entries : Slots) : Type 0 
   pub held : AreOf changes entries
   pub whole : IfSome tape (IsAllOfLog size records)
 
--- a record of a disk's log that starts at an address says no change
-pub record HasForeign (size at : ℕ) (t : Tape) : Type 0 where
+-- so it was, if segments can have this size
+abbrev pub WasRead : ℕ → Option Tape → Type 0
+WasRead size tape = IsSegmentSize size → (entries : Slots) × AreRead size tape entries
+
+-- the first record of a disk's log that says no change starts at an address
+pub record HasNoChangeAt (size at : ℕ) (t : Tape) : Type 0 where
   pub before : List FoundRecord
+  pub earlier : List MapChange
+  pub said : AreSaid before earlier
   pub found : FoundRecord
   pub others : List FoundRecord
   pub answer : Answer
@@ -55,7 +62,8 @@ pub record HasForeign (size at : ℕ) (t : Tape) : Type 0 where
 
 -- ---- reading
 
--- what a step of reading says
+-- what a step of reading says: the next record, none where the log ends or stops (what stops it the
+-- reopening judges), or why it was not read
 abbrev pub next_of : Result Step ReadErr → Result (Option FoundRecord) MapFaultKind
 next_of (Ok (steps.Record start end prev total value)) =
     Ok (Some (found_as start end prev total value))
@@ -68,14 +76,14 @@ next_of (Err (reading.Stopped stop)) = Ok None
 abbrev pub RefusesFound : FoundRecord → MapFaultKind → Type 0
 RefusesFound found Memory = Unit {0}
 RefusesFound found (Disk faults) = ⊥
-RefusesFound found (Foreign at) = (at ≡ found.head.start) × SaysNoChange found.value
+RefusesFound found (NoChange at) = (at ≡ found.head.start) × SaysNoChange found.value
 RefusesFound found (Log kind) = ⊥
 
 -- why a log was not read; the disk's count of faults before and after
 abbrev pub TellsReadFault : ℕ → Option Tape → ℕ → ℕ → MapFaultKind → Type 0
 TellsReadFault size tape old new Memory = new ≡ old
 TellsReadFault size tape old new (Disk told) = RoseByOne old new × (told ≡ new)
-TellsReadFault size tape old new (Foreign at) = (new ≡ old) × IfSome tape (HasForeign size at.0)
+TellsReadFault size tape old new (NoChange at) = (new ≡ old) × IfSome tape (HasNoChangeAt size at.0)
 TellsReadFault size tape old new (Log kind) = ⊥
 
 -- ---- of a disk
@@ -101,7 +109,8 @@ module _ {D : Type 0} (tape : D → Option Tape) (moment faults : D → ℕ) whe
   TellsMapFault setup old new Memory = IsOnlyRead old new
   TellsMapFault setup old new (Disk told) = IsUncalled tape moment old new
       × RoseByOne (faults old) (faults new) × (told ≡ faults new)
-  TellsMapFault setup old new (Foreign at) = IsOnlyRead old new
-      × IfSome (tape old) (HasForeign setup.seg_size at.0)
-  TellsMapFault setup old new (Log kind) = (handed : D) × IsOnlyRead old handed
+  TellsMapFault setup old new (NoChange at) = IsOnlyRead old new
+      × IfSome (tape old) (HasNoChangeAt setup.seg_size at.0)
+  TellsMapFault setup old new (Log kind) = WasRead setup.seg_size (tape old)
+      × (handed : D) × IsOnlyRead old handed
       × TellsReopenFault tape moment faults setup handed new kind

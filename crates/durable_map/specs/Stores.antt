@@ -88,7 +88,7 @@ pub record IsDurable {D : Type 0} (change : MapChange) (old new : DurableMap D) 
       (view_under new) sealed
   pub taken : TakesIn change old.entries new.entries
 
--- why it is refused: whatever the log told, the map is as it was
+-- why it is refused, and what of the log is then as it was
 abbrev pub Refuses : {D : Type 0} → MapChange → DurableMap D → DurableMap D → ChangeErr
     → Type 0
 Refuses change old new Memory = view_under new ≡ view_under old
@@ -98,6 +98,7 @@ Refuses change old new (Refused refused) =
     × RefusesCommit (setup_of_log old.log) (assembled (change_record change)) (view_under old)
     (view_under new) refused.cause refused.reserved
 
+-- Ok: it is durable, and was then taken in; else why not, and the map is as it was
 abbrev pub AnswersChange : {D : Type 0} → MapChange → DurableMap D → DurableMap D
     → Result Sealed ChangeErr → Type 0
 AnswersChange change old new (Ok sealed) = IsDurable change old new sealed

@@ -32,7 +32,7 @@ pub(crate) fn take_in(
             Ok(()) => Ok(()),
             Err(_) => Err(MapFaultKind::Memory),
         },
-        Ok(None) => Err(MapFaultKind::Foreign {
+        Ok(None) => Err(MapFaultKind::NoChange {
             at: found.head.start,
         }),
         Err(_) => Err(MapFaultKind::Memory),

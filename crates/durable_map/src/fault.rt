@@ -50,8 +50,8 @@ pub enum MapFaultKind {
     /// The disk failed while the log was read, and stood at this count of faults then.
     Disk { faults: u64 },
     /// The record at this place says no change.
-    Foreign { at: Lsn },
-    /// The log was read, and not reopened.
+    NoChange { at: Lsn },
+    /// The log was read, if segments can have the size asked for, and not reopened.
     Log(OpenFaultKind),
 }
 

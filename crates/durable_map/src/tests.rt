@@ -86,7 +86,7 @@ fn another_programs_record_is_refused(rt: HostRuntime) -> Result<(), Fail> {
         panic!(rt; "a log with another program's record");
     };
     let at = Lsn(0x10_0048);
-    assert_eq!(rt; (kind, disk.moment()), (MapFaultKind::Foreign { at }, 5));
+    assert_eq!(rt; (kind, disk.moment()), (MapFaultKind::NoChange { at }, 5));
     Ok(())
 }
 

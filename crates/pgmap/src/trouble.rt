@@ -29,7 +29,7 @@ pub enum PgmapErr {
     #[error("line {line}: log full")]
     LogFull { line: u64 },
     #[error("the record at {at} is no set and no del")]
-    Foreign { at: ShownPlace },
+    NoChange { at: ShownPlace },
     #[error("damaged at {at}: {check}")]
     Damaged { at: ShownPlace, check: &'static str },
     #[error("a standard stream failed")]
@@ -47,7 +47,7 @@ impl PgmapErr {
             PgmapErr::Line { .. } | PgmapErr::TooLong { .. } => 3,
             PgmapErr::Disk | PgmapErr::DiskAt { .. } => 4,
             PgmapErr::LogFull { .. } => 5,
-            PgmapErr::Foreign { .. } | PgmapErr::Damaged { .. } => 6,
+            PgmapErr::NoChange { .. } | PgmapErr::Damaged { .. } => 6,
             PgmapErr::Stream => 7,
             PgmapErr::BeyondCap => 10,
         }
@@ -78,7 +78,7 @@ impl PgmapErr {
         match kind {
             MapFaultKind::Memory => PgmapErr::Memory,
             MapFaultKind::Disk { .. } => PgmapErr::Disk,
-            MapFaultKind::Foreign { at } => PgmapErr::Foreign { at: ShownPlace(at) },
+            MapFaultKind::NoChange { at } => PgmapErr::NoChange { at: ShownPlace(at) },
             MapFaultKind::Log(kind) => PgmapErr::of_unopened_log(kind),
         }
     }

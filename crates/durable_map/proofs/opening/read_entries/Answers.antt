@@ -5,7 +5,7 @@ use Rattle.wal_reader.specs.Standings.{HasReadCause}
 use Rattle.segment_disk.specs.Tape.{Tape}
 use Rattle.durable_map.proofs.Changed.{are_of_more, are_said_more}
 use Rattle.durable_map.proofs.Keys.{holds_nothing}
-use Rattle.durable_map.proofs.ReadLaws.{Steps, given_foreign, given_more, given_none, gives_record, said_as, step_to, tells_fault, unread}
+use Rattle.durable_map.proofs.ReadLaws.{Steps, given_no_change, given_more, given_none, gives_record, said_as, step_to, tells_fault, unread}
 use Rattle.durable_map.proofs.opening.read_entries.Goals as goal
 
 pub records-init : goal.records-init
@@ -47,8 +47,8 @@ returns-in_err-take_in-in-Some-clause-refused g c =
     rw (p.1, p.2) (tells_fault c.args.geometry (g.D.Disk.tape c.args.disk.now)
     (g.D.Disk.faults c.args.disk.now) (g.D.Disk.faults c.next.new.disk) f _
     c.in_err-take_in-in-Some.ensures.refused same
-    (given_foreign c.args.geometry c.records.reader c.next.new.self before.records before.sized f
-    (g.D.Disk.tape c.args.disk.now) valid
+    (given_no_change c.args.geometry c.records.reader c.next.new.self before.records before.sized f
+    (g.D.Disk.tape c.args.disk.now) before.changes before.said valid
     (ap (λ (s : ReaderState). s.size) leaves.0 ∙ before.sized) before.given steps))
 
 pub records-preserved : goal.records-preserved
