@@ -1,10 +1,15 @@
 -- The headline, of the disk of a run and of the call.
-use Rattle.std.proofs.Common.{◌≡◌, ℕ, ◌+◌, List, [], ◌∷◌, Option, subst}
+use Rattle.std.proofs.Common.{◌≡◌, ℕ, ◌+◌, List, [], ◌∷◌, Option, Some, None, subst}
 use Rattle.std.specs.Prelude.{IfSome}
 use Rattle.segment_disk.specs.Tape.{Tape}
+use Rattle.wal_types.specs.declared.answers.Cause.{Cause}
+use Rattle.wal_types.specs.declared.answers.Cause.TheVariants.{Full, Disk, Down}
+use Rattle.wal_types.specs.declared.lsn.Lsn.{Lsn}
+use Rattle.wal_types.specs.declared.record.Record.{Record}
+use Rattle.wal_spelling.specs.Record.{switch_record}
 use Rattle.flush_core.specs.Pages.{HoldsNothing}
 use Rattle.byte_position.specs.Geometry.{IsSegmentSize}
-use Rattle.byte_position.specs.Position.{first_position}
+use Rattle.byte_position.specs.Position.{address_of, first_position, position_of}
 use Rattle.wal_page.specs.Order.{IsChained}
 use Rattle.wal_reader.specs.declared.found.FoundRecord.{FoundRecord}
 use Rattle.wal_reader.proofs.FindsLaws.{finding_is_decoding}
@@ -12,11 +17,35 @@ use Rattle.run_script.specs.Asked.{Asked, AskedLine, Commit, CommitAsync, Flush,
 use Rattle.run_laws.specs.declared.told.Told.{Told}
 use Rattle.run_laws.specs.declared.told.Told.TheVariants.{Wrote, Hard, Flushed, Async, Idle, Switched, Stayed, Refused}
 use Rattle.run_laws.specs.Crash.{IsFrontWithTold, SurvivesCrashes}
-use Rattle.run_laws.specs.Told.{FitsLine, Logged, RiseInLineOrder, TellsAll, TellsFrom, behind_or, entries_from, entry_of, order_from}
+use Rattle.run_laws.specs.Told.{FitsLine, Logged, MayRefuseFlush, MayRefuseRecord, RiseInLineOrder, TellsAll, TellsFrom, behind_or, entries_from, entry_of, order_from}
 use Rattle.run_laws.proofs.Orders.{sorted_permutes}
 use Rattle.backend_cli.specs.Headline.{AnswersLines, AnswersScript, FoundAfterCrash, Headline, NamesOwnPlace}
 
 -- ---- receipts
+
+-- a start that a refused record has is an address at which a record can start
+record_refused : (logged : Logged) (pass behind : ℕ) (value : Record) (cause : Cause)
+    (reserved : Option Lsn) → MayRefuseRecord logged pass behind value cause reserved
+    → IfSome reserved
+    (λ start. start.0 ≡ address_of logged.size (position_of logged.size start.0))
+record_refused logged pass behind value (Full free) None refused = tt
+record_refused logged pass behind value (Full free) (Some start) refused = absurd refused
+record_refused logged pass behind value (Disk faults) None refused = tt
+record_refused logged pass behind value (Disk faults) (Some start) refused = refused.1
+record_refused logged pass behind value (Down faults) None refused = tt
+record_refused logged pass behind value (Down faults) (Some start) refused = refused.1
+
+flush_refused : (logged : Logged) (cause : Cause) (reserved : Option Lsn)
+    → MayRefuseFlush logged cause reserved
+    → IfSome reserved
+    (λ start. start.0 ≡ address_of logged.size (position_of logged.size start.0))
+flush_refused logged (Full free) reserved refused = absurd refused
+flush_refused logged (Disk faults) None refused = tt
+flush_refused logged (Disk faults) (Some start) refused =
+    let none : Some start ≡ None = refused.1 in cc
+flush_refused logged (Down faults) None refused = tt
+flush_refused logged (Down faults) (Some start) refused =
+    let none : Some start ≡ None = refused.1 in cc
 
 -- what a line may be told names its own record's place, where it is a receipt
 own_place : (logged : Logged) (pass behind : ℕ) (asked : Asked) (told : Told)
@@ -28,7 +57,8 @@ own_place logged pass behind (Insert value) (Async start end) fits = fits
 own_place logged pass behind (Insert value) (Idle upto) fits = fits
 own_place logged pass behind (Insert value) (Switched start end) fits = fits
 own_place logged pass behind (Insert value) (Stayed end) fits = fits
-own_place logged pass behind (Insert value) (Refused cause reserved) fits = tt
+own_place logged pass behind (Insert value) (Refused cause reserved) fits =
+    record_refused logged pass behind value cause reserved fits
 own_place logged pass behind (Commit value) (Wrote start end) fits = fits
 own_place logged pass behind (Commit value) (Hard start end moment) fits = fits
 own_place logged pass behind (Commit value) (Flushed upto moment) fits = fits
@@ -36,7 +66,8 @@ own_place logged pass behind (Commit value) (Async start end) fits = fits
 own_place logged pass behind (Commit value) (Idle upto) fits = fits
 own_place logged pass behind (Commit value) (Switched start end) fits = fits
 own_place logged pass behind (Commit value) (Stayed end) fits = fits
-own_place logged pass behind (Commit value) (Refused cause reserved) fits = tt
+own_place logged pass behind (Commit value) (Refused cause reserved) fits =
+    record_refused logged pass behind value cause reserved fits
 own_place logged pass behind Flush (Wrote start end) fits = fits
 own_place logged pass behind Flush (Hard start end moment) fits = fits
 own_place logged pass behind Flush (Flushed upto moment) fits = tt
@@ -44,7 +75,8 @@ own_place logged pass behind Flush (Async start end) fits = fits
 own_place logged pass behind Flush (Idle upto) fits = fits
 own_place logged pass behind Flush (Switched start end) fits = fits
 own_place logged pass behind Flush (Stayed end) fits = fits
-own_place logged pass behind Flush (Refused cause reserved) fits = tt
+own_place logged pass behind Flush (Refused cause reserved) fits =
+    flush_refused logged cause reserved fits
 own_place logged pass behind (CommitAsync value) (Wrote start end) fits = fits
 own_place logged pass behind (CommitAsync value) (Hard start end moment) fits = fits
 own_place logged pass behind (CommitAsync value) (Flushed upto moment) fits = fits
@@ -52,7 +84,8 @@ own_place logged pass behind (CommitAsync value) (Async start end) fits = fits
 own_place logged pass behind (CommitAsync value) (Idle upto) fits = fits
 own_place logged pass behind (CommitAsync value) (Switched start end) fits = fits
 own_place logged pass behind (CommitAsync value) (Stayed end) fits = fits
-own_place logged pass behind (CommitAsync value) (Refused cause reserved) fits = tt
+own_place logged pass behind (CommitAsync value) (Refused cause reserved) fits =
+    record_refused logged pass behind value cause reserved fits
 own_place logged pass behind WriteBehind (Wrote start end) fits = fits
 own_place logged pass behind WriteBehind (Hard start end moment) fits = fits
 own_place logged pass behind WriteBehind (Flushed upto moment) fits = tt
@@ -60,7 +93,8 @@ own_place logged pass behind WriteBehind (Async start end) fits = fits
 own_place logged pass behind WriteBehind (Idle upto) fits = tt
 own_place logged pass behind WriteBehind (Switched start end) fits = fits
 own_place logged pass behind WriteBehind (Stayed end) fits = fits
-own_place logged pass behind WriteBehind (Refused cause reserved) fits = tt
+own_place logged pass behind WriteBehind (Refused cause reserved) fits =
+    flush_refused logged cause reserved fits
 own_place logged pass behind Switch (Wrote start end) fits = fits
 own_place logged pass behind Switch (Hard start end moment) fits = fits
 own_place logged pass behind Switch (Flushed upto moment) fits = fits
@@ -68,7 +102,8 @@ own_place logged pass behind Switch (Async start end) fits = fits
 own_place logged pass behind Switch (Idle upto) fits = fits
 own_place logged pass behind Switch (Switched start end) fits = fits
 own_place logged pass behind Switch (Stayed end) fits = tt
-own_place logged pass behind Switch (Refused cause reserved) fits = tt
+own_place logged pass behind Switch (Refused cause reserved) fits =
+    record_refused logged pass behind switch_record cause reserved fits.0
 
 answers_lines : (logged : Logged) (pass behind : ℕ) (lines : List AskedLine) (told : List Told)
     → TellsFrom logged pass behind lines told → AnswersLines logged.size lines told

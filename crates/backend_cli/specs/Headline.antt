@@ -7,7 +7,7 @@
 use Rattle.std.specs.Prelude.{◌≡◌, ℕ, ◌≤◌, IfSome, IsTrue, List, [], ◌∷◌, Option, Some, None}
 use Rattle.std.specs.List.Sorted.{IsPermutation}
 use Rattle.byte_position.specs.Geometry.{is_segment_size}
-use Rattle.byte_position.specs.Position.{position_of}
+use Rattle.byte_position.specs.Position.{address_of, position_of}
 use Rattle.wal_spelling.specs.Record.{switch_record}
 use Rattle.segment_disk.specs.DiskImage.{DiskImage, LeftAt}
 use Rattle.segment_disk.specs.Tape.{Tape, after_calls}
@@ -25,7 +25,8 @@ use Rattle.run_laws.specs.Told.{IsPlaced, RiseInLineOrder, entries_from}
 -- what each kind of line may be told: an insert, a commit or a commit that is answered ahead, where
 -- its own record starts and ends (that of a commit is durable too), and so a segment switch, or
 -- that the log ended at a segment's start already; a flush or a flush behind, up to where all is
--- durable, or the latter that all was so already; each, that it is refused
+-- durable, or the latter that all was so already; each, that it is refused, and if its record has a
+-- place all the same, where that starts
 abbrev pub NamesOwnPlace : ℕ → Asked → Told → Type 0
 NamesOwnPlace size (Insert value) (Wrote start end) = IsPlaced size value start.0 end.0
 NamesOwnPlace size (Commit value) (Hard start end moment) = IsPlaced size value start.0 end.0
@@ -35,7 +36,8 @@ NamesOwnPlace size WriteBehind (Flushed upto moment) = Unit {0}
 NamesOwnPlace size WriteBehind (Idle upto) = Unit {0}
 NamesOwnPlace size Switch (Switched start end) = IsPlaced size switch_record start.0 end.0
 NamesOwnPlace size Switch (Stayed end) = Unit {0}
-NamesOwnPlace size asked (Refused cause reserved) = Unit {0}
+NamesOwnPlace size asked (Refused cause reserved) =
+    IfSome reserved (λ start. start.0 ≡ address_of size (position_of size start.0))
 NamesOwnPlace size asked others = ⊥
 
 -- each line of a backend has its answer, in the order of its lines, and what is told of a record
