@@ -2,7 +2,8 @@ ghost use Rattle.log_lives_laws.specs.Lives.{ThreeLivesKeepAll, ToldRecordsStay}
 ghost use Rattle.log_lives_laws.specs.Receipts.{ReceiptsTellDurable};
 
 /// The law: behind any number of runs, crashes, kills, failed disks and restarts the log has each
-/// record that was told durable in any of its lives, and may be gone on with.
+/// record that was told durable in any of its lives, and going on does not take it for another
+/// program's.
 pub fn told_records_stay()
     ensures { ToldRecordsStay }
 {}

@@ -49,7 +49,8 @@ pub enum CopyStop {
     /// The page of the next word is in no buffer, and could not be mapped. Pages are counted from
     /// the log's address 0; `end` is the end of the page that its buffer held, 0 for none. Where
     /// somebody had the turn to map, `turn` is the turn's word and `written` 0. Where nobody had
-    /// it, `turn` is 0, and the page to be replaced ends above the written address.
+    /// it, `turn` is 0, and the page to be replaced ends above `written`, the written address that
+    /// was met.
     Absent {
         page: u64,
         end: u64,

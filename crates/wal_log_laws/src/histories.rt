@@ -3,7 +3,8 @@ ghost use Rattle.wal_log_laws.specs.Lives.{CommitsArePromised, LonePassesMakeThe
 use segment_disk::Disk;
 
 /// The law: behind any number of openings, crashes, kills, failed disks and reopenings the log has
-/// each record that was promised to be durable in any of its lives, and may be reopened.
+/// each record that was promised to be durable in any of its lives, and a reopening does not take
+/// it for another program's.
 pub fn promised_records_stay<D: Disk>()
     ensures { PromisedRecordsStay D.tape D.moment D.faults }
 {}
@@ -14,7 +15,8 @@ pub fn commits_are_promised<D: Disk>()
     ensures { CommitsArePromised D.tape D.moment D.faults }
 {}
 
-/// A law: where the closing pass took no other one in, the log has its entries alone.
+/// A law: if the closing pass took no other one in, its entries alone were reserved since the
+/// opening.
 pub fn lone_passes_make_the_order<D: Disk>()
     ensures { LonePassesMakeTheOrder D.tape D.moment D.faults }
 {}
