@@ -28,8 +28,6 @@ use Rattle.wal_log.specs.declared.flushing.FlushErr.TheVariants as flushes
 use Rattle.wal_log.specs.declared.inserting.InsertErr.{InsertErr}
 use Rattle.wal_log.specs.declared.inserting.InsertErr.TheVariants as inserts
 use Rattle.wal_log.specs.declared.switching.Switch as switching
-use Rattle.wal_log.specs.declared.switching.SwitchErr.{SwitchErr}
-use Rattle.wal_log.specs.declared.switching.SwitchErr.TheVariants as switches
 use Rattle.wal_log.specs.declared.wal.Wal.{Wal}
 use Rattle.wal_log.specs.Behind.{AnswersBehind, behind_known_down}
 use Rattle.wal_log.specs.Committing.{AnswersCommit, commit_known_down}
@@ -139,7 +137,7 @@ module _ {D : Type 0} (wal : Wal D) (old new : Session) (pass : Pass) (here : Is
           (plays_ahead knows_record (setup_of_log wal) body (view_of_session old)
           (view_of_pass pass) value is_body keeps answer told is answers counted again)
 
-    module _ (answer : Result switching.Switch SwitchErr) (is : told ≡ told_of_switched answer)
+    module _ (answer : Result switching.Switch InsertErr) (is : told ≡ told_of_switched answer)
         (answers : AnswersSwitch (setup_of_log wal) body (view_of_session old) answer
         (view_of_pass pass)) where
       pub switch_leaves_session : new.end.0 ≡ end_behind old.end.0 told
@@ -152,7 +150,7 @@ module _ {D : Type 0} (wal : Wal D) (old new : Session) (pass : Pass) (here : Is
 
       pub switch_plays_answer : body ≡ assembled switch_record
           → ((faults : ℕ) → KnowsDown faults (view_of_session old)
-          → answer ≡ Err (switches.Down faults None))
+          → answer ≡ Err (inserts.Down faults None))
           → PlaysAnswer wal Switch told old new
       switch_plays_answer is_body again = plays_answer Switch
           (plays_switch (setup_of_log wal) body (view_of_session old) (view_of_pass pass) is_body

@@ -1,15 +1,12 @@
 -- The end that is kept beside a pass, and what the log's answers leave of it.
-use Rattle.std.specs.Prelude.{Result, Ok, Err, Option, Some, None}
+use Rattle.std.specs.Prelude.{Result, Ok, Err, Some, None}
 use Rattle.std.proofs.Common.{◌≡◌, ◌⊎◌, ℕ, ◌≤◌, max, List, [], ◌∷◌, ◌++◌, refl, sym, ap, ◌∙◌, subst, inl, inr, arith}
 use Rattle.std.proofs.lemmas.Bool.{cases_lt}
 use Rattle.byte_position.specs.Geometry.{IsSegmentSize}
 use Rattle.byte_position.specs.Position.{end_address_of, first_position}
 use Rattle.byte_position.proofs.EndAddresses.{end_address_of-mono, le-position_of}
-use Rattle.wal_types.specs.declared.lsn.Lsn.{Lsn}
 use Rattle.wal_spelling.specs.Spelling.{Assembled}
 use Rattle.wal_page.specs.Order.{Entry, finish_of, position_behind}
-use Rattle.wal_types.specs.declared.answers.Cause.{Cause}
-use Rattle.wal_types.specs.declared.answers.Cause.TheVariants as causes
 use Rattle.wal_types.specs.declared.answers.Hard as hard
 use Rattle.wal_types.specs.declared.answers.Receipt.{Receipt}
 use Rattle.wal_types.specs.declared.answers.Refused as refused
@@ -28,18 +25,17 @@ use Rattle.wal_log.specs.declared.inserting.InsertErr.{InsertErr}
 use Rattle.wal_log.specs.declared.inserting.InsertErr.TheVariants as inserts
 use Rattle.wal_log.specs.declared.switching.Switch as switching
 use Rattle.wal_log.specs.declared.switching.Switch.TheVariants as switched
-use Rattle.wal_log.specs.declared.switching.SwitchErr.{SwitchErr}
-use Rattle.wal_log.specs.declared.switching.SwitchErr.TheVariants as switches
 use Rattle.wal_log.specs.Behind.{AnswersBehind}
-use Rattle.wal_log.specs.Committing.{AnswersCommit, RefusesCommit, refused_of_insert}
+use Rattle.wal_log.specs.Committing.{AnswersCommit, refused_of_insert}
 use Rattle.wal_log.specs.Flushing.{AnswersFlush}
 use Rattle.wal_log.specs.Inserting.{AnswersInsert, RefusesInsert}
 use Rattle.wal_log.specs.PassLogs.{PassLog}
 use Rattle.wal_log.specs.Standing.{KeepsPass}
 use Rattle.wal_log.specs.Switching.{AnswersSwitch}
+use Rattle.wal_log.proofs.Refusals.{switch_refused}
 use Rattle.run_laws.specs.Played.{behind_last_own, end_of_own}
 use Rattle.run_laws.specs.Reached.{EndsBy}
-use Rattle.run_backends.specs.Sessions.{IsReserved, told_of_flush_err, told_of_switch_err}
+use Rattle.run_backends.specs.Sessions.{IsReserved, told_of_flush_err}
 
 -- ---- the end of a pass's own last entry
 
@@ -103,11 +99,11 @@ told_of_caught (Ok (caught.Flushed done)) = Flushed done.upto done.moment
 told_of_caught (Ok (caught.Idle upto)) = Idle upto
 told_of_caught (Err e) = told_of_flush_err e
 
--- the same of a segment switch
-abbrev pub told_of_switched : Result switching.Switch SwitchErr → Told
+-- and by a segment switch's, which is refused as an insert is
+abbrev pub told_of_switched : Result switching.Switch InsertErr → Told
 told_of_switched (Ok (switched.Done start end)) = Switched start end
 told_of_switched (Ok (switched.Stayed end)) = Stayed end
-told_of_switched (Err e) = told_of_switch_err e
+told_of_switched (Err e) = told_of_insert (Err (refused_of_insert e))
 
 -- the end kept behind an answer
 abbrev pub end_behind : ℕ → Told → ℕ
@@ -132,11 +128,6 @@ pub caught_keeps_end : (end : ℕ) (answer : Result Caught FlushErr)
 caught_keeps_end end (Ok (caught.Flushed done)) = refl
 caught_keeps_end end (Ok (caught.Idle upto)) = refl
 caught_keeps_end end (Err e) = flush_keeps_end end (Err e)
-
-pub refusal_keeps_end : (end : ℕ) (e : SwitchErr) → end_behind end (told_of_switch_err e) ≡ end
-refusal_keeps_end end (switches.Full free) = refl
-refusal_keeps_end end (switches.Disk faults start) = refl
-refusal_keeps_end end (switches.Down faults start) = refl
 
 -- a commit that is answered ahead has its end told as an insert has
 pub ahead_keeps_end : (end : ℕ) (answer : Result Receipt InsertErr)
@@ -163,14 +154,6 @@ le-end_behind end (Idle upto) = omega arith
 le-end_behind end (Switched start last) = omega arith
 le-end_behind end (Stayed last) = omega arith
 le-end_behind end (Refused cause reserved) = omega arith
-
--- an insert is refused as its commit would be
-pub refused_as_commit : (setup : Setup) (body : Assembled) (old new : View) (e : InsertErr)
-    → RefusesInsert setup body old new e → RefusesCommit setup body old new
-    (refused_of_insert e).cause (refused_of_insert e).reserved
-refused_as_commit setup body old new (inserts.Full free) why = why
-refused_as_commit setup body old new (inserts.Disk faults start) why = why
-refused_as_commit setup body old new (inserts.Down faults start) why = why
 
 -- ---- the end kept beside a pass
 
@@ -224,17 +207,14 @@ module _ (setup : Setup) (valid : IsSegmentSize setup.seg_size) (old new : View)
       }
 
   module _ (body : Assembled) where
-    end_refused : (cause : Cause) (reserved : Option Lsn)
-        → RefusesCommit setup body old new cause reserved → HasEnd setup end new
-    end_refused (causes.Full free) None why =
+    end_refused : (e : InsertErr) → RefusesInsert setup body old new e → HasEnd setup end new
+    end_refused (inserts.Full free) why =
         end_stays (ap (λ (l : PassLog). l.entries) why.0.log_is)
-    end_refused (causes.Full free) (Some start) why = absurd why
-    end_refused (causes.Disk faults) None why = absurd why
-    end_refused (causes.Disk faults) (Some start) why =
+    end_refused (inserts.Disk faults start) why =
         end_known_down faults (why.1.some, inr why.1.set)
-    end_refused (causes.Down faults) None why =
+    end_refused (inserts.Down faults None) why =
         end_known_down faults (why.1.some, inl why.1.met)
-    end_refused (causes.Down faults) (Some start) why =
+    end_refused (inserts.Down faults (Some start)) why =
         end_known_down faults (why.1.some, inl why.1.met)
 
     pub end_inserted : (answer : Result Receipt InsertErr)
@@ -242,10 +222,9 @@ module _ (setup : Setup) (valid : IsSegmentSize setup.seg_size) (old new : View)
         → HasEnd setup (end_behind end (told_of_inserted answer)) new
     end_inserted (Ok receipt) told = end_rises told.entry receipt.end.0 told.end_is
         (ap (λ (l : PassLog). l.entries) told.reserved.log_is) told.reserved.seen
-    end_inserted (Err e) why = end_refused (refused_of_insert e).cause
-        (refused_of_insert e).reserved (refused_as_commit setup body old new e why)
+    end_inserted (Err e) why = end_refused e why
 
-    pub end_switched : (answer : Result switching.Switch SwitchErr)
+    pub end_switched : (answer : Result switching.Switch InsertErr)
         → AnswersSwitch setup body old answer new
         → HasEnd setup (end_behind end (told_of_switched answer)) new
     end_switched (Ok (switched.Done start last)) told =
@@ -254,14 +233,7 @@ module _ (setup : Setup) (valid : IsSegmentSize setup.seg_size) (old new : View)
         reserved.seen
     end_switched (Ok (switched.Stayed last)) told =
         end_stays (ap (λ (l : PassLog). l.entries) told.log_is)
-    end_switched (Err (switches.Full free)) why =
-        end_stays (ap (λ (l : PassLog). l.entries) (why.full).log_is)
-    end_switched (Err (switches.Disk faults start)) why =
-        end_known_down faults (why.1.some, inr why.1.set)
-    end_switched (Err (switches.Down faults None)) why =
-        end_known_down faults (why.1.some, inl why.1.met)
-    end_switched (Err (switches.Down faults (Some start))) why =
-        end_known_down faults (why.1.some, inl why.1.met)
+    end_switched (Err e) why = end_refused e (switch_refused setup body old new e why)
 
     pub end_committed : (answer : Result Sealed refused.Refused)
         → AnswersCommit setup body old answer new
@@ -271,7 +243,7 @@ module _ (setup : Setup) (valid : IsSegmentSize setup.seg_size) (old new : View)
         (position_behind setup.seg_size told.entry) told.upto told.reached in
         end_rises told.entry sealed.end.0 told.end_is
         (ap (λ (l : PassLog). l.entries) told.log_is) (omega (arith, below, told.seen))
-    end_committed (Err e) why = end_refused e.cause e.reserved why
+    end_committed (Err e) why = end_refused why.0 why.2
 
   pub end_flushed : (asked : ℕ) (answer : Result hard.Hard FlushErr)
       → AnswersFlush asked old answer new → HasEnd setup end new

@@ -1,14 +1,11 @@
 -- What a line with a record leaves of its pass.
-use Rattle.std.specs.Prelude.{Result, Ok, Err, IfOk, Option, Some, None}
+use Rattle.std.specs.Prelude.{Result, Ok, Err, IfOk, Some, None}
 use Rattle.std.proofs.Common.{◌≡◌, false, ℕ, ◌<◌, ◌≤◌, refl, sym, ap, ◌∙◌, subst, inl, inr, arith}
-use Rattle.wal_types.specs.declared.lsn.Lsn.{Lsn}
 use Rattle.wal_types.specs.declared.record.Record.{Record}
 use Rattle.wal_spelling.specs.Spelling as spelling
 use Rattle.wal_spelling.specs.Spelling.{Assembled, IsLogRecord, assembled, is_assembled_switch}
 use Rattle.wal_spelling.proofs.SwitchLaws.{is_assembled_switch-inserted}
 use Rattle.wal_page.specs.Order.{Entry, assembled_room_at, finish_of, start_of}
-use Rattle.wal_types.specs.declared.answers.Cause.{Cause}
-use Rattle.wal_types.specs.declared.answers.Cause.TheVariants as causes
 use Rattle.wal_types.specs.declared.answers.Receipt.{Receipt}
 use Rattle.wal_types.specs.declared.answers.Refused as refused
 use Rattle.wal_types.specs.declared.answers.Sealed.{Sealed}
@@ -24,12 +21,12 @@ use Rattle.wal_rule.specs.Downs.{KnowsDown}
 use Rattle.machine_state.specs.Views.{View}
 use Rattle.wal_log.specs.declared.inserting.InsertErr.{InsertErr}
 use Rattle.wal_log.specs.declared.inserting.InsertErr.TheVariants as inserts
-use Rattle.wal_log.specs.Committing.{AnswersCommit, RefusesCommit, commit_known_down, refused_of_insert}
-use Rattle.wal_log.specs.Inserting.{AnswersInsert, IsOwnEntry, IsStarted}
+use Rattle.wal_log.specs.Committing.{AnswersCommit, commit_known_down, refused_of_insert}
+use Rattle.wal_log.specs.Inserting.{AnswersInsert, IsOwnEntry, IsStarted, RefusesInsert, RefusesRecord}
 use Rattle.wal_log.specs.PassLogs.{PassLog, log_of_pass, log_with_entry}
 use Rattle.wal_log.specs.Standing.{KeepsPass}
 use Rattle.run_laws.specs.Played.{Leaves, PlaysLine, TellsCause, RefusesRecordLine, Reserves, pass_state_of}
-use Rattle.run_backends.proofs.EndsKept.{refused_as_commit, told_of_ahead, told_of_inserted}
+use Rattle.run_backends.proofs.EndsKept.{told_of_ahead, told_of_inserted}
 
 -- its body is of one that can be inserted, so of no segment switch
 pub no_switch : (body : Assembled) (value : Record) → IsBodyOf value body
@@ -57,6 +54,17 @@ reserves_of setup old value e at is start after start_is log_is = record {
   log_is = log_is ∙ ap (λ (x : Entry). log_with_entry x (log_of_pass old)) is;
 }
 
+-- where a call was refused, its line tells what the pass learned of a failed disk
+pub refusal_caused : (full started : ℕ → Type 0) (old new : View) (e : InsertErr)
+    → RefusesRecord full started old new e
+    → TellsCause (Refused (refused_of_insert e).cause (refused_of_insert e).reserved)
+    (pass_state_of old) (pass_state_of new)
+refusal_caused full started old new (inserts.Full free) why = (why.1.met, why.1.set)
+refusal_caused full started old new (inserts.Disk faults start) why = why.1.set
+refusal_caused full started old new (inserts.Down faults None) why = (why.1.met, why.1.set_none)
+refusal_caused full started old new (inserts.Down faults (Some start)) why =
+    (why.1.met, why.1.set_none)
+
 module _ (knows_record : KnowsRecords) (setup : Setup) (body : Assembled)
     (old new : View) (value : Record) (is_body : IsBodyOf value body) where
   entry_is : (e : Entry) (own : IsOwnEntry setup body old e)
@@ -77,46 +85,34 @@ module _ (knows_record : KnowsRecords) (setup : Setup) (body : Assembled)
   started start told = reserves told.entry told.reserved.own start (log_of_pass new)
       told.start_is told.reserved.log_is
 
-  refuses : (cause : Cause) (reserved : Option Lsn)
-      → RefusesCommit setup body old new cause reserved
-      → RefusesRecordLine setup.seg_size (log_limit setup) (old.reserving).number value cause
-      reserved (pass_state_of old) (pass_state_of new)
-  refuses (causes.Full free) None why = record {
+  refuses : (e : InsertErr) → RefusesInsert setup body old new e
+      → RefusesRecordLine setup.seg_size (log_limit setup) (old.reserving).number value
+      (refused_of_insert e).cause (refused_of_insert e).reserved (pass_state_of old)
+      (pass_state_of new)
+  refuses (inserts.Full free) why = record {
     at = why.0.at;
     free_is = (let is = why.0.free_is in let within = why.0.within in omega (arith, is, within));
     short = subst (λ (a : Assembled). free < assembled_room_at setup.seg_size why.0.at a)
         is_body.0 why.0.short;
     log_is = why.0.log_is;
   }
-  refuses (causes.Full free) (Some start) why = why
-  refuses (causes.Disk faults) None why = why
-  refuses (causes.Disk faults) (Some start) why =
-      (started start.0 why.0, (why.1.some, inr why.1.set))
-  refuses (causes.Down faults) None why = (why.0, (why.1.some, inl why.1.met))
-  refuses (causes.Down faults) (Some start) why =
+  refuses (inserts.Disk faults start) why = (started start.0 why.0, (why.1.some, inr why.1.set))
+  refuses (inserts.Down faults None) why = (why.0, (why.1.some, inl why.1.met))
+  refuses (inserts.Down faults (Some start)) why =
       (started start.0 why.0, (why.1.some, inl why.1.met))
-
-  caused : (cause : Cause) (reserved : Option Lsn)
-      → RefusesCommit setup body old new cause reserved
-      → TellsCause (Refused cause reserved) (pass_state_of old) (pass_state_of new)
-  caused (causes.Full free) None why = (why.1.met, why.1.set)
-  caused (causes.Full free) (Some start) why = absurd why
-  caused (causes.Disk faults) None why = absurd why
-  caused (causes.Disk faults) (Some start) why = why.1.set
-  caused (causes.Down faults) None why = (why.1.met, why.1.set_none)
-  caused (causes.Down faults) (Some start) why = (why.1.met, why.1.set_none)
 
   insert_caused : (answer : Result Receipt InsertErr) → AnswersInsert setup body old answer new
       → TellsCause (told_of_inserted answer) (pass_state_of old) (pass_state_of new)
   insert_caused (Ok receipt) told = (told.up.met, told.up.set)
-  insert_caused (Err e) why = caused (refused_of_insert e).cause (refused_of_insert e).reserved
-      (refused_as_commit setup body old new e why)
+  insert_caused (Err e) why = refusal_caused _ _ old new e why
 
   commit_caused : (answer : Result Sealed refused.Refused)
       → AnswersCommit setup body old answer new
       → TellsCause (told_of_commit answer) (pass_state_of old) (pass_state_of new)
   commit_caused (Ok sealed) told = (told.up.met, told.up.set)
-  commit_caused (Err e) why = caused e.cause e.reserved why
+  commit_caused (Err e) why = subst (λ (r : refused.Refused).
+      TellsCause (Refused r.cause r.reserved) (pass_state_of old) (pass_state_of new))
+      (sym why.1) (refusal_caused _ _ old new why.0 why.2)
 
   inserted : (answer : Result Receipt InsertErr) → AnswersInsert setup body old answer new
       → Leaves setup.seg_size (log_limit setup) (old.reserving).number (Insert value)
@@ -128,8 +124,7 @@ module _ (knows_record : KnowsRecords) (setup : Setup) (body : Assembled)
             told.reserved.log_is;
         end_is = told.end_is ∙ ap (finish_of setup.seg_size) (entry_is told.entry own);
       }
-  inserted (Err e) why = refuses (refused_of_insert e).cause (refused_of_insert e).reserved
-      (refused_as_commit setup body old new e why)
+  inserted (Err e) why = refuses e why
 
   committed : (answer : Result Sealed refused.Refused) → AnswersCommit setup body old answer new
       → Leaves setup.seg_size (log_limit setup) (old.reserving).number (Commit value)
@@ -148,7 +143,9 @@ module _ (knows_record : KnowsRecords) (setup : Setup) (body : Assembled)
       log_is = told.log_is;
     };
   }
-  committed (Err e) why = refuses e.cause e.reserved why
+  committed (Err e) why = subst (λ (r : refused.Refused).
+      RefusesRecordLine setup.seg_size (log_limit setup) (old.reserving).number value r.cause
+      r.reserved (pass_state_of old) (pass_state_of new)) (sym why.1) (refuses why.0 why.2)
 
   pub ahead : (answer : Result Receipt InsertErr) → AnswersInsert setup body old answer new
       → IfOk answer (λ receipt. receipt.end.0 ≤ new.async_met)

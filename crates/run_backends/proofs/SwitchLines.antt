@@ -11,16 +11,16 @@ use Rattle.machine_state.specs.Moves.{entry_reserved}
 use Rattle.machine_state.specs.Words.{log_limit}
 use Rattle.wal_rule.specs.Downs.{KnowsDown}
 use Rattle.machine_state.specs.Views.{View}
+use Rattle.wal_log.specs.declared.inserting.InsertErr.{InsertErr}
+use Rattle.wal_log.specs.declared.inserting.InsertErr.TheVariants as inserts
 use Rattle.wal_log.specs.declared.switching.Switch as switching
 use Rattle.wal_log.specs.declared.switching.Switch.TheVariants as switched
-use Rattle.wal_log.specs.declared.switching.SwitchErr.{SwitchErr}
-use Rattle.wal_log.specs.declared.switching.SwitchErr.TheVariants as switches
 use Rattle.wal_log.specs.PassLogs.{log_of_pass}
 use Rattle.wal_log.specs.Standing.{KeepsPass}
 use Rattle.wal_log.specs.Switching.{AnswersSwitch, HasSwitched, IsSwitchStarted}
 use Rattle.run_laws.specs.Played.{Leaves, PlaysLine, TellsCause, Reserves, pass_state_of}
 use Rattle.run_backends.proofs.EndsKept.{told_of_switched}
-use Rattle.run_backends.proofs.LinePasses.{reserves_of}
+use Rattle.run_backends.proofs.LinePasses.{refusal_caused, reserves_of}
 
 module _ (setup : Setup) (body : Assembled) (old new : View) where
   switch_is : (e : Entry) (has : HasSwitched setup body old new e)
@@ -45,7 +45,7 @@ module _ (setup : Setup) (body : Assembled) (old new : View) where
   switch_started start told = reserves_switch told.entry told.switched start told.start_is
 
   module _ (is_body : body ≡ assembled switch_record) where
-    switched_leaves : (answer : Result switching.Switch SwitchErr)
+    switched_leaves : (answer : Result switching.Switch InsertErr)
         → AnswersSwitch setup body old answer new
         → Leaves setup.seg_size (log_limit setup) (old.reserving).number Switch
         (told_of_switched answer) (pass_state_of old) (pass_state_of new)
@@ -61,9 +61,9 @@ module _ (setup : Setup) (body : Assembled) (old new : View) where
       starts = told.starts;
       log_is = told.log_is;
     }
-    switched_leaves (Err (switches.Full free)) why =
-        let full = why.full in record {
-          full = record {
+    switched_leaves (Err (inserts.Full free)) why =
+        let full = why.0.full in (
+          record {
             at = full.at;
             free_is = (let is = full.free_is in let within = full.within in
                 omega (arith, is, within));
@@ -71,30 +71,26 @@ module _ (setup : Setup) (body : Assembled) (old new : View) where
                 (λ (a : Assembled). free < assembled_room_at setup.seg_size full.at a)
                 is_body full.short;
             log_is = full.log_is;
-          };
-          some = why.some;
-          few = why.few;
-        }
-    switched_leaves (Err (switches.Disk faults start)) why =
-        (switch_started start.0 why.0, (why.1.some, inr why.1.set))
-    switched_leaves (Err (switches.Down faults None)) why =
-        (why.0, (why.1.some, inl why.1.met))
-    switched_leaves (Err (switches.Down faults (Some start))) why =
-        (switch_started start.0 why.0, (why.1.some, inl why.1.met))
+          },
+          (why.0.some, why.0.few),
+        )
+    switched_leaves (Err (inserts.Disk faults start)) why =
+        ((switch_started start.0 why.0, (why.1.some, inr why.1.set)), tt)
+    switched_leaves (Err (inserts.Down faults None)) why =
+        ((why.0, (why.1.some, inl why.1.met)), tt)
+    switched_leaves (Err (inserts.Down faults (Some start))) why =
+        ((switch_started start.0 why.0, (why.1.some, inl why.1.met)), tt)
 
-    switched_caused : (answer : Result switching.Switch SwitchErr)
+    switched_caused : (answer : Result switching.Switch InsertErr)
         → AnswersSwitch setup body old answer new
         → TellsCause (told_of_switched answer) (pass_state_of old) (pass_state_of new)
     switched_caused (Ok (switched.Done start end)) told = (told.up.met, told.up.set)
     switched_caused (Ok (switched.Stayed end)) told = (told.up.met, told.up.set)
-    switched_caused (Err (switches.Full free)) why = (why.up.met, why.up.set)
-    switched_caused (Err (switches.Disk faults start)) why = why.1.set
-    switched_caused (Err (switches.Down faults None)) why = (why.1.met, why.1.set_none)
-    switched_caused (Err (switches.Down faults (Some start))) why = (why.1.met, why.1.set_none)
+    switched_caused (Err e) why = refusal_caused _ _ old new e why
 
-    pub plays_switch : KeepsPass old new → (answer : Result switching.Switch SwitchErr)
+    pub plays_switch : KeepsPass old new → (answer : Result switching.Switch InsertErr)
         (told : Told) → told ≡ told_of_switched answer → AnswersSwitch setup body old answer new
-        → ((faults : ℕ) → KnowsDown faults old → answer ≡ Err (switches.Down faults None))
+        → ((faults : ℕ) → KnowsDown faults old → answer ≡ Err (inserts.Down faults None))
         → PlaysLine setup.seg_size (log_limit setup) (old.reserving).number Switch told
         (pass_state_of old) (pass_state_of new)
     plays_switch keeps answer told is answers again = record {

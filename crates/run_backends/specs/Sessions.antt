@@ -1,5 +1,5 @@
 -- A backend's pass, what it has between two lines, and the end that is kept beside it.
-use Rattle.std.specs.Prelude.{◌⊎◌, ℕ, ◌≤◌, Some, None}
+use Rattle.std.specs.Prelude.{◌⊎◌, ℕ, ◌≤◌, None}
 use Rattle.wal_types.specs.declared.answers.Cause.TheVariants as causes
 use Rattle.machine_state.specs.Words.{end_form, log_limit}
 use Rattle.machine_state.specs.declared.setup.Setup.{Setup}
@@ -10,8 +10,6 @@ use Rattle.wal_log.specs.Logs.{IsPassOfLog, setup_of_log}
 use Rattle.wal_log.specs.Standing.{KeepsPass}
 use Rattle.wal_log.specs.declared.flushing.FlushErr.{FlushErr}
 use Rattle.wal_log.specs.declared.flushing.FlushErr.TheVariants as flushes
-use Rattle.wal_log.specs.declared.switching.SwitchErr.{SwitchErr}
-use Rattle.wal_log.specs.declared.switching.SwitchErr.TheVariants as switches
 use Rattle.wal_log.specs.declared.wal.Wal.{Wal}
 use Rattle.run_script.specs.Asked.{Asked}
 use Rattle.run_laws.specs.declared.told.Told.{Told}
@@ -65,9 +63,3 @@ abbrev pub told_of_flush_err : FlushErr → Told
 told_of_flush_err (flushes.Disk faults) = Refused (causes.Disk faults) None
 told_of_flush_err (flushes.Down faults) = Refused (causes.Down faults) None
 told_of_flush_err (flushes.Unreserved found) = Refused (causes.Down 0) None
-
--- what a line is told whose segment switch was refused
-abbrev pub told_of_switch_err : SwitchErr → Told
-told_of_switch_err (switches.Full free) = Refused (causes.Full free) None
-told_of_switch_err (switches.Disk faults start) = Refused (causes.Disk faults) (Some start)
-told_of_switch_err (switches.Down faults start) = Refused (causes.Down faults) start

@@ -9,13 +9,13 @@ ghost use Rattle.wal_spelling.specs.Record.{switch_record};
 ghost use Rattle.wal_spelling.specs.Spelling.{assembled};
 ghost use Rattle.run_script.specs.Asked.{Asked, Commit, CommitAsync, Flush, Insert, Switch, WriteBehind};
 ghost use Rattle.run_script.specs.Bodies.{IsActionOf, IsBodyOf};
-ghost use Rattle.run_backends.specs.Sessions.{IsSessionOf, LeavesSession, PlaysAnswer, told_of_flush_err, told_of_switch_err};
+ghost use Rattle.run_backends.specs.Sessions.{IsSessionOf, LeavesSession, PlaysAnswer, told_of_flush_err};
 
 use run_laws::Told;
 use run_script::Action;
 use segment_disk::Disk;
 use std::sync::Wait;
-use wal_log::{Caught, Cause, CommitErr, FlushErr, Pass, SwitchErr, Wal};
+use wal_log::{Caught, Cause, CommitErr, FlushErr, Pass, Wal};
 use wal_record::laws::body_knows_its_record;
 use wal_spelling::KeptBody;
 use wal_types::Lsn;
@@ -149,7 +149,7 @@ impl Session {
                 Told::Switched { start, end }
             }
             Ok(wal_log::Switch::Stayed { end }) => Told::Stayed { end },
-            Err(e) => refused_switch(e),
+            Err(e) => Told::of_refusal(e.into()),
         }
     }
 
@@ -176,16 +176,4 @@ fn refused_flush(e: FlushErr) -> Told
         cause,
         reserved: None,
     }))
-}
-
-// What a line is told whose segment switch was refused.
-fn refused_switch(e: SwitchErr) -> Told
-    ensures { result ≡ told_of_switch_err e }
-{
-    let (cause, reserved) = match e {
-        SwitchErr::Full { free } => (Cause::Full { free }, None),
-        SwitchErr::Disk { faults, start } => (Cause::Disk { faults }, Some(start)),
-        SwitchErr::Down { faults, start } => (Cause::Down { faults }, start),
-    };
-    Told::Refused { cause, reserved }
 }

@@ -12,7 +12,7 @@ use Rattle.run_laws.specs.declared.told.Told.TheVariants.{Wrote, Hard, Flushed, 
 use Rattle.run_laws.proofs.AllLaws.{parts_all}
 use Rattle.machine_state.specs.PassLogs.{PassLog, log_with_promise, log_with_stop}
 use Rattle.run_laws.specs.Played.{KnowsFault, Leaves, PassState, PlaysLines, RefusesRecordLine, Reserves}
-use Rattle.run_laws.proofs.LineFaults.{down_known, refused_as_record}
+use Rattle.run_laws.proofs.LineFaults.{down_known}
 
 module _ (size limit pass : ℕ) where
   pub lines_know : (faults : ℕ) (lines : List AskedLine) (told : List Told)
@@ -139,8 +139,7 @@ module _ (size limit pass : ℕ) where
     line_held Switch (Stayed end) before after l held =
         held_stopping AtSegmentStart l.at before.log after.log l.log_is held
     line_held Switch (Refused cause reserved) before after l held =
-        held_refused switch_record cause reserved before after
-        (refused_as_record size limit pass cause reserved before after l) held
+        held_refused switch_record cause reserved before after l.0 held
 
     pub lines_held : (lines : List AskedLine) (told : List Told) (before after : PassState)
         → PlaysLines size limit pass before lines told after → Held after.log → Held before.log

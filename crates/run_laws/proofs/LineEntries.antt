@@ -15,7 +15,6 @@ use Rattle.run_laws.specs.declared.told.Told.TheVariants.{Wrote, Hard, Flushed, 
 use Rattle.run_laws.specs.Told.{entries_of, entry_at, entry_of}
 use Rattle.machine_state.specs.PassLogs.{PassLog}
 use Rattle.run_laws.specs.Played.{Leaves, PassState, PlaysLines, RefusesRecordLine, Reserves}
-use Rattle.run_laws.proofs.LineFaults.{refused_as_record}
 
 module _ (size limit pass : ℕ) (valid : IsSegmentSize size) where
   -- the log's entries with one more, whose start is told
@@ -126,8 +125,7 @@ module _ (size limit pass : ℕ) (valid : IsSegmentSize size) where
   line_entries Switch (Stayed end) before after l =
       same_entries before.log after.log (ap (λ (l : PassLog). l.entries) l.log_is)
   line_entries Switch (Refused cause reserved) before after l =
-      refused_entries switch_record cause reserved before after
-      (refused_as_record size limit pass cause reserved before after l)
+      refused_entries switch_record cause reserved before after l.0
 
   pub lines_entries : (lines : List AskedLine) (told : List Told) (before after : PassState)
       → PlaysLines size limit pass before lines told after

@@ -1,30 +1,16 @@
 -- Once a pass knows that the disk failed, each line is told so.
-use Rattle.std.proofs.Common.{ℕ, ◌+◌, List, [], ◌∷◌, Option, Some, None, subst}
-use Rattle.wal_spelling.specs.Record.{switch_record}
-use Rattle.wal_types.specs.declared.answers.Cause.{Cause}
+use Rattle.std.proofs.Common.{ℕ, ◌+◌, List, [], ◌∷◌, Some, None, subst}
 use Rattle.wal_types.specs.declared.answers.Cause.TheVariants.{Full, Disk, Down}
-use Rattle.wal_types.specs.declared.lsn.Lsn.{Lsn}
 use Rattle.run_script.specs.Asked.{Asked, AskedLine, Insert, Commit, Flush, CommitAsync, WriteBehind, Switch}
 use Rattle.run_laws.specs.declared.told.Told.{Told}
 use Rattle.run_laws.specs.declared.told.Told.TheVariants.{Wrote, Hard, Flushed, Async, Idle, Switched, Stayed, Refused}
 use Rattle.run_laws.specs.Told.{AllDown, EachStaysDown, StaysDown}
 use Rattle.machine_state.specs.Words.{Opening, log_limit}
 use Rattle.machine_state.specs.Views.{View}
-use Rattle.run_laws.specs.Played.{KnowsFault, Leaves, PassState, PlaysLines, RefusesRecordLine, RefusesSwitchLine, state_at_first, pass_state_of}
+use Rattle.run_laws.specs.Played.{KnowsFault, Leaves, PassState, PlaysLines, state_at_first, pass_state_of}
 use Rattle.run_laws.specs.Ended.{HasTakenIn, PlayedAll}
 
 module _ (size limit pass : ℕ) where
-  -- a segment switch is refused as a record is
-  pub refused_as_record : (cause : Cause) (reserved : Option Lsn) (before after : PassState)
-      → RefusesSwitchLine size limit pass cause reserved before after
-      → RefusesRecordLine size limit pass switch_record cause reserved before after
-  refused_as_record (Full free) None before after l = l.full
-  refused_as_record (Full free) (Some start) before after l = absurd l
-  refused_as_record (Disk faults) None before after l = absurd l
-  refused_as_record (Disk faults) (Some start) before after l = l
-  refused_as_record (Down faults) None before after l = l
-  refused_as_record (Down faults) (Some start) before after l = l
-
   -- a line that is told of a failed disk leaves its pass knowing it
   pub down_known : (asked : Asked) (faults : ℕ) (before after : PassState)
       → Leaves size limit pass asked (Refused (Down faults) None) before after
@@ -34,7 +20,7 @@ module _ (size limit pass : ℕ) where
   down_known Flush faults before after l = l.1
   down_known (CommitAsync value) faults before after l = l.1
   down_known WriteBehind faults before after l = l.1
-  down_known Switch faults before after l = l.1
+  down_known Switch faults before after l = l.0.1
 
   pub lines_down : (faults : ℕ) (lines : List AskedLine) (told : List Told)
       (before after : PassState) → PlaysLines size limit pass before lines told after
@@ -95,12 +81,13 @@ module _ (size limit pass : ℕ) where
   stays_behind WriteBehind (Refused (Disk faults) (Some start)) others before mid l stays down = absurd l
   stays_behind WriteBehind (Refused (Down faults) None) others before mid l stays down = down faults l.1
   stays_behind WriteBehind (Refused (Down faults) (Some start)) others before mid l stays down = absurd l
-  stays_behind Switch (Refused (Disk faults) None) others before mid l stays down = absurd l
+  stays_behind Switch (Refused (Disk faults) None) others before mid l stays down = absurd l.0
   stays_behind Switch (Refused (Disk faults) (Some start)) others before mid l stays down =
-      down faults l.1
-  stays_behind Switch (Refused (Down faults) None) others before mid l stays down = down faults l.1
+      down faults l.0.1
+  stays_behind Switch (Refused (Down faults) None) others before mid l stays down =
+      down faults l.0.1
   stays_behind Switch (Refused (Down faults) (Some start)) others before mid l stays down =
-      down faults l.1
+      down faults l.0.1
 
   pub lines_stay_down : (lines : List AskedLine) (told : List Told) (before after : PassState)
       → PlaysLines size limit pass before lines told after → StaysDown told

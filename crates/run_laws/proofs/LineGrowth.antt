@@ -14,7 +14,6 @@ use Rattle.run_laws.specs.declared.told.Told.TheVariants.{Wrote, Hard, Flushed, 
 use Rattle.run_laws.specs.Moments.{may_repeat}
 use Rattle.machine_state.specs.PassLogs.{PassLog, log_with_entry, log_with_promise}
 use Rattle.run_laws.specs.Played.{Leaves, PassState, PlaysLines, RefusesFlushLine, RefusesRecordLine, Reserves, end_of_own}
-use Rattle.run_laws.proofs.LineFaults.{refused_as_record}
 
 -- entries may be added, but no promise
 pub record AddsNoPromise (before after : PassLog) : Type 0 where
@@ -162,8 +161,7 @@ module _ (size limit pass : ℕ) where
   line_grows Switch (Stayed end) before after l = nothing_added before.log after.log
       (ap (λ (l : PassLog). l.entries) l.log_is) (ap (λ (l : PassLog). l.promises) l.log_is)
   line_grows Switch (Refused cause reserved) before after l =
-      record_refused switch_record cause reserved before after
-      (refused_as_record size limit pass cause reserved before after l)
+      record_refused switch_record cause reserved before after l.0
 
   grown : (asked : Asked) (told : Told) (before after : PassLog)
       → Grows size asked told before after → Extends before after

@@ -50,8 +50,8 @@ module _ (size limit pass : ℕ) where
   refused_knows_disk (CommitAsync value) faults (Some start) before after l = l.1
   refused_knows_disk WriteBehind faults None before after l = l.1
   refused_knows_disk WriteBehind faults (Some start) before after l = absurd l
-  refused_knows_disk Switch faults None before after l = absurd l
-  refused_knows_disk Switch faults (Some start) before after l = l.1
+  refused_knows_disk Switch faults None before after l = absurd l.0
+  refused_knows_disk Switch faults (Some start) before after l = l.0.1
 
   refused_knows_down : (asked : Asked) (faults : ℕ) (reserved : _) (before after : PassState)
       → Leaves size limit pass asked (Refused (Down faults) reserved) before after
@@ -66,8 +66,8 @@ module _ (size limit pass : ℕ) where
   refused_knows_down (CommitAsync value) faults (Some start) before after l = l.1
   refused_knows_down WriteBehind faults None before after l = l.1
   refused_knows_down WriteBehind faults (Some start) before after l = absurd l
-  refused_knows_down Switch faults None before after l = l.1
-  refused_knows_down Switch faults (Some start) before after l = l.1
+  refused_knows_down Switch faults None before after l = l.0.1
+  refused_knows_down Switch faults (Some start) before after l = l.0.1
 
   -- where the pass knew a fault, its lines set none
   lines_set_none : (faults : ℕ) (lines : List AskedLine) (told : List Told)

@@ -75,13 +75,13 @@ module _ (size limit pass : ℕ) where
   full_line WriteBehind (Refused (Down faults) None) before after up l refused =
       absurd (up faults l.1)
   full_line WriteBehind (Refused (Down faults) (Some start)) before after up l refused = absurd l
-  full_line Switch (Refused (Disk faults) None) before after up l refused = absurd l
+  full_line Switch (Refused (Disk faults) None) before after up l refused = absurd l.0
   full_line Switch (Refused (Disk faults) (Some start)) before after up l refused =
-      absurd (up faults l.1)
+      absurd (up faults l.0.1)
   full_line Switch (Refused (Down faults) None) before after up l refused =
-      absurd (up faults l.1)
+      absurd (up faults l.0.1)
   full_line Switch (Refused (Down faults) (Some start)) before after up l refused =
-      absurd (up faults l.1)
+      absurd (up faults l.0.1)
 
   full_lines : (lines : List AskedLine) (told : List Told) (before after : PassState)
       → PlaysLines size limit pass before lines told after

@@ -19,14 +19,13 @@ use Rattle.machine_state.specs.Words.{GoesOnAtPlace, Opening, end_form, log_limi
 use Rattle.machine_state.specs.Ordered.{FrontEndsAt}
 use Rattle.run_laws.specs.declared.told.Told.{Told}
 use Rattle.run_laws.specs.declared.told.Told.TheVariants.{Wrote, Hard, Flushed, Async, Idle, Switched, Stayed, Refused}
-use Rattle.run_laws.specs.Told.{FitsLine, IsFault, IsPlaced, LeavesFew, Logged, MayRefuseFlush, MayRefuseRecord, TellsFrom, behind_or, entries_of, entry_of, front_end}
+use Rattle.run_laws.specs.Told.{FitsLine, IsFault, IsPlaced, Logged, MayRefuseFlush, MayRefuseRecord, TellsFrom, behind_or, entries_of, entry_of, front_end}
 use Rattle.run_laws.proofs.AllLaws.{parts_all}
 use Rattle.machine_state.specs.PassLogs.{PassLog, log_with_promise}
-use Rattle.run_laws.specs.Played.{KnowsFault, Leaves, PassState, PlaysLines, RefusesFlushLine, RefusesRecordLine, RefusesSwitchLine, Reserves, ReservesUpto, behind_last_own}
+use Rattle.run_laws.specs.Played.{KnowsFault, Leaves, PassState, PlaysLines, RefusesFlushLine, RefusesRecordLine, Reserves, ReservesUpto, behind_last_own}
 use Rattle.run_laws.specs.Ended.{logged_at_end}
 use Rattle.run_laws.proofs.FullLines.{full_cause, stay_cause}
 use Rattle.run_laws.proofs.LineEntries.{line_entries, lines_entries}
-use Rattle.run_laws.proofs.LineFaults.{refused_as_record}
 use Rattle.run_laws.proofs.LaterLines.{Held, lines_held, lines_know, lines_see}
 
 -- the position behind some entries and one more, or none more
@@ -127,13 +126,6 @@ module _ (opening : Opening) (placed : IsPlace (opening.setup).seg_size opening.
     refuses_flush (Down faults) None l = (faulty faults l.1, refl)
     refuses_flush (Down faults) (Some start) l = absurd l
 
-    leaves_few : (cause : Cause) (reserved : Option Lsn)
-        → RefusesSwitchLine size limit pass cause reserved before after → LeavesFew cause
-    leaves_few (Full free) None l = (l.some, l.few)
-    leaves_few (Full free) (Some start) l = absurd l
-    leaves_few (Disk faults) reserved l = tt
-    leaves_few (Down faults) reserved l = tt
-
     fits : (asked : Asked) (told : Told) → Leaves size limit pass asked told before after
         → FitsLine logged pass behind asked told
     fits (Insert value) (Wrote start end) l = is_placed value start end before.log after.log l
@@ -196,11 +188,7 @@ module _ (opening : Opening) (placed : IsPlace (opening.setup).seg_size opening.
     fits Switch (Stayed end) l =
         stay_cause opening placed order last pass follows all end.0 before.log after.log l
         held.0 own
-    fits Switch (Refused cause reserved) l = (
-      refuses switch_record cause reserved
-          (refused_as_record size limit pass cause reserved before after l),
-      leaves_few cause reserved l,
-    )
+    fits Switch (Refused cause reserved) l = (refuses switch_record cause reserved l.0, l.1)
 
   pub tells : (lines : List AskedLine) (told : List Told) (before after : PassState)
       → PlaysLines size limit pass before lines told after → (after.log).entries ≡ all

@@ -10,6 +10,7 @@ use Rattle.byte_position.specs.Position.{end_address_of, first_position}
 use Rattle.wal_page.specs.Order.{Entry, finish_of, position_behind, room_at, start_of}
 use Rattle.run_script.specs.Asked.{Asked, AskedLine, Insert, Commit, Flush, CommitAsync, WriteBehind, Switch}
 use Rattle.run_script.specs.Writable.{AsksWritable}
+use Rattle.run_laws.specs.Told.{LeavesFew}
 use Rattle.run_laws.specs.declared.told.Told.{Told}
 use Rattle.run_laws.specs.declared.told.Told.TheVariants.{Wrote, Hard, Flushed, Async, Idle, Switched, Stayed, Refused}
 use Rattle.machine_state.specs.Views.{FlushPromise, View}
@@ -138,7 +139,7 @@ module _ (size limit pass : ℕ) where
   FailsBehind value start faults before after =
       Reserves value start before.log after.log × KnowsFault faults after
 
-  -- an insert or a commit is refused
+  -- a line with a record is refused
   abbrev pub RefusesRecordLine : Record → Cause → Option Lsn → PassState → PassState → Type 0
   RefusesRecordLine value (Full free) None before after = AddsFull value free before.log after.log
   RefusesRecordLine value (Full free) (Some start) before after = ⊥
@@ -148,24 +149,6 @@ module _ (size limit pass : ℕ) where
   RefusesRecordLine value (Down faults) None before after = FindsDown faults before after
   RefusesRecordLine value (Down faults) (Some start) before after =
       FailsBehind value start.0 faults before after
-
-  -- the log was found full for a segment switch: some bytes were free, fewer than its own 24
-  pub record AddsFullForSwitch (free : ℕ) (before after : PassLog) : Type 0 where
-    pub full : AddsFull switch_record free before after
-    pub some : 1 ≤ free
-    pub few : free < 24
-
-  -- a segment switch is refused
-  abbrev pub RefusesSwitchLine : Cause → Option Lsn → PassState → PassState → Type 0
-  RefusesSwitchLine (Full free) None before after =
-      AddsFullForSwitch free before.log after.log
-  RefusesSwitchLine (Full free) (Some start) before after = ⊥
-  RefusesSwitchLine (Disk faults) None before after = ⊥
-  RefusesSwitchLine (Disk faults) (Some start) before after =
-      FailsBehind switch_record start.0 faults before after
-  RefusesSwitchLine (Down faults) None before after = FindsDown faults before after
-  RefusesSwitchLine (Down faults) (Some start) before after =
-      FailsBehind switch_record start.0 faults before after
 
   -- a flush is refused
   abbrev pub RefusesFlushLine : Cause → Option Lsn → PassState → PassState → Type 0
@@ -201,7 +184,7 @@ module _ (size limit pass : ℕ) where
       ReservesUpto switch_record start.0 end.0 before.log after.log
   Leaves Switch (Stayed end) before after = AddsStay end.0 before.log after.log
   Leaves Switch (Refused cause reserved) before after =
-      RefusesSwitchLine cause reserved before after
+      RefusesRecordLine switch_record cause reserved before after × LeavesFew cause
   Leaves asked other before after = ⊥
 
   -- an insert, or a commit that is flushed, meets no async address: it raises none

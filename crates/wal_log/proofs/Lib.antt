@@ -16,6 +16,7 @@ pub mod Keeping
 pub mod NextWord
 pub mod Opens
 pub mod PageLaws
+pub mod Refusals
 pub mod Reopens
 pub mod ReservedLaws
 mod RoomLaws

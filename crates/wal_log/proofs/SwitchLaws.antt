@@ -1,6 +1,6 @@
 -- What a segment switch leaves of its pass: while it takes its locks, where it is not reserved, and
 -- once it is copied.
-use Rattle.std.specs.Prelude.{Result, Ok, Err, None, Some}
+use Rattle.std.specs.Prelude.{Result, Ok, Err}
 use Rattle.std.proofs.Common.{◌≡◌, ℕ, ◌+◌, ◌%◌, ◌<◌, ◌≤◌, Contains, List, [], ◌∷◌, ◌++◌, refl, sym, ap, ◌∙◌, subst, arith}
 use Rattle.wal_spelling.specs.Spelling.{Assembled}
 use Rattle.wal_page.specs.Order.{Entry}
@@ -24,23 +24,24 @@ use Rattle.reserve_lock.specs.declared.switching.SwitchTry.TheVariants as tries
 use Rattle.reserve_lock.specs.Reserved as reserved
 use Rattle.reserve_lock.specs.Reserved.{IsLogFull, StaysAtStart, TellsWhy, every_lock}
 use Rattle.wal_log.specs.declared.fault.Fault.{Fault}
-use Rattle.wal_log.specs.declared.fault.Fault.TheVariants as faults
+use Rattle.wal_log.specs.declared.fault.Fault.TheVariants.{Disk, Down}
+use Rattle.wal_log.specs.declared.inserting.InsertErr.{InsertErr}
 use Rattle.wal_log.specs.declared.switching.Switch.{Switch}
 use Rattle.wal_log.specs.declared.switching.Switch.TheVariants.{Done, Stayed}
-use Rattle.wal_log.specs.declared.switching.SwitchErr.{SwitchErr}
-use Rattle.wal_log.specs.declared.switching.SwitchErr.TheVariants.{Full, Disk, Down}
 use Rattle.wal_log.specs.Beginning.{IsBegunUnder}
-use Rattle.wal_log.specs.Downs.{KnowsNoFault, MeetsDown, MeetsFault}
+use Rattle.wal_log.specs.Downs.{KnowsNoFault, MeetsFault}
+use Rattle.wal_log.specs.Inserting.{insert_err_of_fault}
 use Rattle.wal_log.specs.PassLogs.{PassLog, log_of_pass}
 use Rattle.machine_state.specs.PassLogs.{log_with_stay}
 use Rattle.wal_log.specs.Standing.{ComesToRest, HasLocks, HoldsLocks, KeepsPass}
-use Rattle.wal_log.specs.Switching.{AnswersPlace, AnswersSwitch, FindsNoRoom, FindsSegmentStart, HasSwitched, HoldsOn, IsSwitchBegun, IsSwitchDone, IsSwitchEntry, IsSwitchStarted, RefusesSwitch, TellsDown, TellsNoPlace, switch_err_of_fault}
+use Rattle.wal_log.specs.Switching.{AnswersPlace, AnswersSwitch, FindsNoRoom, FindsSegmentStart, HasSwitched, HoldsOn, IsSwitchBegun, IsSwitchDone, IsSwitchEntry, IsSwitchStarted, RefusesSwitch, TellsDown, TellsNoPlace}
 use Rattle.wal_log.specs.Waiting.{IsSeenTold}
 use Rattle.wal_log.specs.Whole.{CopiesWhole}
 use Rattle.wal_log.proofs.BeginLaws.{begun_since, begun_under, full_in_vain, full_rests, full_since, holds_in_vain, keeps_in_vain, loaded_keeps, loaded_log, place_keeps, reserved_since, seen_in_vain, stopped_holds, stopped_keeps, stopped_up}
 use Rattle.wal_log.proofs.InsertLaws.{ends_there, met_since, reserved_still}
-use Rattle.wal_log.proofs.Keeping.{both_up, further_pass, meets_since, same_pass, up_before}
+use Rattle.wal_log.proofs.Keeping.{both_up, further_pass, same_pass, up_before}
 use Rattle.wal_log.proofs.Plain.{down_loaded}
+use Rattle.wal_log.proofs.Refusals.{refused_as, refused_rests, refused_since}
 use Rattle.wal_log.proofs.Seated.{further_seated, own_setup, same_setup, seat_stays, view_is}
 use Rattle.wal_log.proofs.Unlocking.{rested, rested_keeps}
 use Rattle.wal_log.proofs.WholeLaws.{copied_since}
@@ -251,54 +252,38 @@ module _ {D : Type 0} where
 
 -- ---- the disk had failed
 
-abbrev pub failed : SwitchErr → Result (Unit {0}) SwitchErr
+abbrev pub failed : InsertErr → Result (Unit {0}) InsertErr
 failed e = Err e
 
-pub same_err : (e f : SwitchErr) → failed e ≡ failed f → e ≡ f
+pub same_err : (e f : InsertErr) → failed e ≡ failed f → e ≡ f
 same_err e f is = cc
 
-pub not_done : (u : Unit {0}) (e : SwitchErr) → Ok u ≡ failed e → ⊥
+pub not_done : (u : Unit {0}) (e : InsertErr) → Ok u ≡ failed e → ⊥
 not_done u e is = absurd (cc)
 
-tells_down_since : (u v w : View) → v.writing.down_set ≡ u.writing.down_set → (e : SwitchErr)
-    → TellsDown v w e → TellsDown u w e
-tells_down_since u v w same (Full free) told = told
-tells_down_since u v w same (Disk faults start) told = told
-tells_down_since u v w same (Down faults None) told = meets_since u v w faults same told
-tells_down_since u v w same (Down faults (Some start)) told = told
-
--- since a view from which the pass kept what it keeps, and knew no fault
-pub down_since : (u v w : View) → KeepsPass u v → KnowsNoFault v → (e : SwitchErr)
-    → TellsDown v w e → TellsDown u w e
-down_since u v w keeps up e told =
-    tells_down_since u v w (both_up u v (up_before u v keeps up) up) e told
+-- since a view from which the pass kept what it keeps, with its log, and knew no fault
+pub down_since : (u v w : View) → KeepsPass u v → log_of_pass v ≡ log_of_pass u → KnowsNoFault v
+    → (e : InsertErr) → TellsDown v w e → TellsDown u w e
+down_since u v w keeps same up e told = refused_since _ _ _ _ u v w same
+    (both_up u v (up_before u v keeps up) up) (λ free no. no) (λ start no. no) e told
 
 -- and so with the locks given back
-pub down_rests : (u w new : View) → new ≡ rested w → (e : SwitchErr) → TellsDown u w e
+pub down_rests : (u w new : View) → new ≡ rested w → (e : InsertErr) → TellsDown u w e
     → TellsDown u new e
-down_rests u w new is (Full free) told = told
-down_rests u w new is (Disk faults start) told = told
-down_rests u w new is (Down faults None) told = subst (λ (v : View). MeetsDown faults u v) (sym is)
-    (record { met = told.met; some = told.some; set_none = told.set_none })
-down_rests u w new is (Down faults (Some start)) told = told
+down_rests u w new is e told = refused_rests _ _ u w new is (λ free no. no) e told
 
-pub down_no_place : (setup : Setup) (body : Assembled) (u w : View)
-    → log_of_pass w ≡ log_of_pass u → (e : SwitchErr) → TellsDown u w e
-    → TellsNoPlace setup body u w e
-down_no_place setup body u w same (Full free) told = absurd told
-down_no_place setup body u w same (Disk faults start) told = told
-down_no_place setup body u w same (Down faults None) told = (same, told)
-down_no_place setup body u w same (Down faults (Some start)) told = told
+pub down_no_place : (setup : Setup) (body : Assembled) (u w : View) (e : InsertErr)
+    → TellsDown u w e → TellsNoPlace setup body u w e
+down_no_place setup body u w e told =
+    refused_as _ _ _ _ u w (λ free no. absurd no) (λ start no. no) e told
 
 -- ---- the place
 
 module _ (setup : Setup) (body : Assembled) (old new : View) where
-  pub no_place_refuses : (e : SwitchErr) → TellsNoPlace setup body old new e
+  pub no_place_refuses : (e : InsertErr) → TellsNoPlace setup body old new e
       → RefusesSwitch setup body old new e
-  no_place_refuses (Full free) told = told
-  no_place_refuses (Disk faults start) told = absurd told
-  no_place_refuses (Down faults None) told = told
-  no_place_refuses (Down faults (Some start)) told = absurd told
+  no_place_refuses e told =
+      refused_as _ _ _ _ old new (λ free room. room) (λ start no. absurd no) e told
 
   -- the switch was reserved
   pub switch_begun : (r : Reserved) → reserved.IsSwitchReserved setup body old new r.start.0 r.placed
@@ -337,12 +322,11 @@ module _ (setup : Setup) (body : Assembled) (old new : View) where
 
   -- the log was full
   pub no_room_found : (free : ℕ) → IsLogFull setup body free old new → (1 ≤ free) × (free < 24)
-      → KnowsNoFault new → FindsNoRoom setup body free old new
-  no_room_found free is few up = record {
+      → FindsNoRoom setup body free old new
+  no_room_found free is few = record {
     full = full_in_vain setup body old new free is;
     some = few.0;
     few = few.1;
-    up = up;
   }
 
   -- a try was not in vain
@@ -400,16 +384,7 @@ module _ (setup : Setup) (body : Assembled) (old between new : View)
     full = full_since setup body old between new keeps same free f.full;
     some = f.some;
     few = f.few;
-    up = f.up;
   }
-
-  no_place_since : (e : SwitchErr) → TellsNoPlace setup body between new e
-      → TellsNoPlace setup body old new e
-  no_place_since (Full free) told = no_room_since free told
-  no_place_since (Disk faults start) told = told
-  no_place_since (Down faults None) told =
-      (told.0 ∙ same, meets_since old between new faults set_none told.1)
-  no_place_since (Down faults (Some start)) told = told
 
   begun_earlier : (r : Reserved) → IsSwitchBegun setup body between new r
       → IsSwitchBegun setup body old new r
@@ -420,11 +395,14 @@ module _ (setup : Setup) (body : Assembled) (old between new : View)
         switch = subst (IsSwitchEntry setup) (sym since.1) b.switch;
       }
 
-  pub place_since : (r : Result SwitchTry SwitchErr) → AnswersPlace setup body between r new
+  pub place_since : (r : Result SwitchTry InsertErr) → AnswersPlace setup body between r new
       → AnswersPlace setup body old r new
   place_since (Ok (tries.Switched r)) told = begun_earlier r told
   place_since (Ok (tries.Stayed end)) told = (start_since end.0 told.0, told.1)
-  place_since (Err e) told = (no_place_since e told.0, told.1)
+  place_since (Err e) told = (
+    refused_since _ _ _ _ old between new same set_none no_room_since (λ start no. no) e told.0,
+    told.1,
+  )
 
   switched_since : (e : Entry) → HasSwitched setup body between new e → HasSwitched setup body old new e
   switched_since e s = record {
@@ -451,19 +429,12 @@ module _ (setup : Setup) (body : Assembled) (old between new : View)
     start_is = s.start_is;
   }
 
-  refuses_since : (e : SwitchErr) → RefusesSwitch setup body between new e
-      → RefusesSwitch setup body old new e
-  refuses_since (Full free) told = no_room_since free told
-  refuses_since (Disk faults start) told = (started_since start.0 told.0, told.1)
-  refuses_since (Down faults None) told = no_place_since (Down faults None) told
-  refuses_since (Down faults (Some start)) told =
-      (started_since start.0 told.0, meets_since old between new faults set_none told.1)
-
-  pub switch_since : (r : Result Switch SwitchErr) → AnswersSwitch setup body between r new
+  pub switch_since : (r : Result Switch InsertErr) → AnswersSwitch setup body between r new
       → AnswersSwitch setup body old r new
   switch_since (Ok (Done start end)) told = done_since start.0 end.0 told
   switch_since (Ok (Stayed end)) told = start_since end.0 told
-  switch_since (Err e) told = refuses_since e told
+  switch_since (Err e) told =
+      refused_since _ _ _ _ old between new same set_none no_room_since started_since e told
 
 -- ---- the locks are given back, where nothing was reserved
 
@@ -481,20 +452,17 @@ module _ (setup : Setup) (body : Assembled) (old v new : View) (is : new ≡ res
     up = record { met = (f.up).met; set = (f.up).set };
   })
 
-  pub no_place_rests : (e : SwitchErr) → TellsNoPlace setup body old v e
-      → RefusesSwitch setup body old new e
-  no_place_rests (Full free) told = subst (FindsNoRoom setup body free old) (sym is) (record {
+  room_rests : (free : ℕ) → FindsNoRoom setup body free old v → FindsNoRoom setup body free old new
+  room_rests free told = subst (FindsNoRoom setup body free old) (sym is) (record {
     full = full_rests setup body free old v told.full;
     some = told.some;
     few = told.few;
-    up = record { met = (told.up).met; set = (told.up).set };
   })
-  no_place_rests (Disk faults start) told = absurd told
-  no_place_rests (Down faults None) told = (
-    ap (λ (w : View). log_of_pass w) is ∙ told.0,
-    down_rests old v new is (Down faults None) told.1,
-  )
-  no_place_rests (Down faults (Some start)) told = absurd told
+
+  pub no_place_rests : (e : InsertErr) → TellsNoPlace setup body old v e
+      → RefusesSwitch setup body old new e
+  no_place_rests e told =
+      no_place_refuses setup body old new e (refused_rests _ _ old v new is room_rests e told)
 
 -- ---- it was copied whole, or given up
 
@@ -527,9 +495,9 @@ module _ (setup : Setup) (body : Assembled) (old mid new : View) (r : Reserved)
   started = record { entry = place.entry; switched = switched; start_is = place.start_is }
 
   pub switch_fails : (fault : Fault) → MeetsFault mid new fault
-      → RefusesSwitch setup body old new (switch_err_of_fault r.start fault)
-  switch_fails (faults.Disk n) told = (started, told)
-  switch_fails (faults.Down n) told = (
+      → RefusesSwitch setup body old new (insert_err_of_fault r.start fault)
+  switch_fails (Disk n) told = (started, told)
+  switch_fails (Down n) told = (
     started,
     met_since setup body every_lock old mid new r.start.0 r.end.0 r.placed place before keeps same n
         told,

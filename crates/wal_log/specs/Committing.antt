@@ -1,9 +1,7 @@
 -- What a commit answers and leaves of its pass: an insert, then a flush to its record's end.
-use Rattle.std.specs.Prelude.{◌≡◌, ℕ, ◌≤◌, Result, Ok, Err, Option, Some, None}
-use Rattle.wal_types.specs.declared.lsn.Lsn.{Lsn}
+use Rattle.std.specs.Prelude.{◌≡◌, ℕ, ◌≤◌, Result, Ok, Err, Some, None}
 use Rattle.wal_spelling.specs.Spelling.{Assembled}
 use Rattle.wal_page.specs.Order.{Entry, finish_of, start_of}
-use Rattle.wal_types.specs.declared.answers.Cause.{Cause}
 use Rattle.wal_types.specs.declared.answers.Cause.TheVariants as causes
 use Rattle.wal_types.specs.declared.answers.Refused.{Refused}
 use Rattle.wal_types.specs.declared.answers.Sealed.{Sealed}
@@ -51,23 +49,17 @@ pub record InsertsAndFlushes (setup : Setup) (body : Assembled) (old new : View)
   pub upto : ℕ
   pub flushes : IsToldHard sealed.end.0 upto sealed.moment inserted new
 
--- why a commit is refused
-abbrev pub RefusesCommit : Setup → Assembled → View → View → Cause → Option Lsn → Type 0
-RefusesCommit setup body old new (causes.Full free) None =
-    RefusesInsert setup body old new (Full free)
-RefusesCommit setup body old new (causes.Full free) (Some start) = ⊥
-RefusesCommit setup body old new (causes.Disk faults) None = ⊥
-RefusesCommit setup body old new (causes.Disk faults) (Some start) =
-    RefusesInsert setup body old new (Disk faults start)
-RefusesCommit setup body old new (causes.Down faults) reserved =
-    RefusesInsert setup body old new (Down faults reserved)
-
--- an insert was refused
+-- what is told where an insert or a segment switch was refused
 abbrev pub refused_of_insert : InsertErr → Refused
 refused_of_insert (Full free) = record { cause = causes.Full free; reserved = None }
 refused_of_insert (Disk faults start) =
     record { cause = causes.Disk faults; reserved = Some start }
 refused_of_insert (Down faults start) = record { cause = causes.Down faults; reserved = start }
+
+-- why a commit is refused: as an insert of its record is, also where the flush behind it failed
+abbrev pub RefusesCommit : Setup → Assembled → View → View → Refused → Type 0
+RefusesCommit setup body old new refused = (e : InsertErr) × (refused ≡ refused_of_insert e)
+    × RefusesInsert setup body old new e
 
 -- what is answered where the pass knows of a failed disk
 abbrev pub commit_known_down : ℕ → Result Sealed Refused
@@ -76,5 +68,4 @@ commit_known_down faults = Err (record { cause = causes.Down faults; reserved = 
 -- commit: the log's setup, the record, the pass's view before it, the answer, and the view after it
 abbrev pub AnswersCommit : Setup → Assembled → View → Result Sealed Refused → View → Type 0
 AnswersCommit setup body old (Ok sealed) new = IsSealed setup body old new sealed
-AnswersCommit setup body old (Err refused) new =
-    RefusesCommit setup body old new refused.cause refused.reserved
+AnswersCommit setup body old (Err refused) new = RefusesCommit setup body old new refused

@@ -73,18 +73,23 @@ pub record IsStarted (setup : Setup) (body : Assembled) (old new : View) (start 
     pub reserved : HasReserved setup body old new entry
     pub start_is : start ≡ start_of setup.seg_size entry
 
--- why an insert is refused, and whether its record was reserved all the same
-abbrev pub RefusesInsert : Setup → Assembled → View → View → InsertErr → Type 0
-RefusesInsert setup body old new (Full free) =
-    FindsLogFull setup body free old new × KnowsNoFault new
-RefusesInsert setup body old new (Disk faults start) =
-    IsStarted setup body old new start.0 × SetsDownItself faults new
-RefusesInsert setup body old new (Down faults None) =
+-- why a record is refused, or a segment switch: `full` holds of the bytes that a full log has left,
+-- `started` of the start at which the record was reserved all the same
+abbrev pub RefusesRecord : (full started : ℕ → Type 0) → View → View → InsertErr → Type 0
+RefusesRecord full started old new (Full free) = full free × KnowsNoFault new
+RefusesRecord full started old new (Disk faults start) =
+    started start.0 × SetsDownItself faults new
+RefusesRecord full started old new (Down faults None) =
     (log_of_pass new ≡ log_of_pass old) × MeetsDown faults old new
-RefusesInsert setup body old new (Down faults (Some start)) =
-    IsStarted setup body old new start.0 × MeetsDown faults old new
+RefusesRecord full started old new (Down faults (Some start)) =
+    started start.0 × MeetsDown faults old new
 
--- what an insert tells whose record starts here and which met a failed disk
+-- why an insert is refused
+abbrev pub RefusesInsert : Setup → Assembled → View → View → InsertErr → Type 0
+RefusesInsert setup body old new e = RefusesRecord (λ free. FindsLogFull setup body free old new)
+    (λ start. IsStarted setup body old new start) old new e
+
+-- what is told where a record that starts here, a segment switch's too, met a failed disk
 abbrev pub insert_err_of_fault : Lsn → Fault → InsertErr
 insert_err_of_fault start (faults.Disk n) = Disk n start
 insert_err_of_fault start (faults.Down n) = Down n (Some start)

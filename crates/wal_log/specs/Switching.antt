@@ -1,6 +1,5 @@
 -- What a segment switch answers, and what it leaves of its pass.
-use Rattle.std.specs.Prelude.{◌≡◌, ◌≢◌, ℕ, ◌%◌, ◌<◌, ◌≤◌, List, Result, Ok, Err, Some, None}
-use Rattle.wal_types.specs.declared.lsn.Lsn.{Lsn}
+use Rattle.std.specs.Prelude.{◌≡◌, ◌≢◌, ℕ, ◌%◌, ◌<◌, ◌≤◌, List, Result, Ok, Err}
 use Rattle.wal_spelling.specs.Record.{switch_record}
 use Rattle.wal_spelling.specs.Spelling.{Assembled}
 use Rattle.wal_page.specs.Order.{Entry, finish_of, start_of}
@@ -14,15 +13,12 @@ use Rattle.reserve_lock.specs.declared.reserving.Reserved.{Reserved}
 use Rattle.reserve_lock.specs.declared.switching.SwitchTry.{SwitchTry}
 use Rattle.reserve_lock.specs.declared.switching.SwitchTry.TheVariants as tries
 use Rattle.reserve_lock.specs.Reserved.{every_lock}
-use Rattle.wal_log.specs.declared.fault.Fault.{Fault}
-use Rattle.wal_log.specs.declared.fault.Fault.TheVariants as faults
+use Rattle.wal_log.specs.declared.inserting.InsertErr.{InsertErr}
 use Rattle.wal_log.specs.declared.switching.Switch.{Switch}
 use Rattle.wal_log.specs.declared.switching.Switch.TheVariants.{Done, Stayed}
-use Rattle.wal_log.specs.declared.switching.SwitchErr.{SwitchErr}
-use Rattle.wal_log.specs.declared.switching.SwitchErr.TheVariants.{Full, Disk, Down}
 use Rattle.wal_log.specs.Beginning.{IsBegunUnder}
-use Rattle.wal_log.specs.Downs.{KnowsNoFault, MeetsDown, SetsDownItself}
-use Rattle.wal_log.specs.Inserting.{FindsLogFull, HasReserved}
+use Rattle.wal_log.specs.Downs.{KnowsNoFault}
+use Rattle.wal_log.specs.Inserting.{FindsLogFull, HasReserved, RefusesRecord}
 use Rattle.wal_log.specs.PassLogs.{log_of_pass}
 use Rattle.wal_log.specs.Standing.{GoesOnSeated, HasLocks}
 use Rattle.wal_log.specs.Whole.{CopiesWhole}
@@ -68,7 +64,6 @@ pub record FindsNoRoom (setup : Setup) (body : Assembled) (free : ℕ) (old new 
     pub full : FindsLogFull setup body free old new
     pub some : 1 ≤ free
     pub few : free < 24
-    pub up : KnowsNoFault new
 
 -- a switch was reserved, with this start
 pub record IsSwitchStarted (setup : Setup) (body : Assembled) (old new : View) (start : ℕ)
@@ -77,20 +72,10 @@ pub record IsSwitchStarted (setup : Setup) (body : Assembled) (old new : View) (
   pub switched : HasSwitched setup body old new entry
   pub start_is : start ≡ start_of setup.seg_size entry
 
--- why a switch is refused, and whether it was reserved all the same
-abbrev pub RefusesSwitch : Setup → Assembled → View → View → SwitchErr → Type 0
-RefusesSwitch setup body old new (Full free) = FindsNoRoom setup body free old new
-RefusesSwitch setup body old new (Disk faults start) =
-    IsSwitchStarted setup body old new start.0 × SetsDownItself faults new
-RefusesSwitch setup body old new (Down faults None) =
-    (log_of_pass new ≡ log_of_pass old) × MeetsDown faults old new
-RefusesSwitch setup body old new (Down faults (Some start)) =
-    IsSwitchStarted setup body old new start.0 × MeetsDown faults old new
-
--- a switch that starts here was not copied whole
-abbrev pub switch_err_of_fault : Lsn → Fault → SwitchErr
-switch_err_of_fault start (faults.Disk n) = Disk n start
-switch_err_of_fault start (faults.Down n) = Down n (Some start)
+-- why a switch is refused
+abbrev pub RefusesSwitch : Setup → Assembled → View → View → InsertErr → Type 0
+RefusesSwitch setup body old new e = RefusesRecord (λ free. FindsNoRoom setup body free old new)
+    (λ start. IsSwitchStarted setup body old new start) old new e
 
 -- ---- on the way
 
@@ -101,19 +86,13 @@ pub record HoldsOn {D : Type 0} (locks : List ℕ) (old new : SeatedPass D) : Ty
   pub has : HasLocks locks (view_of new)
 
 -- the disk had failed before the switch was reserved
-abbrev pub TellsDown : View → View → SwitchErr → Type 0
-TellsDown old new (Full free) = ⊥
-TellsDown old new (Disk faults start) = ⊥
-TellsDown old new (Down faults None) = MeetsDown faults old new
-TellsDown old new (Down faults (Some start)) = ⊥
+abbrev pub TellsDown : View → View → InsertErr → Type 0
+TellsDown old new e = RefusesRecord (λ free. ⊥) (λ start. ⊥) old new e
 
 -- why it was not reserved, with all locks held
-abbrev pub TellsNoPlace : Setup → Assembled → View → View → SwitchErr → Type 0
-TellsNoPlace setup body old new (Full free) = FindsNoRoom setup body free old new
-TellsNoPlace setup body old new (Disk faults start) = ⊥
-TellsNoPlace setup body old new (Down faults None) =
-    (log_of_pass new ≡ log_of_pass old) × MeetsDown faults old new
-TellsNoPlace setup body old new (Down faults (Some start)) = ⊥
+abbrev pub TellsNoPlace : Setup → Assembled → View → View → InsertErr → Type 0
+TellsNoPlace setup body old new e =
+    RefusesRecord (λ free. FindsNoRoom setup body free old new) (λ start. ⊥) old new e
 
 -- it was reserved, and is copied under all locks, with all words left
 pub record IsSwitchBegun (setup : Setup) (body : Assembled) (old new : View) (r : Reserved)
@@ -123,7 +102,7 @@ pub record IsSwitchBegun (setup : Setup) (body : Assembled) (old new : View) (r 
 
 -- what its reservation comes to; where nothing is reserved the pass holds the locks and nothing
 -- else
-abbrev pub AnswersPlace : Setup → Assembled → View → Result SwitchTry SwitchErr → View → Type 0
+abbrev pub AnswersPlace : Setup → Assembled → View → Result SwitchTry InsertErr → View → Type 0
 AnswersPlace setup body old (Ok (tries.Switched r)) new = IsSwitchBegun setup body old new r
 AnswersPlace setup body old (Ok (tries.Stayed end)) new =
     FindsSegmentStart setup end.0 old new × HasLocks every_lock new
@@ -133,7 +112,7 @@ AnswersPlace setup body old (Err e) new =
 -- ---- the answer
 
 -- switch: the log's setup, the record, the pass's view before it, the answer, and the view after it
-abbrev pub AnswersSwitch : Setup → Assembled → View → Result Switch SwitchErr → View → Type 0
+abbrev pub AnswersSwitch : Setup → Assembled → View → Result Switch InsertErr → View → Type 0
 AnswersSwitch setup body old (Ok (Done start end)) new =
     IsSwitchDone setup body old new start.0 end.0
 AnswersSwitch setup body old (Ok (Stayed end)) new = FindsSegmentStart setup end.0 old new

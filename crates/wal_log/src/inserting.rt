@@ -31,22 +31,22 @@ use wal_types::{Lsn, Receipt};
 // How often a busy position is looked at before a pause.
 const LOOKS: u32 = 20;
 
-/// Why a record was not inserted. It has its place all the same where a start is told: what was
-/// reserved stays reserved.
+/// Why a record was not inserted, or a segment not switched, which is a record too. It has its place
+/// all the same where a start is told: what was reserved stays reserved.
 #[derive(Clone, Copy, Debug, PartialEq, Eq)]
 pub enum InsertErr {
-    /// The log has fewer bytes left than the record takes up: how many.
+    /// The log has fewer bytes left than the record takes up, or than a switch's own 24: how many.
     Full { free: u64 },
-    /// A device call failed in this call, for the room that the record needed, or, in company, for
-    /// room ahead of it, behind its copy: the disk's count of faults then.
+    /// A device call failed in this call, for the room that the record needed, or, by an insert in
+    /// company, for room ahead of it, behind its copy: the disk's count of faults then.
     Disk { faults: u64, start: Lsn },
     /// The disk has failed before: its count of faults then.
     Down { faults: u64, start: Option<Lsn> },
 }
 
 impl InsertErr {
-    // What an insert tells whose record starts here and which met a failed disk.
-    fn at(start: Lsn, fault: Fault) -> InsertErr
+    // What is told where a record that starts here met a failed disk.
+    pub(crate) fn at(start: Lsn, fault: Fault) -> InsertErr
         ensures { result ≡ insert_err_of_fault start fault }
     {
         match fault {

@@ -16,12 +16,12 @@ ghost use Rattle.wal_rule.specs.SeatedPasses.{StandsAtRest, setup_of, view_of};
 ghost use Rattle.wal_log.specs.Downs.{KnowsNoFault};
 ghost use Rattle.wal_log.specs.Logs.{IsPassOfLog, setup_of_log};
 ghost use Rattle.wal_log.specs.Standing.{ComesToRest, GoesOnSeated, HasLocks, HoldsLocks, KeepsPass};
-ghost use Rattle.wal_log.specs.Switching.{AnswersPlace, AnswersSwitch, HoldsOn, TellsDown, switch_err_of_fault};
+ghost use Rattle.wal_log.specs.Switching.{AnswersPlace, AnswersSwitch, HoldsOn, TellsDown};
 ghost use Rattle.wal_log.specs.Waiting.{FindsUp, IsSeenTold};
-ghost use Rattle.wal_log.specs.declared.switching.SwitchErr.TheVariants.{Down};
+ghost use Rattle.wal_log.specs.declared.inserting.InsertErr.TheVariants.{Down};
 
-use crate::fault::Fault;
 use crate::held_locks::Held;
+use crate::inserting::InsertErr;
 use crate::landing::land;
 use crate::wal::Wal;
 use crossbeam_utils::Backoff;
@@ -43,39 +43,12 @@ pub enum Switch {
     Stayed { end: Lsn },
 }
 
-/// Why a segment was not switched. The switch has its place all the same where a start is told:
-/// what was reserved stays reserved.
-#[derive(Clone, Copy, Debug, PartialEq, Eq)]
-pub enum SwitchErr {
-    /// The log has fewer bytes left than a switch's own 24: how many.
-    Full { free: u64 },
-    /// A device call failed in this call: the disk's count of faults then.
-    Disk { faults: u64, start: Lsn },
-    /// The disk has failed before: its count of faults then.
-    Down { faults: u64, start: Option<Lsn> },
-}
-
-impl SwitchErr {
-    // Why a switch that starts here was not copied whole.
-    fn at(start: Lsn, fault: Fault) -> SwitchErr
-        ensures { result ≡ switch_err_of_fault start fault }
-    {
-        match fault {
-            Fault::Disk { faults } => SwitchErr::Disk { faults, start },
-            Fault::Down { faults } => SwitchErr::Down {
-                faults,
-                start: Some(start),
-            },
-        }
-    }
-}
-
 impl<D: Disk> Wal<D> {
     /// Ends the segment: puts a switch behind all that is reserved, which takes up the rest of its
     /// segment, and copies it, zeros and all. It is not durable before a flush. Where the log
     /// stands at a segment's start it has nothing to do. It waits for each of the eight insertion
     /// locks and, as an insert, for buffers.
-    pub fn switch<R: Wait>(&self, rt: &R, pass: &mut Pass, body: &Body) -> Result<Switch, SwitchErr>
+    pub fn switch<R: Wait>(&self, rt: &R, pass: &mut Pass, body: &Body) -> Result<Switch, InsertErr>
         requires pass { IsPassOfLog self.now pass.old }
         // The body is a segment switch's (`Body::switch`).
         requires switch { body.now ≡ assembled switch_record }
@@ -100,7 +73,7 @@ impl<D: Disk> Wal<D> {
 }
 
 // Takes in where a switch was inserted.
-fn note_switch(company: &mut Company, answer: &Result<Switch, SwitchErr>) {
+fn note_switch(company: &mut Company, answer: &Result<Switch, InsertErr>) {
     if let Ok(Switch::Done { start, end }) = answer {
         company.note(*start, *end);
     }
@@ -112,7 +85,7 @@ fn switch_on<'p, D: Disk, R: Wait>(
     rt: &R,
     seated: &mut SeatedPass<'p, D>,
     body: &Body,
-) -> Result<Switch, SwitchErr>
+) -> Result<Switch, InsertErr>
     requires rests { StandsAtRest seated.old }
     requires switch { body.now ≡ assembled switch_record }
     ensures switches { AnswersSwitch (setup_of seated.old) body.now (view_of seated.old) result
@@ -127,7 +100,7 @@ fn switch_on<'p, D: Disk, R: Wait>(
 }
 
 // Loads down. If the disk has failed it tells so.
-fn look_down<'p, D: Disk>(seated: &mut SeatedPass<'p, D>) -> Result<(), SwitchErr>
+fn look_down<'p, D: Disk>(seated: &mut SeatedPass<'p, D>) -> Result<(), InsertErr>
     ensures looks { MatchResult result
         (λ _. KnowsNoFault (view_of seated.new) × FindsUp (view_of seated.old) (view_of seated.new))
         (λ e. TellsDown (view_of seated.old) (view_of seated.new) e) }
@@ -141,7 +114,7 @@ fn look_down<'p, D: Disk>(seated: &mut SeatedPass<'p, D>) -> Result<(), SwitchEr
 {
     let faults = seated.load_down();
     if faults != 0 {
-        return Err(SwitchErr::Down {
+        return Err(InsertErr::Down {
             faults,
             start: None,
         });
@@ -150,7 +123,7 @@ fn look_down<'p, D: Disk>(seated: &mut SeatedPass<'p, D>) -> Result<(), SwitchEr
 }
 
 // Takes all insertion locks, from 0 up. Where the disk has failed none stays held.
-fn take_all<'p, D: Disk, R: Wait>(rt: &R, seated: &mut SeatedPass<'p, D>) -> Result<(), SwitchErr>
+fn take_all<'p, D: Disk, R: Wait>(rt: &R, seated: &mut SeatedPass<'p, D>) -> Result<(), InsertErr>
     requires has { HasLocks [] (view_of seated.old) }
     requires up { KnowsNoFault (view_of seated.old) }
     ensures takes { MatchResult result
@@ -173,7 +146,7 @@ fn take_next<'p, D: Disk, R: Wait>(
     rt: &R,
     seated: &mut SeatedPass<'p, D>,
     lock: u32,
-) -> Result<(), SwitchErr>
+) -> Result<(), InsertErr>
     requires low { lock < 8 }
     requires has { HasLocks (lock_run 0 lock) (view_of seated.old) }
     requires up { KnowsNoFault (view_of seated.old) }
@@ -198,7 +171,7 @@ fn take_or_wait<'p, D: Disk>(
     seated: &mut SeatedPass<'p, D>,
     lock: u32,
     backoff: &Backoff,
-) -> Result<bool, SwitchErr>
+) -> Result<bool, InsertErr>
     requires low { lock < 8 }
     requires has { HasLocks (lock_run 0 lock) (view_of seated.old) }
     requires up { KnowsNoFault (view_of seated.old) }
@@ -242,7 +215,7 @@ fn switch_under<'p, D: Disk, R: Wait>(
     rt: &R,
     seated: &mut SeatedPass<'p, D>,
     body: &Body,
-) -> Result<Switch, SwitchErr>
+) -> Result<Switch, InsertErr>
     requires switch { body.now ≡ assembled switch_record }
     requires holds { HoldsLocks every_lock seated.old }
     requires up { KnowsNoFault (view_of seated.old) }
@@ -268,7 +241,7 @@ fn switch_under<'p, D: Disk, R: Wait>(
     } = reserved;
     match land(rt, seated, Held::All, end, &mut placed) {
         Ok(()) => Ok(Switch::Done { start, end }),
-        Err(fault) => Err(SwitchErr::at(start, fault)),
+        Err(fault) => Err(InsertErr::at(start, fault)),
     }
 }
 
@@ -278,7 +251,7 @@ fn reserve<'p, 'a, D: Disk, R: Wait>(
     rt: &R,
     seated: &mut SeatedPass<'p, D>,
     body: &'a Body<'a>,
-) -> Result<SwitchTry<'a>, SwitchErr>
+) -> Result<SwitchTry<'a>, InsertErr>
     requires switch { body.now ≡ assembled switch_record }
     requires has { HasLocks every_lock (view_of seated.old) }
     requires up { KnowsNoFault (view_of seated.old) }
@@ -301,7 +274,7 @@ fn reserve_or_wait<'p, 'a, D: Disk>(
     seated: &mut SeatedPass<'p, D>,
     body: &'a Body<'a>,
     backoff: &Backoff,
-) -> Result<Option<SwitchTry<'a>>, SwitchErr>
+) -> Result<Option<SwitchTry<'a>>, InsertErr>
     requires switch { body.now ≡ assembled switch_record }
     requires has { HasLocks every_lock (view_of seated.old) }
     requires up { KnowsNoFault (view_of seated.old) }
@@ -318,7 +291,7 @@ fn reserve_or_wait<'p, 'a, D: Disk>(
 {
     match try_reserve_switch(seated, body) {
         Ok(tried) => return Ok(Some(tried)),
-        Err(ReserveErr::Full { free }) => return Err(SwitchErr::Full { free }),
+        Err(ReserveErr::Full { free }) => return Err(InsertErr::Full { free }),
         Err(ReserveErr::Busy { .. }) => look_down(seated)?,
     }
     backoff.snooze();

@@ -1,16 +1,13 @@
 -- The log of a pass only grows, and stands with the pass that took it in.
-use Rattle.std.specs.Prelude.{Result, Ok, Err, Option, Some, None}
+use Rattle.std.specs.Prelude.{Result, Ok, Err, Some, None}
 use Rattle.std.proofs.Common.{◌≡◌, ◌⊎◌, ℕ, inl, inr, Contains, List, [], ◌∷◌, ◌++◌, refl, sym, ap, ◌∙◌, subst}
 use Rattle.std.proofs.lemmas.List.{append_assoc, append-nil}
 use Rattle.std.proofs.lemmas.List.Elements.{Contains-append_left, Contains-append_right, Contains-push}
 use Rattle.wal_spelling.specs.Spelling.{Assembled}
-use Rattle.wal_types.specs.declared.answers.Cause.{Cause}
-use Rattle.wal_types.specs.declared.answers.Cause.TheVariants as causes
 use Rattle.wal_types.specs.declared.answers.Hard.{Hard}
 use Rattle.wal_types.specs.declared.answers.Receipt.{Receipt}
 use Rattle.wal_types.specs.declared.answers.Refused.{Refused}
 use Rattle.wal_types.specs.declared.answers.Sealed.{Sealed}
-use Rattle.wal_types.specs.declared.lsn.Lsn.{Lsn}
 use Rattle.wal_page.specs.Order.{Entry}
 use Rattle.machine_state.specs.declared.setup.Setup.{Setup}
 use Rattle.machine_state.specs.Views.{Joined, View}
@@ -18,7 +15,7 @@ use Rattle.machine_state.specs.Moves.{after_join, after_split, joined_of}
 use Rattle.machine_state.specs.PassLogs.{log_with_stay}
 use Rattle.wal_rule.specs.declared.pass.Pass.{Pass}
 use Rattle.wal_rule.specs.Passes.{view_of_pass}
-use Rattle.wal_log.specs.Committing.{AnswersCommit, RefusesCommit}
+use Rattle.wal_log.specs.Committing.{AnswersCommit}
 use Rattle.wal_log.specs.declared.beginning.TryErr.{TryErr}
 use Rattle.wal_log.specs.declared.beginning.TryErr.TheVariants as begins
 use Rattle.wal_log.specs.declared.behind.Caught.{Caught}
@@ -37,11 +34,10 @@ use Rattle.wal_log.specs.Inserting.{AnswersInsert, IsStarted, RefusesInsert}
 use Rattle.wal_log.specs.Logs.{setup_of_log}
 use Rattle.wal_log.specs.declared.switching.Switch.{Switch}
 use Rattle.wal_log.specs.declared.switching.Switch.TheVariants.{Done, Stayed}
-use Rattle.wal_log.specs.declared.switching.SwitchErr.{SwitchErr}
-use Rattle.wal_log.specs.declared.switching.SwitchErr.TheVariants as switches
 use Rattle.wal_log.specs.PassLogs.{PassLog, log_of_pass, log_with_entry, log_with_full, log_with_promise}
 use Rattle.wal_log.specs.Standing.{KeepsPass}
-use Rattle.wal_log.specs.Switching.{AnswersSwitch, IsSwitchStarted, RefusesSwitch}
+use Rattle.wal_log.specs.Switching.{AnswersSwitch}
+use Rattle.wal_log.proofs.Refusals.{switch_refused}
 use Rattle.wal_log_laws.specs.Growing.{GrowsTo, HasGrown, HasLog, IsFrontOf, view_behind_try}
 
 -- ---- fronts
@@ -113,32 +109,20 @@ module _ (setup : Setup) (body : Assembled) (old new : View) where
   started_grows start told = grows_so (log_of_pass old) _ (log_of_pass new) (told.reserved).log_is
       (with_entry told.entry (log_of_pass old))
 
-  refused_grows : (cause : Cause) (reserved : Option Lsn)
-      → RefusesCommit setup body old new cause reserved
+  refused_grows : (e : InsertErr) → RefusesInsert setup body old new e
       → GrowsTo (log_of_pass old) (log_of_pass new)
-  refused_grows (causes.Full free) None told = grows_so (log_of_pass old) _ (log_of_pass new)
+  refused_grows (inserts.Full free) told = grows_so (log_of_pass old) _ (log_of_pass new)
       (told.0).log_is (with_full (told.0).at (log_of_pass old))
-  refused_grows (causes.Full free) (Some start) told = absurd told
-  refused_grows (causes.Disk faults) None told = absurd told
-  refused_grows (causes.Disk faults) (Some start) told = started_grows start.0 told.0
-  refused_grows (causes.Down faults) None told = grows_so (log_of_pass old) _ (log_of_pass new)
+  refused_grows (inserts.Disk faults start) told = started_grows start.0 told.0
+  refused_grows (inserts.Down faults None) told = grows_so (log_of_pass old) _ (log_of_pass new)
       told.0 (grows_itself (log_of_pass old))
-  refused_grows (causes.Down faults) (Some start) told = started_grows start.0 told.0
-
-  refused_insert_grows : (e : InsertErr) → RefusesInsert setup body old new e
-      → GrowsTo (log_of_pass old) (log_of_pass new)
-  refused_insert_grows (inserts.Full free) told = grows_so (log_of_pass old) _ (log_of_pass new)
-      (told.0).log_is (with_full (told.0).at (log_of_pass old))
-  refused_insert_grows (inserts.Disk faults start) told = started_grows start.0 told.0
-  refused_insert_grows (inserts.Down faults None) told = grows_so (log_of_pass old) _ (log_of_pass new)
-      told.0 (grows_itself (log_of_pass old))
-  refused_insert_grows (inserts.Down faults (Some start)) told = started_grows start.0 told.0
+  refused_grows (inserts.Down faults (Some start)) told = started_grows start.0 told.0
 
   pub insert_grows : (answer : Result Receipt InsertErr) → AnswersInsert setup body old answer new
       → GrowsTo (log_of_pass old) (log_of_pass new)
   insert_grows (Ok receipt) told = grows_so (log_of_pass old) _ (log_of_pass new)
       (told.reserved).log_is (with_entry told.entry (log_of_pass old))
-  insert_grows (Err e) told = refused_insert_grows e told
+  insert_grows (Err e) told = refused_grows e told
 
   pub commit_grows : (answer : Result Sealed Refused) → AnswersCommit setup body old answer new
       → GrowsTo (log_of_pass old) (log_of_pass new)
@@ -148,7 +132,7 @@ module _ (setup : Setup) (body : Assembled) (old new : View) where
       grows_so l _ (log_of_pass new) told.log_is
       (grows_again l m (log_with_promise told.upto sealed.moment m) (with_entry told.entry l)
       (with_promise told.upto sealed.moment m))
-  commit_grows (Err refused) told = refused_grows refused.cause refused.reserved told
+  commit_grows (Err refused) told = refused_grows told.0 told.2
 
 -- ---- what a flush behind adds
 
@@ -165,27 +149,14 @@ behind_grows old new (Err e) told = grows_so (log_of_pass old) _ (log_of_pass ne
 -- ---- what a segment switch adds
 
 module _ (setup : Setup) (body : Assembled) (old new : View) where
-  switched_grows : (start : ℕ) → IsSwitchStarted setup body old new start
-      → GrowsTo (log_of_pass old) (log_of_pass new)
-  switched_grows start told = grows_so (log_of_pass old) _ (log_of_pass new)
-      (told.switched.reserved).log_is (with_entry told.entry (log_of_pass old))
-
-  refused_switch_grows : (e : SwitchErr) → RefusesSwitch setup body old new e
-      → GrowsTo (log_of_pass old) (log_of_pass new)
-  refused_switch_grows (switches.Full free) told = grows_so (log_of_pass old) _ (log_of_pass new)
-      (told.full).log_is (with_full (told.full).at (log_of_pass old))
-  refused_switch_grows (switches.Disk faults start) told = switched_grows start.0 told.0
-  refused_switch_grows (switches.Down faults None) told = grows_so (log_of_pass old) _
-      (log_of_pass new) told.0 (grows_itself (log_of_pass old))
-  refused_switch_grows (switches.Down faults (Some start)) told = switched_grows start.0 told.0
-
-  pub switch_grows : (answer : Result Switch SwitchErr) → AnswersSwitch setup body old answer new
+  pub switch_grows : (answer : Result Switch InsertErr) → AnswersSwitch setup body old answer new
       → GrowsTo (log_of_pass old) (log_of_pass new)
   switch_grows (Ok (Done start end)) told = grows_so (log_of_pass old) _ (log_of_pass new)
       (told.switched.reserved).log_is (with_entry told.entry (log_of_pass old))
   switch_grows (Ok (Stayed end)) told = grows_so (log_of_pass old) _ (log_of_pass new)
       told.log_is (with_stay told.at (log_of_pass old))
-  switch_grows (Err e) told = refused_switch_grows e told
+  switch_grows (Err e) told =
+      refused_grows setup body old new e (switch_refused setup body old new e told)
 
 -- ---- what the calls add that do not wait
 

@@ -33,7 +33,6 @@ ghost use Rattle.wal_log.specs.declared.flushing.TryFlushErr.{TryFlushErr};
 ghost use Rattle.wal_log.specs.declared.in_flight.Inflight.{Inflight};
 ghost use Rattle.wal_log.specs.declared.inserting.InsertErr.{InsertErr};
 ghost use Rattle.wal_log.specs.declared.switching.Switch.{Switch};
-ghost use Rattle.wal_log.specs.declared.switching.SwitchErr.{SwitchErr};
 ghost use Rattle.wal_log.specs.declared.wal.Wal.{Wal};
 ghost use Rattle.wal_log_laws.specs.Growing.{GrowsTo, HasGrown, HasLog, view_behind_try};
 ghost use Rattle.wal_log_laws.specs.Keeping.{IsClosedFrom, KeepsPromises, LeavesOrder};
@@ -54,7 +53,7 @@ pub fn logs_only_grow<D: Disk>()
         (answer : Result Sealed Refused) → AnswersCommit setup body old answer new
         → GrowsTo (log_of_pass old) (log_of_pass new) }
     ensures switches { (setup : Setup) (body : Assembled) (old new : View)
-        (answer : Result Switch SwitchErr) → AnswersSwitch setup body old answer new
+        (answer : Result Switch InsertErr) → AnswersSwitch setup body old answer new
         → GrowsTo (log_of_pass old) (log_of_pass new) }
     ensures begins { (wal : Wal D) (body : Assembled) (old : View)
         (answer : Result Inflight (TryErr × Pass)) → AnswersTryBegin wal body old answer

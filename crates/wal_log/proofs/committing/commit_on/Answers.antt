@@ -1,17 +1,21 @@
 use Rattle.std.specs.Prelude.{Some}
-use Rattle.std.proofs.Common.{◌≡◌, ℕ, refl, ap, sym, subst, ◌∙◌}
+use Rattle.std.proofs.Common.{◌≡◌, ℕ, refl, ap, ◌∙◌}
 use Rattle.std.proofs.lemmas.Result.{err_from_is_err_and}
 use Rattle.wal_types.specs.declared.answers.Cause.TheVariants as causes
-use Rattle.wal_types.specs.declared.answers.Refused.{Refused}
 use Rattle.wal_types.specs.declared.lsn.Lsn.{Lsn}
 use Rattle.machine_state.specs.declared.setup.Setup.{Setup}
 use Rattle.wal_rule.specs.SeatedPasses.{setup_of, view_of}
-use Rattle.wal_log.specs.Committing.{RefusesCommit}
+use Rattle.wal_log.specs.declared.inserting.InsertErr.TheVariants.{Disk, Down}
 use Rattle.wal_log.proofs.CommitLaws.{end_is_reserved, known_again, never_both, sealed_is, set_none, started}
 use Rattle.wal_log.proofs.Keeping.{meets_since}
 use Rattle.wal_log.proofs.Seated.{own_setup, same_setup, valid_size}
 use Rattle.wal_log.proofs.Trying.{rests_again}
 use Rattle.wal_log.proofs.committing.commit_on.Goals as goal
+
+pub returns-in_err-start-clause-commits : goal.returns-in_err-start-clause-commits
+returns-in_err-start-clause-commits g c =
+    let exit = err_from_is_err_and c.from_residual.result c.from_residual.ensures.1 in
+    rw exit.1 (_, exit.2, c.in_err-start.ensures.inserts)
 
 pub returns-in_err-start-clause-down_again : goal.returns-in_err-start-clause-down_again
 returns-in_err-start-clause-down_again g c = λ faults knows.
@@ -66,13 +70,15 @@ returns-in-Err-Disk-clause-commits g c =
     ≡ record { cause = causes.Disk c.in-Err-Disk.faults; reserved = Some start } =
     c.into.ensures
     ∙ ap (λ (n : ℕ). record { cause = causes.Disk n; reserved = Some start })
-    c.in-Err-Disk.faults-is in
-    subst (λ (r : Refused). RefusesCommit (setup_of c.args.seated.now) c.args.body.now
-    (view_of c.args.seated.now) (view_of c.flush_in_company.new.seated) r.cause r.reserved) (sym is) (
-      started (setup_of c.args.seated.now) c.args.body.now (view_of c.args.seated.now)
-          (view_of c.insert_on.new.seated) (view_of c.flush_in_company.new.seated) c.in_ok-start.field-0
-          c.in_ok-start.ensures.inserts why.0 c.flush_in_company.ensures.rests.keeps.rises,
-      why.1.down,
+    c.in-Err-Disk.faults-is in (
+      Disk c.in-Err-Disk.faults start,
+      is,
+      (
+        started (setup_of c.args.seated.now) c.args.body.now (view_of c.args.seated.now)
+            (view_of c.insert_on.new.seated) (view_of c.flush_in_company.new.seated) c.in_ok-start.field-0
+            c.in_ok-start.ensures.inserts why.0 c.flush_in_company.ensures.rests.keeps.rises,
+        why.1.down,
+      ),
     )
 
 pub returns-in-Err-Disk-clause-down_again : goal.returns-in-Err-Disk-clause-down_again
@@ -91,18 +97,20 @@ returns-in-Err-Down-clause-commits g c =
     ≡ record { cause = causes.Down c.in-Err-Down.faults; reserved = Some start } =
     c.into-in-Err-Down.ensures
     ∙ ap (λ (n : ℕ). record { cause = causes.Down n; reserved = Some start })
-    c.in-Err-Down.faults-is in
-    subst (λ (r : Refused). RefusesCommit (setup_of c.args.seated.now) c.args.body.now
-    (view_of c.args.seated.now) (view_of c.flush_in_company.new.seated) r.cause r.reserved) (sym is) (
-      started (setup_of c.args.seated.now) c.args.body.now (view_of c.args.seated.now)
-          (view_of c.insert_on.new.seated) (view_of c.flush_in_company.new.seated) c.in_ok-start.field-0
-          c.in_ok-start.ensures.inserts why.0 c.flush_in_company.ensures.rests.keeps.rises,
-      meets_since (view_of c.args.seated.now) (view_of c.insert_on.new.seated)
-          (view_of c.flush_in_company.new.seated) c.in-Err-Down.faults
-          (set_none (setup_of c.args.seated.now) c.args.body.now (view_of c.args.seated.now)
-          (view_of c.insert_on.new.seated) (view_of c.flush_in_company.new.seated) c.in_ok-start.field-0
-          c.in_ok-start.ensures.inserts c.insert_on.ensures.rests.keeps)
-          why.1,
+    c.in-Err-Down.faults-is in (
+      Down c.in-Err-Down.faults (Some start),
+      is,
+      (
+        started (setup_of c.args.seated.now) c.args.body.now (view_of c.args.seated.now)
+            (view_of c.insert_on.new.seated) (view_of c.flush_in_company.new.seated) c.in_ok-start.field-0
+            c.in_ok-start.ensures.inserts why.0 c.flush_in_company.ensures.rests.keeps.rises,
+        meets_since (view_of c.args.seated.now) (view_of c.insert_on.new.seated)
+            (view_of c.flush_in_company.new.seated) c.in-Err-Down.faults
+            (set_none (setup_of c.args.seated.now) c.args.body.now (view_of c.args.seated.now)
+            (view_of c.insert_on.new.seated) (view_of c.flush_in_company.new.seated) c.in_ok-start.field-0
+            c.in_ok-start.ensures.inserts c.insert_on.ensures.rests.keeps)
+            why.1,
+      ),
     )
 
 pub returns-in-Err-Down-clause-down_again : goal.returns-in-Err-Down-clause-down_again

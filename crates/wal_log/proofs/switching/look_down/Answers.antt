@@ -1,12 +1,27 @@
 use Rattle.std.proofs.Common.{ℕ, Err, None, ap}
+use Rattle.machine_state.specs.Views.{View}
 use Rattle.wal_rule.specs.SeatedPasses.{view_of}
-use Rattle.wal_log.specs.declared.switching.SwitchErr.TheVariants.{Down}
-use Rattle.wal_log.proofs.BeginLaws.{none_known}
+use Rattle.wal_log.specs.declared.inserting.InsertErr.TheVariants.{Down}
+use Rattle.wal_log.proofs.BeginLaws.{load_sets_none, loaded_log, none_known}
 use Rattle.wal_log.proofs.Keeping.{none_loaded}
 use Rattle.wal_log.proofs.Seated.{view_is}
 use Rattle.wal_log.proofs.SwitchLaws.{looked_holds, looked_told}
 use Rattle.wal_log.proofs.WaitLaws.{up_loaded}
 use Rattle.wal_log.proofs.switching.look_down.Goals as goal
+
+pub returns-then-faults-ne0-clause-looks : goal.returns-then-faults-ne0-clause-looks
+returns-then-faults-ne0-clause-looks g c =
+    let load = c.load_down-faults in
+    let old = view_of c.args.seated.now in
+    let new = view_of load.new.self in
+    let is = view_is load.ensures.steps in (
+      loaded_log old new load.result is load.ensures.known,
+      record {
+        met = ap (λ (v : View). v.writing.down_met) is;
+        some = c.if-faults-ne0.true;
+        set_none = load_sets_none old new load.result is load.ensures.known;
+      },
+    )
 
 pub returns-then-faults-ne0-clause-known : goal.returns-then-faults-ne0-clause-known
 returns-then-faults-ne0-clause-known g c = λ faults knows.

@@ -6,7 +6,7 @@ use Rattle.machine_state.specs.declared.setup.Setup.{Setup}
 use Rattle.wal_rule.specs.SeatedPasses.{setup_of, view_of}
 use Rattle.reserve_lock.specs.Reserved.{every_lock}
 use Rattle.reserve_lock.specs.declared.switching.SwitchTry.{SwitchTry}
-use Rattle.wal_log.specs.declared.switching.SwitchErr.{SwitchErr}
+use Rattle.wal_log.specs.declared.inserting.InsertErr.{InsertErr}
 use Rattle.wal_log.specs.Switching.{AnswersPlace}
 use Rattle.wal_log.proofs.Seated.{same_setup}
 use Rattle.wal_log.proofs.SwitchLaws.{further_holds, place_since}
@@ -16,7 +16,7 @@ use Rattle.wal_log.proofs.switching.reserve.Goals.{After-reserve_or_wait}
 
 -- what the last try told, of the pass before the first
 module _ (g : Over) (c : After-reserve_or_wait g) where
-  since : (r : Result SwitchTry SwitchErr)
+  since : (r : Result SwitchTry InsertErr)
       → AnswersPlace (setup_of c.loop.seated) c.args.body.now (view_of c.loop.seated) r
       (view_of c.reserve_or_wait.new.seated)
       → AnswersPlace (setup_of c.args.seated.now) c.args.body.now (view_of c.args.seated.now) r

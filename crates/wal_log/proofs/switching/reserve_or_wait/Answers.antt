@@ -47,9 +47,9 @@ returns-in_err-look_down-in-Err-Busy-clause-reserves g c =
     let e = c.in_err-look_down-in-Err-Busy.field-0.0 in
     rw (p.1, p.2) (
       down_no_place (setup_of c.args.seated.now) c.args.body.now (view_of c.args.seated.now)
-          (view_of c.look_down.new.seated) (looked g at).log_is e
+          (view_of c.look_down.new.seated) e
           (down_since (view_of c.args.seated.now) (view_of c.try_reserve_switch.new.seated)
-          (view_of c.look_down.new.seated) (tried g at).goes_on.keeps (tried_up g at) e
+          (view_of c.look_down.new.seated) (tried g at).goes_on.keeps (tried g at).log_is (tried_up g at) e
           c.in_err-look_down-in-Err-Busy.ensures.looks),
       (looked g at).has,
     )

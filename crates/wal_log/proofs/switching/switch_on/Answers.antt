@@ -3,8 +3,8 @@ use Rattle.std.proofs.lemmas.Result.{err_from_is_err_and}
 use Rattle.machine_state.specs.declared.setup.Setup.{Setup}
 use Rattle.wal_rule.specs.SeatedPasses.{setup_of, view_of}
 use Rattle.reserve_lock.specs.Reserved.{every_lock}
-use Rattle.wal_log.specs.declared.switching.SwitchErr.{SwitchErr}
-use Rattle.wal_log.specs.declared.switching.SwitchErr.TheVariants.{Down}
+use Rattle.wal_log.specs.declared.inserting.InsertErr.{InsertErr}
+use Rattle.wal_log.specs.declared.inserting.InsertErr.TheVariants.{Down}
 use Rattle.wal_log.specs.Switching.{AnswersSwitch, HoldsOn}
 use Rattle.wal_log.proofs.Keeping.{further_pass}
 use Rattle.wal_log.proofs.Seated.{same_setup}
@@ -27,14 +27,13 @@ returns-in_err-look_down-clause-switches g c =
     let old = view_of c.args.seated.now in
     let new = view_of c.look_down.new.seated in
     let e = c.in_err-look_down.field-0.0 in
-    let same = (looked g (goal.at.returns-in_err-look_down-clause-switches g c).After-look_down).log_is in
     rw (p.1, p.2) (no_place_refuses setup c.args.body.now old new e
-    (down_no_place setup c.args.body.now old new same e c.in_err-look_down.ensures.looks))
+    (down_no_place setup c.args.body.now old new e c.in_err-look_down.ensures.looks))
 
 pub returns-in_err-look_down-clause-down_again : goal.returns-in_err-look_down-clause-down_again
 returns-in_err-look_down-clause-down_again g c = λ faults knows.
     let p = err_from_is_err_and c.from_residual.result c.from_residual.ensures.1 in
-    p.1 ∙ ap (λ (e : SwitchErr). Err e) (p.2 ∙ same_err c.in_err-look_down.field-0.0
+    p.1 ∙ ap (λ (e : InsertErr). Err e) (p.2 ∙ same_err c.in_err-look_down.field-0.0
     (Down faults None) (c.in_err-look_down.ensures.known faults knows))
 
 pub returns-in_err-look_down-clause-rests : goal.returns-in_err-look_down-clause-rests
@@ -60,8 +59,8 @@ returns-in_err-take_all-clause-switches g c =
     let first = looked g (goal.at.returns-in_err-take_all-clause-switches g c).After-look_down in
     let told = c.in_err-take_all.ensures.takes in
     rw (p.1, p.2) (no_place_refuses setup c.args.body.now old new e
-    (down_no_place setup c.args.body.now old new (told.0.log_is ∙ first.log_is) e
-    (down_since old mid new first.goes_on.keeps c.in_ok-look_down.ensures.looks.0 e told.1)))
+    (down_no_place setup c.args.body.now old new e (down_since old mid new first.goes_on.keeps
+    first.log_is c.in_ok-look_down.ensures.looks.0 e told.1)))
 
 pub returns-in_err-take_all-clause-down_again : goal.returns-in_err-take_all-clause-down_again
 returns-in_err-take_all-clause-down_again g c = λ faults knows. absurd

@@ -25,7 +25,7 @@ returns-in_err-take_or_wait g c =
             (lock_run 0 c.args.lock) (lock_run 0 c.args.lock) c.loop.invariant.holds takes.0,
         down_since (view_of c.args.seated.now) (view_of c.loop.seated)
             (view_of c.take_or_wait.new.seated) c.loop.invariant.holds.goes_on.keeps
-            c.loop.invariant.up c.in_err-take_or_wait.field-0.0 takes.1,
+            c.loop.invariant.holds.log_is c.loop.invariant.up c.in_err-take_or_wait.field-0.0 takes.1,
       );
     }
 

@@ -47,7 +47,7 @@ returns-in_err-look_down g c =
       takes = rw (p.1, p.2) (
         looked g path.After-look_down before,
         down_since (view_of c.args.seated.now) (view_of c.tell_seen.new.seated)
-            (view_of c.look_down.new.seated) before.goes_on.keeps
+            (view_of c.look_down.new.seated) before.goes_on.keeps before.log_is
             (tried_up g path.After-tell_seen) c.in_err-look_down.field-0.0
             c.in_err-look_down.ensures.looks,
       );

@@ -1,8 +1,10 @@
-use Rattle.std.specs.Prelude.{Ok}
+use Rattle.std.specs.Prelude.{Err, Ok}
 use Rattle.std.proofs.Common.{refl, sym, ap, ap₂, ◌∙◌}
+use Rattle.wal_types.specs.declared.answers.Refused.{Refused}
+use Rattle.run_laws.specs.Answered.{told_of_insert}
 use Rattle.run_laws.specs.declared.told.Told.TheVariants.{Switched, Stayed}
 use Rattle.run_backends.proofs.Answering.{switch_leaves_session, switch_plays_answer}
-use Rattle.run_backends.proofs.EndsKept.{end_behind, refusal_keeps_end, told_of_switched}
+use Rattle.run_backends.proofs.EndsKept.{end_behind, told_of_switched}
 use Rattle.run_backends.proofs.session.Session.switch.Goals as goal
 
 pub returns-in-Ok-Done-clause-plays : goal.returns-in-Ok-Done-clause-plays
@@ -50,8 +52,9 @@ returns-clause-plays g c =
     switch_plays_answer c.args.log.now c.args.self.now
     (record { pass = c.switch.new.pass; end = c.args.self.now.end }) c.switch.new.pass
     c.requires.session refl c.switch.ensures.keeps c.switch.ensures.pass
-    c.refused_switch.result c.as_body-lent.result c.switch.result
-    (c.refused_switch.ensures ∙ ap told_of_switched (sym c.in-Err.is))
+    c.of_refusal.result c.as_body-lent.result c.switch.result
+    (c.of_refusal.ensures ∙ ap (λ (r : Refused). told_of_insert (Err r)) c.into.ensures
+    ∙ ap told_of_switched (sym c.in-Err.is))
     c.switch.ensures.switches (c.as_body-lent.ensures ∙ c.requires.record) c.switch.ensures.down_again
 
 pub returns-clause-leaves : goal.returns-clause-leaves
@@ -59,7 +62,7 @@ returns-clause-leaves g c =
     switch_leaves_session c.args.log.now c.args.self.now
     (record { pass = c.switch.new.pass; end = c.args.self.now.end }) c.switch.new.pass
     c.requires.session refl c.switch.ensures.keeps c.switch.ensures.pass
-    c.refused_switch.result c.as_body-lent.result c.switch.result
-    (c.refused_switch.ensures ∙ ap told_of_switched (sym c.in-Err.is))
-    c.switch.ensures.switches (sym (refusal_keeps_end c.args.self.now.end.0 c.in-Err.e)
-    ∙ ap (end_behind c.args.self.now.end.0) (sym c.refused_switch.ensures))
+    c.of_refusal.result c.as_body-lent.result c.switch.result
+    (c.of_refusal.ensures ∙ ap (λ (r : Refused). told_of_insert (Err r)) c.into.ensures
+    ∙ ap told_of_switched (sym c.in-Err.is))
+    c.switch.ensures.switches (ap (end_behind c.args.self.now.end.0) (sym c.of_refusal.ensures))

@@ -1,6 +1,6 @@
 use Rattle.std.proofs.Common.{◌≡◌, ℕ, Err, None}
 use Rattle.wal_rule.specs.Downs.{KnowsDown}
-use Rattle.wal_log.specs.declared.switching.SwitchErr.TheVariants.{Down}
+use Rattle.wal_log.specs.declared.inserting.InsertErr.TheVariants.{Down}
 use Rattle.wal_log.proofs.Passing.{answered}
 use Rattle.wal_log.proofs.wal.Wal.switch.Goals as goal
 
