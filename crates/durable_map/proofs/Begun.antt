@@ -1,18 +1,17 @@
 -- What a map's calls add to the log of its pass.
-use Rattle.std.proofs.Common.{◌≡◌, ℕ, ◌≤◌, List, [], ◌∷◌, ◌++◌, append_assoc, Option, Some, None, Result, Ok, Err, inl, refl, sym, ap, subst, ◌∙◌}
+use Rattle.std.proofs.Common.{◌≡◌, ℕ, ◌≤◌, List, [], ◌∷◌, ◌++◌, append_assoc, Some, None, Result, Ok, Err, inl, refl, sym, ap, subst, ◌∙◌}
 use Rattle.std.proofs.lemmas.List.{append-nil}
 use Rattle.wal_spelling.specs.Spelling.{Assembled, assembled}
-use Rattle.wal_types.specs.declared.answers.Cause.{Cause}
-use Rattle.wal_types.specs.declared.answers.Cause.TheVariants as causes
 use Rattle.wal_types.specs.declared.answers.Refused.{Refused}
 use Rattle.wal_types.specs.declared.answers.Sealed.{Sealed}
-use Rattle.wal_types.specs.declared.lsn.Lsn.{Lsn}
 use Rattle.wal_page.specs.Order.{Entry}
 use Rattle.machine_state.specs.declared.setup.Setup.{Setup}
 use Rattle.machine_state.specs.Views.{View}
 use Rattle.wal_log.specs.declared.wal.Wal.{Wal}
-use Rattle.wal_log.specs.Committing.{AnswersCommit, IsSealed, RefusesCommit}
-use Rattle.wal_log.specs.Inserting.{IsOwnEntry, IsStarted}
+use Rattle.wal_log.specs.declared.inserting.InsertErr.{InsertErr}
+use Rattle.wal_log.specs.declared.inserting.InsertErr.TheVariants as inserts
+use Rattle.wal_log.specs.Committing.{AnswersCommit, IsSealed, refused_of_insert}
+use Rattle.wal_log.specs.Inserting.{IsOwnEntry, IsStarted, RefusesInsert}
 use Rattle.wal_log.specs.Logs.{setup_of_log}
 use Rattle.wal_log.specs.PassLogs.{PassLog, log_of_pass}
 use Rattle.wal_log_laws.specs.Growing.{GrowsTo, HasGrown}
@@ -61,20 +60,16 @@ started setup change old new start loggable is =
     one_added setup change old new is.entry loggable is.reserved.own
     (ap entries_in is.reserved.log_is)
 
-refused_added : (setup : Setup) (change : MapChange) (old new : View) (cause : Cause)
-    (reserved : Option Lsn) → IsLoggable change
-    → RefusesCommit setup (assembled (change_record change)) old new cause reserved
-    → AddsChanges old new (begun_at change reserved)
-refused_added setup change old new (causes.Full free) None loggable refuses =
+refused_added : (setup : Setup) (change : MapChange) (old new : View) (e : InsertErr)
+    → IsLoggable change → RefusesInsert setup (assembled (change_record change)) old new e
+    → AddsChanges old new (begun_at change (refused_of_insert e).reserved)
+refused_added setup change old new (inserts.Full free) loggable refuses =
     none_added old new (ap entries_in (refuses.0).log_is)
-refused_added setup change old new (causes.Full free) (Some start) loggable refuses =
-    absurd refuses
-refused_added setup change old new (causes.Disk faults) None loggable refuses = absurd refuses
-refused_added setup change old new (causes.Disk faults) (Some start) loggable refuses =
+refused_added setup change old new (inserts.Disk faults start) loggable refuses =
     started setup change old new start.0 loggable refuses.0
-refused_added setup change old new (causes.Down faults) None loggable refuses =
+refused_added setup change old new (inserts.Down faults None) loggable refuses =
     none_added old new (ap entries_in refuses.0)
-refused_added setup change old new (causes.Down faults) (Some start) loggable refuses =
+refused_added setup change old new (inserts.Down faults (Some start)) loggable refuses =
     started setup change old new start.0 loggable refuses.0
 
 -- ---- two calls
@@ -108,8 +103,11 @@ module _ {D : Type 0} where
   one_call change old new (Err changes.TooLong) answers =
       none_added (view_under old) (view_under new) (ap entries_of (answers.0).1)
   one_call change old new (Err (changes.Refused refused)) answers =
-      refused_added (setup_of_log (log_under old)) change (view_under old) (view_under new)
-      refused.cause refused.reserved (answers.0).0 (answers.0).1
+      let why = (answers.0).1 in
+      subst (λ (r : Refused).
+      AddsChanges (view_under old) (view_under new) (begun_at change r.reserved)) (sym why.1)
+      (refused_added (setup_of_log (log_under old)) change (view_under old) (view_under new)
+      why.0 (answers.0).0 why.2)
 
   -- ---- calls
 

@@ -96,7 +96,7 @@ Refuses change old new TooLong = (IsLoggable change → ⊥) × (view_under new 
 Refuses change old new (Refused refused) =
     IsLoggable change
     × RefusesCommit (setup_of_log old.log) (assembled (change_record change)) (view_under old)
-    (view_under new) refused.cause refused.reserved
+    (view_under new) refused
 
 -- Ok: it is durable, and was then taken in; else why not, and the map is as it was
 abbrev pub AnswersChange : {D : Type 0} → MapChange → DurableMap D → DurableMap D
