@@ -8,11 +8,12 @@ use Rattle.wal_rule.specs.declared.pass.Pass.{Pass}
 use Rattle.wal_rule.specs.declared.seated.SeatedPass.{SeatedPass}
 use Rattle.wal_rule.specs.declared.table.LogTable.{LogTable}
 use Rattle.wal_rule.specs.declared.writer.LogWriter.{LogWriter}
+use Rattle.wal_rule.specs.Downs.{KnowsDown}
 use Rattle.wal_rule.specs.Passes.{HasNumbers, SamePass, view_of_pass}
 use Rattle.wal_rule.specs.SeatedPasses.{StandsAtRest, setup_of, view_of}
 use Rattle.wal_rule.specs.Tables.{IsPassOn, setup_of_table}
 use Rattle.wal_log.specs.declared.wal.Wal.{Wal}
-use Rattle.wal_log.specs.Logs.{IsPassOfLog, setup_of_log, table_of}
+use Rattle.wal_log.specs.Logs.{IsPassOfLog, LeavesPass, setup_of_log, table_of}
 use Rattle.wal_log.specs.Standing.{ComesToRest, KeepsPass}
 
 module _ {D : Type 0} (wal : Wal D) (pass : Pass) (seated : SeatedPass D)
@@ -70,3 +71,13 @@ module _ {D : Type 0} (wal : Wal D) (pass : Pass) (seated : SeatedPass D)
           (subst (λ (v : View). Answers (setup_of_log wal) v (view_of new)) seen_is
           (subst (λ (s : Setup). Answers s (view_of seated) (view_of new))
           (ap (λ (t : LogTable D). setup_of_table t) table) answers))
+
+      pub leaves_pass : IsPassOn (new.table).now after → (told : ℕ → Type 0)
+          → ((faults : ℕ) → KnowsDown faults (view_of seated) → told faults)
+          → LeavesPass wal told pass after
+      leaves_pass put told again = record {
+        keeps = answered (λ setup old now. KeepsPass old now) comes.keeps;
+        pass = still_pass put;
+        down_again = answered (λ setup old now. (faults : ℕ) → KnowsDown faults old → told faults)
+            again;
+      }

@@ -13,8 +13,8 @@ ghost use Rattle.wal_rule.specs.Passes.{view_of_pass};
 ghost use Rattle.wal_rule.specs.SeatedPasses.{StandsAtRest, setup_of, view_of};
 ghost use Rattle.wal_log.specs.Behind.{InsertsAndRaises, RaisesAsync};
 ghost use Rattle.wal_log.specs.Inserting.{AnswersInsert, NotesPlace};
-ghost use Rattle.wal_log.specs.Logs.{IsPassOfLog, setup_of_log};
-ghost use Rattle.wal_log.specs.Standing.{ComesToRest, KeepsPass};
+ghost use Rattle.wal_log.specs.Logs.{IsPassOfLog, LeavesPass, setup_of_log};
+ghost use Rattle.wal_log.specs.Standing.{ComesToRest};
 ghost use Rattle.wal_log.specs.declared.inserting.InsertErr.TheVariants.{Down};
 
 use crate::inserting::{InsertErr, insert_on, note_place};
@@ -52,12 +52,10 @@ impl<D: Disk> Wal<D> {
             InsertsAndRaises (setup_of_log self.now) body.now (view_of_pass pass.old)
             (view_of_pass pass.new) receipt) }
         ensures company { NotesPlace result pass.old.company pass.new.company }
-        // A pass that knows of a failed disk is told of it, and reserves nothing.
-        ensures down_again { (faults : _) → KnowsDown faults (view_of_pass pass.old)
-            → result ≡ Err (Down faults None) }
         // However it ends, the pass is about nothing, with its numbers and all that it had seen.
-        ensures keeps { KeepsPass (view_of_pass pass.old) (view_of_pass pass.new) }
-        ensures pass { IsPassOfLog self.now pass.new }
+        // A pass that knows of a failed disk is told of it, and reserves nothing.
+        ensures leaves { LeavesPass self.now (λ faults. result ≡ Err (Down faults None))
+            pass.old pass.new }
     {
         let mut seated = pass.seat(&self.table);
         let answer = commit_async_on(rt, &mut seated, &pass.company, body);

@@ -10,8 +10,8 @@ ghost use Rattle.wal_rule.specs.Downs.{KnowsDown};
 ghost use Rattle.wal_rule.specs.Passes.{view_of_pass};
 ghost use Rattle.wal_rule.specs.SeatedPasses.{StandsAtRest, StaysSeated, view_of};
 ghost use Rattle.wal_log.specs.Behind.{AnswersBehind, SeesTarget, behind_known_down};
-ghost use Rattle.wal_log.specs.Logs.{IsPassOfLog};
-ghost use Rattle.wal_log.specs.Standing.{ComesToRest, KeepsPass};
+ghost use Rattle.wal_log.specs.Logs.{IsPassOfLog, LeavesPass};
+ghost use Rattle.wal_log.specs.Standing.{ComesToRest};
 
 use crate::flushing::{FlushErr, flush_on};
 use crate::wal::Wal;
@@ -43,12 +43,10 @@ impl<D: Disk> Wal<D> {
         // page's start and than the async address that the pass met. Or it is refused as a flush
         // of the target, which is reserved, and adds nothing.
         ensures catches { AnswersBehind (view_of_pass pass.old) result (view_of_pass pass.new) }
-        // A pass that knows of a failed disk is told of it.
-        ensures down_again { (faults : _) → KnowsDown faults (view_of_pass pass.old)
-            → result ≡ behind_known_down faults }
         // However it ends, the pass is about nothing, with its numbers and all that it had seen.
-        ensures keeps { KeepsPass (view_of_pass pass.old) (view_of_pass pass.new) }
-        ensures pass { IsPassOfLog self.now pass.new }
+        // A pass that knows of a failed disk is told of it.
+        ensures leaves { LeavesPass self.now (λ faults. result ≡ behind_known_down faults)
+            pass.old pass.new }
     {
         let mut seated = pass.seat(&self.table);
         let answer = write_behind_on(rt, &mut seated);

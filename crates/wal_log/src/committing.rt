@@ -9,8 +9,8 @@ ghost use Rattle.wal_rule.specs.Downs.{KnowsDown};
 ghost use Rattle.wal_rule.specs.Passes.{view_of_pass};
 ghost use Rattle.wal_rule.specs.SeatedPasses.{StandsAtRest, setup_of, view_of};
 ghost use Rattle.wal_log.specs.Committing.{AnswersCommit, InsertsAndFlushes, commit_known_down, refused_of_insert};
-ghost use Rattle.wal_log.specs.Logs.{IsPassOfLog, setup_of_log};
-ghost use Rattle.wal_log.specs.Standing.{ComesToRest, KeepsPass};
+ghost use Rattle.wal_log.specs.Logs.{IsPassOfLog, LeavesPass, setup_of_log};
+ghost use Rattle.wal_log.specs.Standing.{ComesToRest};
 
 use crate::flushing::{FlushErr, flush_in_company};
 use crate::inserting::{InsertErr, insert_on};
@@ -60,14 +60,12 @@ impl<D: Disk> Wal<D> {
             (view_of_pass pass.new) sealed) }
         ensures company { IfOk result (λ sealed.
             HasNoted sealed.start.0 sealed.end pass.old.company pass.new.company) }
-        // A pass that knows of a failed disk is told of it, and reserves nothing.
-        ensures down_again { (faults : _) → KnowsDown faults (view_of_pass pass.old)
-            → result ≡ commit_known_down faults }
-        // However it ends, the pass is about nothing, with its numbers and all that it had seen.
-        ensures keeps { KeepsPass (view_of_pass pass.old) (view_of_pass pass.new) }
         // It meets no async address: that is raised by `commit_async` alone.
         ensures async_met { (view_of_pass pass.new).async_met ≡ (view_of_pass pass.old).async_met }
-        ensures pass { IsPassOfLog self.now pass.new }
+        // However it ends, the pass is about nothing, with its numbers and all that it had seen.
+        // A pass that knows of a failed disk is told of it, and reserves nothing.
+        ensures leaves { LeavesPass self.now (λ faults. result ≡ commit_known_down faults)
+            pass.old pass.new }
     {
         let mut seated = pass.seat(&self.table);
         let answer = commit_on(rt, &mut seated, &mut pass.company, body);

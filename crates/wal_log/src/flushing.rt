@@ -17,9 +17,9 @@ ghost use Rattle.wal_rule.specs.SeatedPasses.{StandsAtRest, setup_of, view_of};
 ghost use Rattle.wal_log.specs.Downs.{KnowsNoFault, SetsDownItself};
 ghost use Rattle.wal_log.specs.Flushing.{AnswersFlush, AnswersFlushTry, FlushesOnlyUnflushed, IsToldHard, JudgesFlush, JudgesFlushTry, LoadsHard, MeetsUnflushed, SeesWhether, TriesOnlyUnflushed, flush_err_known_down, try_flush_err_known_down, try_flush_err_of_turn};
 ghost use Rattle.wal_log.specs.Hands.{HasAllStored, HasFailed};
-ghost use Rattle.wal_log.specs.Logs.{IsPassOfLog};
+ghost use Rattle.wal_log.specs.Logs.{IsPassOfLog, LeavesPass};
 ghost use Rattle.wal_log.specs.PassLogs.{log_of_pass};
-ghost use Rattle.wal_log.specs.Standing.{ComesToRest, HasNoTurn, KeepsPass, SeesMore, StaysAtWork, WorksOn};
+ghost use Rattle.wal_log.specs.Standing.{ComesToRest, HasNoTurn, SeesMore, StaysAtWork, WorksOn};
 ghost use Rattle.wal_log.specs.Writing.{FlushesAll};
 ghost use Rattle.wal_log.specs.declared.flushing.TryFlushErr.TheVariants.{Disk};
 
@@ -113,12 +113,10 @@ impl<D: Disk> Wal<D> {
         // It is told as unreserved just where it is above the end of what is reserved by the
         // position that it loads first: a flush does not wait until somebody reserves.
         ensures unreserved { JudgesFlush upto.0 (view_of_pass pass.old) result }
-        // A pass that knows of a failed disk is told of it, also if the address is durable.
-        ensures down_again { (faults : _) → KnowsDown faults (view_of_pass pass.old)
-            → result ≡ flush_err_known_down faults }
         // However it ends, the pass is about nothing, with its numbers and all that it had seen.
-        ensures keeps { KeepsPass (view_of_pass pass.old) (view_of_pass pass.new) }
-        ensures pass { IsPassOfLog self.now pass.new }
+        // A pass that knows of a failed disk is told of it, also if the address is durable.
+        ensures leaves { LeavesPass self.now (λ faults. result ≡ flush_err_known_down faults)
+            pass.old pass.new }
     {
         let mut seated = pass.seat(&self.table);
         let answer = flush_on(rt, &mut seated, upto);
@@ -137,12 +135,10 @@ impl<D: Disk> Wal<D> {
         ensures only_unflushed { TriesOnlyUnflushed upto.0 (view_of_pass pass.old) result
             (view_of_pass pass.new) }
         ensures unreserved { JudgesFlushTry upto.0 (view_of_pass pass.old) result }
-        // A pass that knows of a failed disk is told of it, also if the address is durable.
-        ensures down_again { (faults : _) → KnowsDown faults (view_of_pass pass.old)
-            → result ≡ try_flush_err_known_down faults }
         // However it ends, the pass is about nothing, with its numbers and all that it had seen.
-        ensures keeps { KeepsPass (view_of_pass pass.old) (view_of_pass pass.new) }
-        ensures pass { IsPassOfLog self.now pass.new }
+        // A pass that knows of a failed disk is told of it, also if the address is durable.
+        ensures leaves { LeavesPass self.now (λ faults. result ≡ try_flush_err_known_down faults)
+            pass.old pass.new }
     {
         let mut seated = pass.seat(&self.table);
         let answer = try_flush(&mut seated, upto);

@@ -11,8 +11,8 @@ ghost use Rattle.wal_rule.specs.Passes.{view_of_pass};
 ghost use Rattle.wal_rule.specs.SeatedPasses.{StandsAtRest, setup_of, view_of};
 ghost use Rattle.wal_log.specs.Beginning.{IsPlaceBegun};
 ghost use Rattle.wal_log.specs.Inserting.{AnswersInsert, InsertsOnly, NotesPlace, RefusesInsert, insert_err_of_fault};
-ghost use Rattle.wal_log.specs.Logs.{IsPassOfLog, setup_of_log};
-ghost use Rattle.wal_log.specs.Standing.{ComesToRest, GoesOnSeated, KeepsPass, SeesMore};
+ghost use Rattle.wal_log.specs.Logs.{IsPassOfLog, LeavesPass, setup_of_log};
+ghost use Rattle.wal_log.specs.Standing.{ComesToRest, GoesOnSeated, SeesMore};
 ghost use Rattle.wal_log.specs.declared.inserting.InsertErr.TheVariants.{Down};
 
 use crate::beginning::{Begun, TryErr, try_begin};
@@ -84,14 +84,12 @@ impl<D: Disk> Wal<D> {
             (view_of_pass pass.new) receipt) }
         // It has met others from then on that a record stands between two of its own.
         ensures company { NotesPlace result pass.old.company pass.new.company }
-        // A pass that knows of a failed disk is told of it, and reserves nothing.
-        ensures down_again { (faults : _) → KnowsDown faults (view_of_pass pass.old)
-            → result ≡ Err (Down faults None) }
-        // However it ends, the pass is about nothing, with its numbers and all that it had seen.
-        ensures keeps { KeepsPass (view_of_pass pass.old) (view_of_pass pass.new) }
         // It meets no async address: that is raised by `commit_async` alone.
         ensures async_met { (view_of_pass pass.new).async_met ≡ (view_of_pass pass.old).async_met }
-        ensures pass { IsPassOfLog self.now pass.new }
+        // However it ends, the pass is about nothing, with its numbers and all that it had seen.
+        // A pass that knows of a failed disk is told of it, and reserves nothing.
+        ensures leaves { LeavesPass self.now (λ faults. result ≡ Err (Down faults None))
+            pass.old pass.new }
     {
         let mut seated = pass.seat(&self.table);
         let answer = insert_on(rt, &mut seated, &pass.company, body);

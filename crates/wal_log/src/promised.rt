@@ -5,8 +5,8 @@
 ghost use Rattle.wal_rule.specs.Passes.{view_of_pass};
 ghost use Rattle.wal_rule.specs.SeatedPasses.{StandsAtRest, view_of};
 ghost use Rattle.wal_log.specs.Flushing.{TellsHard};
-ghost use Rattle.wal_log.specs.Logs.{IsPassOfLog};
-ghost use Rattle.wal_log.specs.Standing.{ComesToRest, KeepsPass};
+ghost use Rattle.wal_log.specs.Logs.{IsPassOfLog, LeavesPass};
+ghost use Rattle.wal_log.specs.Standing.{ComesToRest};
 
 use crate::wal::Wal;
 use segment_disk::Disk;
@@ -22,8 +22,8 @@ impl<D: Disk> Wal<D> {
         // join the pass's log, and are no less than those that it was promised before.
         ensures told { TellsHard result.upto.0 result.moment (view_of_pass pass.old)
             (view_of_pass pass.new) }
-        ensures keeps { KeepsPass (view_of_pass pass.old) (view_of_pass pass.new) }
-        ensures pass { IsPassOfLog self.now pass.new }
+        // Of a failed disk it tells nothing.
+        ensures leaves { LeavesPass self.now (λ faults. Unit {0}) pass.old pass.new }
     {
         let mut seated = pass.seat(&self.table);
         let hard = hard_on(&mut seated);

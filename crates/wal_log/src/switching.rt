@@ -14,8 +14,8 @@ ghost use Rattle.wal_rule.specs.Downs.{KnowsDown};
 ghost use Rattle.wal_rule.specs.Passes.{view_of_pass};
 ghost use Rattle.wal_rule.specs.SeatedPasses.{StandsAtRest, setup_of, view_of};
 ghost use Rattle.wal_log.specs.Downs.{KnowsNoFault};
-ghost use Rattle.wal_log.specs.Logs.{IsPassOfLog, setup_of_log};
-ghost use Rattle.wal_log.specs.Standing.{ComesToRest, GoesOnSeated, HasLocks, HoldsLocks, KeepsPass};
+ghost use Rattle.wal_log.specs.Logs.{IsPassOfLog, LeavesPass, setup_of_log};
+ghost use Rattle.wal_log.specs.Standing.{ComesToRest, GoesOnSeated, HasLocks, HoldsLocks};
 ghost use Rattle.wal_log.specs.Switching.{AnswersPlace, AnswersSwitch, HoldsOn, TellsDown};
 ghost use Rattle.wal_log.specs.Waiting.{FindsUp, IsSeenTold};
 ghost use Rattle.wal_log.specs.declared.inserting.InsertErr.TheVariants.{Down};
@@ -57,12 +57,10 @@ impl<D: Disk> Wal<D> {
         // that stands in the order all the same.
         ensures switches { AnswersSwitch (setup_of_log self.now) body.now
             (view_of_pass pass.old) result (view_of_pass pass.new) }
-        // A pass that knows of a failed disk is told of it, and reserves nothing.
-        ensures down_again { (faults : _) → KnowsDown faults (view_of_pass pass.old)
-            → result ≡ Err (Down faults None) }
         // However it ends, the pass is about nothing, with its numbers and all that it had seen.
-        ensures keeps { KeepsPass (view_of_pass pass.old) (view_of_pass pass.new) }
-        ensures pass { IsPassOfLog self.now pass.new }
+        // A pass that knows of a failed disk is told of it, and reserves nothing.
+        ensures leaves { LeavesPass self.now (λ faults. result ≡ Err (Down faults None))
+            pass.old pass.new }
     {
         let mut seated = pass.seat(&self.table);
         let answer = switch_on(rt, &mut seated, body);

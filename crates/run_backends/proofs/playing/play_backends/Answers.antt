@@ -41,7 +41,7 @@ join_lanes-backends-requires-clause-numbers g c =
 
 pub close-requires-clause-numbers : goal.close-requires-clause-numbers
 close-requires-clause-numbers g c = λ number low. c.calls_keep_numbers.ensures _ _
-    c.flush.ensures.keeps number (c.join_lanes-backends.ensures.numbers number low)
+    c.flush.ensures.leaves.keeps number (c.join_lanes-backends.ensures.numbers number low)
 
 pub returns-clause-played : goal.returns-clause-played
 returns-clause-played g c = λ script are.
@@ -66,8 +66,8 @@ returns-clause-played g c = λ script are.
       closes = c.close.ensures;
       each = joined.ensures.lines script played;
       taken = taken_behind_flush (opening_of_log log) joined.result.end.0 old new
-          c.flush.result c.flush.ensures.flushes c.flush.ensures.down_again
-          c.flush.ensures.keeps script (lists_of told)
+          c.flush.result c.flush.ensures.flushes c.flush.ensures.leaves.down_again
+          c.flush.ensures.leaves.keeps script (lists_of told)
           (joined.ensures.taken script played idle).0;
       flushed = flushed_all (setup_of_log log)
           (has_valid_size log joined.new.first joined.ensures.pass) joined.result.end.0 old new

@@ -16,7 +16,7 @@ close-closed-requires-clause-numbers g c =
     let first = subst (λ (v : View). HasAllNumbers (opening.setup).passes v.reserving)
     (sym c.in-Ok.ensures.opened.view) (c.seats_keep_numbers.ensures.first opening).1 in
     λ number low. c.calls_keep_numbers.ensures (view_of_pass c.in-Ok.pass)
-    (view_of_pass c.commit.new.pass) c.commit.ensures.keeps number (first number low)
+    (view_of_pass c.commit.new.pass) c.commit.ensures.leaves.keeps number (first number low)
 
 pub returns : goal.returns
 returns g c = λ t told.

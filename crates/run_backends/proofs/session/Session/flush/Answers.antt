@@ -14,28 +14,28 @@ pub returns-in-Ok-clause-plays : goal.returns-in-Ok-clause-plays
 returns-in-Ok-clause-plays g c =
     flush_plays_answer c.args.log.now c.args.self.now
     (record { pass = c.flush.new.pass; end = c.args.self.now.end }) c.flush.new.pass c.requires
-    refl c.flush.ensures.keeps c.flush.ensures.pass c.of_flush.result c.flush.result
+    refl c.flush.ensures.leaves.keeps c.flush.ensures.leaves.pass c.of_flush.result c.flush.result
     (c.of_flush.ensures ∙ ap told_of_flushed (sym c.in-Ok.is)) c.flush.ensures.flushes
-    c.flush.ensures.down_again
+    c.flush.ensures.leaves.down_again
 
 pub returns-in-Ok-clause-leaves : goal.returns-in-Ok-clause-leaves
 returns-in-Ok-clause-leaves g c =
     flush_leaves_session c.args.log.now c.args.self.now
     (record { pass = c.flush.new.pass; end = c.args.self.now.end }) c.flush.new.pass c.requires
-    refl c.flush.ensures.keeps c.flush.ensures.pass c.of_flush.result c.flush.result
+    refl c.flush.ensures.leaves.keeps c.flush.ensures.leaves.pass c.of_flush.result c.flush.result
     (c.of_flush.ensures ∙ ap told_of_flushed (sym c.in-Ok.is)) c.flush.ensures.flushes refl
 
 pub returns-in-Err-clause-plays : goal.returns-in-Err-clause-plays
 returns-in-Err-clause-plays g c =
     flush_plays_answer c.args.log.now c.args.self.now
     (record { pass = c.flush.new.pass; end = c.args.self.now.end }) c.flush.new.pass c.requires
-    refl c.flush.ensures.keeps c.flush.ensures.pass c.refused_flush.result c.flush.result
+    refl c.flush.ensures.leaves.keeps c.flush.ensures.leaves.pass c.refused_flush.result c.flush.result
     (c.refused_flush.ensures ∙ ap told_of_flushed (sym c.in-Err.is)) c.flush.ensures.flushes
-    c.flush.ensures.down_again
+    c.flush.ensures.leaves.down_again
 
 pub returns-in-Err-clause-leaves : goal.returns-in-Err-clause-leaves
 returns-in-Err-clause-leaves g c =
     flush_leaves_session c.args.log.now c.args.self.now
     (record { pass = c.flush.new.pass; end = c.args.self.now.end }) c.flush.new.pass c.requires
-    refl c.flush.ensures.keeps c.flush.ensures.pass c.refused_flush.result c.flush.result
+    refl c.flush.ensures.leaves.keeps c.flush.ensures.leaves.pass c.refused_flush.result c.flush.result
     (c.refused_flush.ensures ∙ ap told_of_flushed (sym c.in-Err.is)) c.flush.ensures.flushes refl

@@ -16,16 +16,16 @@ insert-requires-clause-inserted g c =
 pub returns-in-Ok-clause-plays : goal.returns-in-Ok-clause-plays
 returns-in-Ok-clause-plays g c = λ value is.
     insert_plays_answer c.args.log.now c.args.self.now c.note.new.self c.insert.new.pass
-    c.requires.session c.note.ensures.pass c.insert.ensures.keeps c.insert.ensures.pass
+    c.requires.session c.note.ensures.pass c.insert.ensures.leaves.keeps c.insert.ensures.leaves.pass
     c.of_insert.result c.as_body-lent.result c.insert.result
     (c.of_insert.ensures ∙ ap told_of_inserted (sym c.in-Ok.is)) c.insert.ensures.inserts
-    c.body_knows_its_record.ensures c.insert.ensures.down_again c.insert.ensures.async_met
+    c.body_knows_its_record.ensures c.insert.ensures.leaves.down_again c.insert.ensures.async_met
     value (subst (IsBodyOf value) (sym c.as_body-lent.ensures) is)
 
 pub returns-in-Ok-clause-leaves : goal.returns-in-Ok-clause-leaves
 returns-in-Ok-clause-leaves g c =
     insert_leaves_session c.args.log.now c.args.self.now c.note.new.self c.insert.new.pass
-    c.requires.session c.note.ensures.pass c.insert.ensures.keeps c.insert.ensures.pass
+    c.requires.session c.note.ensures.pass c.insert.ensures.leaves.keeps c.insert.ensures.leaves.pass
     c.of_insert.result c.as_body-lent.result c.insert.result
     (c.of_insert.ensures ∙ ap told_of_inserted (sym c.in-Ok.is)) c.insert.ensures.inserts
     (c.note.ensures.end ∙ ap (end_behind c.args.self.now.end.0) (sym c.of_insert.ensures))
@@ -34,18 +34,18 @@ pub returns-clause-plays : goal.returns-clause-plays
 returns-clause-plays g c = λ value is.
     insert_plays_answer c.args.log.now c.args.self.now
     (record { pass = c.insert.new.pass; end = c.args.self.now.end }) c.insert.new.pass
-    c.requires.session refl c.insert.ensures.keeps c.insert.ensures.pass c.of_insert-in-Err.result
+    c.requires.session refl c.insert.ensures.leaves.keeps c.insert.ensures.leaves.pass c.of_insert-in-Err.result
     c.as_body-lent.result c.insert.result
     (c.of_insert-in-Err.ensures ∙ ap (λ (r : Refused). told_of_insert (Err r)) c.into.ensures
     ∙ ap told_of_inserted (sym c.in-Err.is)) c.insert.ensures.inserts
-    c.body_knows_its_record.ensures c.insert.ensures.down_again c.insert.ensures.async_met
+    c.body_knows_its_record.ensures c.insert.ensures.leaves.down_again c.insert.ensures.async_met
     value (subst (IsBodyOf value) (sym c.as_body-lent.ensures) is)
 
 pub returns-clause-leaves : goal.returns-clause-leaves
 returns-clause-leaves g c =
     insert_leaves_session c.args.log.now c.args.self.now
     (record { pass = c.insert.new.pass; end = c.args.self.now.end }) c.insert.new.pass
-    c.requires.session refl c.insert.ensures.keeps c.insert.ensures.pass c.of_insert-in-Err.result
+    c.requires.session refl c.insert.ensures.leaves.keeps c.insert.ensures.leaves.pass c.of_insert-in-Err.result
     c.as_body-lent.result c.insert.result
     (c.of_insert-in-Err.ensures ∙ ap (λ (r : Refused). told_of_insert (Err r)) c.into.ensures
     ∙ ap told_of_inserted (sym c.in-Err.is)) c.insert.ensures.inserts

@@ -1,13 +1,11 @@
-use Rattle.std.proofs.Common.{◌≡◌, ℕ}
+use Rattle.std.proofs.Common.{◌≡◌}
 use Rattle.machine_state.specs.Views.{View}
 use Rattle.machine_state.specs.declared.setup.Setup.{Setup}
-use Rattle.wal_rule.specs.Downs.{KnowsDown}
 use Rattle.wal_rule.specs.Passes.{view_of_pass}
 use Rattle.wal_rule.specs.SeatedPasses.{setup_of, view_of}
 use Rattle.wal_log.specs.Committing.{AnswersCommit, commit_known_down}
 use Rattle.wal_log.specs.Logs.{setup_of_log}
-use Rattle.wal_log.specs.Standing.{KeepsPass}
-use Rattle.wal_log.proofs.Passing.{answered, numbers_back, seated_rests, still_pass}
+use Rattle.wal_log.proofs.Passing.{answered, leaves_pass, numbers_back, seated_rests}
 use Rattle.wal_log.proofs.wal.Wal.commit.Given.{Over}
 use Rattle.wal_log.proofs.wal.Wal.commit.Goals as goal
 use Rattle.wal_log.proofs.wal.Wal.commit.Goals.{After-put_back}
@@ -38,25 +36,14 @@ returns-clause-commits g c =
     (λ setup old new. AnswersCommit setup c.args.body.now old c.commit_on-answer.result new)
     c.commit_on-answer.ensures.commits
 
-pub returns-clause-down_again : goal.returns-clause-down_again
-returns-clause-down_again g c =
-    answered_so g (goal.at.returns-clause-down_again g c).After-put_back
-    (λ setup old new. (faults : ℕ) → KnowsDown faults old
-    → c.commit_on-answer.result ≡ commit_known_down faults)
-    c.commit_on-answer.ensures.down_again
-
-pub returns-clause-keeps : goal.returns-clause-keeps
-returns-clause-keeps g c =
-    answered_so g (goal.at.returns-clause-keeps g c).After-put_back
-    (λ setup old new. KeepsPass old new) c.commit_on-answer.ensures.rests.keeps
-
 pub returns-clause-async_met : goal.returns-clause-async_met
 returns-clause-async_met g c =
     answered_so g (goal.at.returns-clause-async_met g c).After-put_back
     (λ setup old new. new.async_met ≡ old.async_met) c.commit_on-answer.ensures.async_met
 
-pub returns-clause-pass : goal.returns-clause-pass
-returns-clause-pass g c = still_pass c.args.self.now c.args.pass.now c.seat-seated.result
+pub returns-clause-leaves : goal.returns-clause-leaves
+returns-clause-leaves g c = leaves_pass c.args.self.now c.args.pass.now c.seat-seated.result
     c.seat-seated.ensures.view c.commit_on-answer.new.seated c.commit_on-answer.ensures.rests
     c.seat-seated.ensures.table c.put_back.new.self c.put_back.ensures.view
-    c.put_back.ensures.pass
+    c.put_back.ensures.pass (λ faults. c.commit_on-answer.result ≡ commit_known_down faults)
+    c.commit_on-answer.ensures.down_again

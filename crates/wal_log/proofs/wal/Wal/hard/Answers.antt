@@ -4,8 +4,7 @@ use Rattle.wal_rule.specs.Passes.{view_of_pass}
 use Rattle.wal_rule.specs.SeatedPasses.{setup_of, view_of}
 use Rattle.wal_log.specs.Flushing.{TellsHard}
 use Rattle.wal_log.specs.Logs.{setup_of_log}
-use Rattle.wal_log.specs.Standing.{KeepsPass}
-use Rattle.wal_log.proofs.Passing.{answered, numbers_back, seated_rests, still_pass}
+use Rattle.wal_log.proofs.Passing.{answered, leaves_pass, numbers_back, seated_rests}
 use Rattle.wal_log.proofs.wal.Wal.hard.Given.{Over}
 use Rattle.wal_log.proofs.wal.Wal.hard.Goals as goal
 use Rattle.wal_log.proofs.wal.Wal.hard.Goals.{After-put_back}
@@ -37,13 +36,9 @@ returns-clause-told g c =
     (λ setup old new. TellsHard c.hard_on-hard.result.upto.0 c.hard_on-hard.result.moment old new)
     c.hard_on-hard.ensures.told
 
-pub returns-clause-keeps : goal.returns-clause-keeps
-returns-clause-keeps g c =
-    answered_so g (goal.at.returns-clause-keeps g c).After-put_back
-    (λ setup old new. KeepsPass old new) c.hard_on-hard.ensures.rests.keeps
-
-pub returns-clause-pass : goal.returns-clause-pass
-returns-clause-pass g c = still_pass c.args.self.now c.args.pass.now c.seat-seated.result
+pub returns-clause-leaves : goal.returns-clause-leaves
+returns-clause-leaves g c = leaves_pass c.args.self.now c.args.pass.now c.seat-seated.result
     c.seat-seated.ensures.view c.hard_on-hard.new.seated c.hard_on-hard.ensures.rests
     c.seat-seated.ensures.table c.put_back.new.self c.put_back.ensures.view
-    c.put_back.ensures.pass
+    c.put_back.ensures.pass (λ faults. Unit {0})
+    (λ faults knows. tt)
