@@ -10,8 +10,8 @@ returns-clause-kept g c =
     let new = view_of_pass c.commit.new.pass in
     let all = c.passes_share_numbers.ensures.all passes old c.requires.kept.numbers in
     record {
-      pass = c.commit.ensures.pass;
+      pass = c.commit.ensures.leaves.pass;
       numbers = c.passes_share_numbers.ensures.none passes new (λ number low.
-          c.calls_keep_numbers.ensures old new c.commit.ensures.keeps number (all number low));
-      alone = c.commit.ensures.keeps.joined ∙ c.requires.kept.alone;
+          c.calls_keep_numbers.ensures old new c.commit.ensures.leaves.keeps number (all number low));
+      alone = c.commit.ensures.leaves.keeps.joined ∙ c.requires.kept.alone;
     }
