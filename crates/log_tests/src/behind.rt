@@ -10,7 +10,7 @@ use std::alloc::Global;
 use std::process::Abort;
 use std::sync::Wait;
 use std::test::Fail;
-use wal_log::{Caught, FlushErr, Hard, InsertErr, Pass, Receipt, Wal};
+use wal_log::{Caught, FlushErr, Hard, InsertErr, Pass, Receipt, TryFlushErr, Wal};
 use wal_types::Lsn;
 
 // A call with what it has to be told.
@@ -25,6 +25,8 @@ enum Step {
     Flushed(Lsn, u64),
     Idle(Lsn),
     Refused(FlushErr),
+    // One try of a flush behind.
+    Tried(Result<Caught, TryFlushErr>),
     // How far the log is durable, which makes no device call.
     Hard(Hard),
 }
@@ -70,6 +72,18 @@ const ROWS: &[Row] = &[
             }),
         ],
     },
+    Row {
+        what: "one try flushes it too, once",
+        fail: &[],
+        steps: &[
+            COMMITTED,
+            Step::Tried(Ok(Caught::Flushed(Hard {
+                upto: END,
+                moment: 3,
+            }))),
+            Step::Tried(Ok(Caught::Idle { upto: END })),
+        ],
+    },
     // The segment is made, both pages are written, and it is synced.
     Row {
         what: "a commit stands on the next page",
@@ -105,6 +119,7 @@ const ROWS: &[Row] = &[
             COMMITTED,
             Step::Refused(FlushErr::Disk { faults: 1 }),
             Step::Refused(FlushErr::Down { faults: 1 }),
+            Step::Tried(Err(TryFlushErr::Down { faults: 1 })),
             Step::Commit(Err(InsertErr::Down {
                 faults: 1,
                 start: None,
@@ -140,6 +155,7 @@ fn is_told<R: Wait>(
         }
         Step::Idle(upto) => log.write_behind(rt, pass) == Ok(Caught::Idle { upto }),
         Step::Refused(e) => log.write_behind(rt, pass) == Err(e),
+        Step::Tried(told) => log.try_write_behind(pass) == told,
         Step::Hard(told) => log.hard(pass) == told,
     })
 }

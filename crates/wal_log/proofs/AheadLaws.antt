@@ -22,9 +22,9 @@ use Rattle.wal_log.specs.declared.inserting.InsertErr.{InsertErr}
 use Rattle.wal_log.specs.Inserting.{IsReceipt}
 use Rattle.wal_log.specs.Standing.{ComesToRest, KeepsPass}
 use Rattle.wal_log.specs.Whole.{StandsWhole}
-use Rattle.wal_log.proofs.Keeping.{further_pass}
+use Rattle.wal_log.proofs.Keeping.{further_pass, same_pass}
 use Rattle.wal_log.proofs.WholeLaws.{copied_behind}
-use Rattle.wal_log.proofs.Seated.{hand_is, own_setup, view_is}
+use Rattle.wal_log.proofs.Seated.{hand_is, own_setup, same_setup, view_is}
 
 -- ---- the view
 
@@ -131,6 +131,13 @@ module _ {D : Type 0} where
         (rests.rests).flight,
       )
 
+  pub load_meets : (met : ℕ) (old new : SeatedPass D) → Steps load_async met old new
+      → met ≤ (view_of new).async_met
+  load_meets met old new steps =
+      let is : (view_of new).async_met ≡ max (view_of old).async_met met =
+      ap (λ (v : View). v.async_met) (view_is steps) in
+      omega (arith, is)
+
   -- a call that raises it comes to rest
   pub raised_rests : (old mid new : SeatedPass D) → ComesToRest old mid → RaisesAsync mid new
       → ComesToRest old new
@@ -145,6 +152,21 @@ module _ {D : Type 0} where
           empty = hand_is raised.view ∙ (comes.rests).empty;
         };
       }
+
+  pub raise_rests : (old new : SeatedPass D) → StandsAtRest old → RaisesAsync old new
+      → ComesToRest old new
+  raise_rests old new rests raised = raised_rests old old new
+      (record { same_table = refl; keeps = same_pass (view_of old); rests = rests }) raised
+
+  -- and has seen as much reserved as before
+  pub raise_reserved : (old new : SeatedPass D) (upto : ℕ) → RaisesAsync old new
+      → upto ≤ end_form (setup_of old) ((view_of old).reserving).seen
+      → upto ≤ end_form (setup_of new) ((view_of new).reserving).seen
+  raise_reserved old new upto raised reserved =
+      subst (λ (v : View). upto ≤ end_form (setup_of new) (v.reserving).seen)
+      (sym (view_is raised.view))
+      (subst (λ (s : Setup). upto ≤ end_form s ((view_of old).reserving).seen)
+      (sym (same_setup old new (raised.view).same_table)) reserved)
 
 -- ---- entries end at words
 

@@ -1,4 +1,5 @@
 -- What a pass finds that flushes behind: its target is reserved, and what it tells follows.
+use Rattle.std.specs.Prelude.{Result, Ok, Err}
 use Rattle.std.proofs.Common.{◌≡◌, ◌⊎◌, inl, inr, ℕ, ◌-◌, ◌%◌, ◌<◌, ◌≤◌, All, map, max, refl, sym, ap, ◌∙◌, subst, arith}
 use mathlib.Core.Option.{none}
 use Rattle.atomic_table.proofs.Lists.{at_map}
@@ -16,11 +17,14 @@ use Rattle.wal_rule.specs.Downs.{KnowsDown}
 use Rattle.wal_rule.specs.SeatedPasses.{StandsAtRest, StaysSeated, Steps, view_of}
 use Rattle.wal_rule.specs.Stepping.{Meets, Stands}
 use Rattle.insert_locks.specs.Watching.{SeesPosition, with_sight}
+use Rattle.wal_log.specs.declared.behind.Aim.{Aim}
 use Rattle.wal_log.specs.declared.flushing.FlushErr.{FlushErr}
 use Rattle.wal_log.specs.declared.flushing.FlushErr.TheVariants.{Unreserved, Disk, Down}
-use Rattle.wal_log.specs.Behind.{FindsNothing, FindsTarget, FlushesBehind, RefusesBehind, SeesTarget, page_of_end, page_start}
+use Rattle.wal_log.specs.declared.flushing.TryFlushErr.{TryFlushErr}
+use Rattle.wal_log.specs.declared.flushing.TryFlushErr.TheVariants as tries
+use Rattle.wal_log.specs.Behind.{FindsNothing, FlushesBehind, HasTarget, RefusesBehind, SeesTarget, TellsBehindTry, page_of_end, page_start}
 use Rattle.wal_log.specs.Downs.{KnowsNoFault}
-use Rattle.wal_log.specs.Flushing.{HasReached, IsUnreserved, TellsFlushErr, view_met_up}
+use Rattle.wal_log.specs.Flushing.{HasReached, IsUnreserved, TellsFlushErr, TellsFlushTry, view_met_up}
 use Rattle.wal_log.specs.PassLogs.{log_of_pass}
 use Rattle.wal_log.specs.Standing.{ComesToRest, KeepsPass}
 use Rattle.wal_log.proofs.FlushLaws.{fails_behind, told_behind}
@@ -250,52 +254,73 @@ module _ (old down sight : View) (faults flushed target : ℕ)
       }
 
   -- the target is above the flushed address
-  finds_target : flushed < target → FindsTarget target old
-  finds_target high = record {
-    looked = looked_up;
-    flushed = flushed;
-    sight = sight;
-    sees = sees_up;
-    above = high;
+  pub has_target : flushed < target → HasTarget target old sight
+  has_target high = record {
+    found = record {
+      looked = looked_up;
+      flushed = flushed;
+      sight = sight;
+      sees = sees_up;
+      above = high;
+    };
+    reserved = subst (λ (o : Opening). target ≤ end_form o.setup (sight.reserving).seen)
+        same_opening sees.reserved;
+    log_is = same_log;
+    set_none = same_down_set;
   }
 
-  pub flushes_behind : (hard : Hard) (new : View) → KeepsPass old sight → flushed < target
-      → HasReached target hard sight new → FlushesBehind hard old new
-  flushes_behind hard new keeps high told = record {
+-- a flush of the target that was found, or one try of it
+module _ (target : ℕ) (old sight new : View) (has : HasTarget target old sight)
+    (keeps : KeepsPass old sight) where
+  pub flushes_behind : (hard : Hard) → HasReached target hard sight new
+      → FlushesBehind hard old new
+  flushes_behind hard told = record {
     target = target;
-    found = finds_target high;
+    found = has.found;
     told = (
-      told_behind target hard.upto.0 hard.moment old sight new same_log keeps target
+      told_behind target hard.upto.0 hard.moment old sight new has.log_is keeps target
           (told.0).reached told.0,
       told.1,
     );
   }
 
-  -- a flush of it is not told that it is not reserved
-  is_reserved : (end : ℕ) (new : View) → IsSegmentSize ((old.opening).setup).seg_size
-      → KeepsPass old sight → IsUnreserved target end sight new → ⊥
-  is_reserved end new size keeps un =
-      let reserved = subst (λ (o : Opening). target ≤ end_form o.setup (sight.reserving).seen)
-      same_opening sees.reserved in
-      let end_is : end ≡ end_form (old.opening).setup (new.reserving).seen =
-      un.end_is ∙ ap (λ (o : Opening). end_form o.setup (new.reserving).seen) keeps.opening in
-      let higher = end_address_of-mono ((old.opening).setup).seg_size size
-      (sight.reserving).seen (new.reserving).seen un.rises in
-      let above = un.above in
-      omega (arith, reserved, end_is, higher, above)
+  module _ (size : IsSegmentSize ((old.opening).setup).seg_size) where
+    -- it is not told that it is not reserved
+    is_reserved : (end : ℕ) → IsUnreserved target end sight new → ⊥
+    is_reserved end un =
+        let end_is : end ≡ end_form (old.opening).setup (new.reserving).seen =
+        un.end_is ∙ ap (λ (o : Opening). end_form o.setup (new.reserving).seen) keeps.opening in
+        let higher = end_address_of-mono ((old.opening).setup).seg_size size
+        (sight.reserving).seen (new.reserving).seen un.rises in
+        let reserved = has.reserved in
+        let above = un.above in
+        omega (arith, reserved, end_is, higher, above)
 
-  pub refuses_behind : (new : View) → IsSegmentSize ((old.opening).setup).seg_size
-      → KeepsPass old sight → flushed < target → (e : FlushErr)
-      → TellsFlushErr target sight new e → RefusesBehind old new e
-  refuses_behind new size keeps high (Disk n) told = (
-    target,
-    finds_target high,
-    fails_behind target old sight new keeps n told,
-  )
-  refuses_behind new size keeps high (Down n) told =
-      meets_since old sight new n same_down_set told
-  refuses_behind new size keeps high (Unreserved end) told =
-      is_reserved end.0 new size keeps told
+    pub refuses_behind : (e : FlushErr) → TellsFlushErr target sight new e
+        → RefusesBehind old new e
+    refuses_behind (Disk n) told =
+        (target, has.found, fails_behind target old sight new keeps n told)
+    refuses_behind (Down n) told = meets_since old sight new n has.set_none told
+    refuses_behind (Unreserved end) told = is_reserved end.0 told
+
+    pub tells_behind_try : (e : TryFlushErr) → TellsFlushTry target sight new e
+        → TellsBehindTry old new e
+    tells_behind_try (tries.Disk n) told =
+        (target, has.found, fails_behind target old sight new keeps n told)
+    tells_behind_try (tries.Down n) told = meets_since old sight new n has.set_none told
+    tells_behind_try (tries.Unreserved end) told = is_reserved end.0 told
+    tells_behind_try (tries.Behind lock word) told = (target, has.found, told)
+    tells_behind_try (tries.Turn word) told = (target, has.found, told)
+
+-- what there is to flush was found, or the disk had failed
+abbrev pub no_aim : ℕ → Result Aim ℕ
+no_aim faults = Err faults
+
+pub not_aimed : (aim : Aim) (faults : ℕ) → Ok aim ≡ no_aim faults → ⊥
+not_aimed aim faults is = absurd (cc)
+
+pub same_faults : (told faults : ℕ) → no_aim told ≡ no_aim faults → told ≡ faults
+same_faults told faults is = cc
 
 -- a known fault was met, so none of 0 was
 pub not_known : (v : View) (met faults : ℕ) → KnowsDown faults v → met ≡ faults → met ≡ 0 → ⊥

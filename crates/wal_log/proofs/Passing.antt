@@ -28,6 +28,13 @@ module _ {D : Type 0} (wal : Wal D) (pass : Pass) (seated : SeatedPass D)
     empty = ap (λ (m : View × List (ℕ × LogWriter D)). m.1) view;
   }
 
+  -- what holds of the pass holds of it seated
+  pub asked : (seated.table).now ≡ table_of wal → (Asked : Setup → View → Type 0)
+      → Asked (setup_of_log wal) (view_of_pass pass) → Asked (setup_of seated) (view_of seated)
+  asked table Asked holds = subst (λ (v : View). Asked (setup_of seated) v) (sym seen_is)
+      (subst (λ (s : Setup). Asked s (view_of_pass pass))
+      (sym (ap (λ (t : LogTable D). setup_of_table t) table)) holds)
+
   -- a pass goes back with the numbers that it has kept
   pub numbers_kept : (new : View) → KeepsPass (view_of seated) new → (mid : Pass)
       → IsPassOn (table_of wal) pass → SamePass pass mid

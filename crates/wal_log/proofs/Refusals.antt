@@ -1,5 +1,5 @@
--- Why a record is refused, by what holds of a full log and of a start: since an earlier view, by what
--- holds besides, and with the locks given back.
+-- Why a record is refused, by what holds of a full log and of a start: since an earlier view, by
+-- what holds besides, and with the locks given back.
 use Rattle.std.specs.Prelude.{None, Some}
 use Rattle.std.proofs.Common.{◌≡◌, ℕ, refl, sym, ap, ◌∙◌, subst}
 use Rattle.wal_spelling.specs.Spelling.{Assembled}
@@ -37,7 +37,8 @@ module _ (full more started begun : ℕ → Type 0) where
 -- with the locks given back, where nothing was reserved
 module _ (full more : ℕ → Type 0) where
   pub refused_rests : (old v new : View) → new ≡ rested v → ((free : ℕ) → full free → more free)
-      → (e : InsertErr) → RefusesRecord full (λ start. ⊥) old v e → RefusesRecord more (λ start. ⊥) old new e
+      → (e : InsertErr) → RefusesRecord full (λ start. ⊥) old v e
+      → RefusesRecord more (λ start. ⊥) old new e
   refused_rests old v new is at_full (Full free) why = (
     at_full free why.0,
     subst KnowsNoFault (sym is) (record { met = (why.1).met; set = (why.1).set }),

@@ -255,7 +255,10 @@ fn await_flush<'p, D: Disk, R: Wait>(
 
 // One try, which does not wait. At Ok the pass was promised what is told; else its log is as it
 // was. In both cases it is about nothing behind it.
-fn try_flush<'p, D: Disk>(seated: &mut SeatedPass<'p, D>, upto: Lsn) -> Result<Hard, TryFlushErr>
+pub(crate) fn try_flush<'p, D: Disk>(
+    seated: &mut SeatedPass<'p, D>,
+    upto: Lsn,
+) -> Result<Hard, TryFlushErr>
     requires rests { StandsAtRest seated.old }
     ensures tries { AnswersFlushTry upto.0 (view_of seated.old) result (view_of seated.new) }
     ensures only_unflushed { TriesOnlyUnflushed upto.0 (view_of seated.old) result

@@ -31,7 +31,7 @@ use wal_types::{Lsn, Receipt};
 // How often a busy position is looked at before a pause.
 const LOOKS: u32 = 20;
 
-/// Why a record was not inserted, or a segment not switched, which is a record too. It has its place
+/// Why a record was not inserted, or a segment not switched. The record or the switch has its place
 /// all the same where a start is told: what was reserved stays reserved.
 #[derive(Clone, Copy, Debug, PartialEq, Eq)]
 pub enum InsertErr {

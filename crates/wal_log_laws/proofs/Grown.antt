@@ -25,7 +25,7 @@ use Rattle.wal_log.specs.declared.flushing.TryFlushErr.{TryFlushErr}
 use Rattle.wal_log.specs.declared.in_flight.Inflight.{Inflight}
 use Rattle.wal_log.specs.declared.wal.Wal.{Wal}
 use Rattle.wal_log.specs.Beginning.{TellsBeginTry}
-use Rattle.wal_log.specs.Behind.{AnswersBehind}
+use Rattle.wal_log.specs.Behind.{AnswersBehind, AnswersBehindTry, TellsCaught}
 use Rattle.wal_log.specs.Flights.{AnswersTryBegin, view_of_flight}
 use Rattle.wal_log.specs.Flushing.{AnswersFlushTry, TellsHard}
 use Rattle.wal_log.specs.declared.inserting.InsertErr.{InsertErr}
@@ -136,15 +136,27 @@ module _ (setup : Setup) (body : Assembled) (old new : View) where
 
 -- ---- what a flush behind adds
 
-pub behind_grows : (old new : View) (answer : Result Caught FlushErr)
-    → AnswersBehind old answer new → GrowsTo (log_of_pass old) (log_of_pass new)
-behind_grows old new (Ok (Flushed hard)) told =
+same_grows : (old new : View) → log_of_pass new ≡ log_of_pass old
+    → GrowsTo (log_of_pass old) (log_of_pass new)
+same_grows old new same =
+    grows_so (log_of_pass old) _ (log_of_pass new) same (grows_itself (log_of_pass old))
+
+caught_grows : (caught : Caught) (old new : View) → TellsCaught caught old new
+    → GrowsTo (log_of_pass old) (log_of_pass new)
+caught_grows (Flushed hard) old new told =
     grows_so (log_of_pass old) _ (log_of_pass new) ((told.told).0).log_is
     (with_promise hard.upto.0 hard.moment (log_of_pass old))
-behind_grows old new (Ok (Idle upto)) told = grows_so (log_of_pass old) _ (log_of_pass new)
-    told.log_is (grows_itself (log_of_pass old))
-behind_grows old new (Err e) told = grows_so (log_of_pass old) _ (log_of_pass new) told.0
-    (grows_itself (log_of_pass old))
+caught_grows (Idle upto) old new told = same_grows old new told.log_is
+
+pub behind_grows : (old new : View) (answer : Result Caught FlushErr)
+    → AnswersBehind old answer new → GrowsTo (log_of_pass old) (log_of_pass new)
+behind_grows old new (Ok caught) told = caught_grows caught old new told
+behind_grows old new (Err e) told = same_grows old new told.0
+
+pub behind_try_grows : (old new : View) (answer : Result Caught TryFlushErr)
+    → AnswersBehindTry old answer new → GrowsTo (log_of_pass old) (log_of_pass new)
+behind_try_grows old new (Ok caught) told = caught_grows caught old new told
+behind_try_grows old new (Err e) told = same_grows old new told.1
 
 -- ---- what a segment switch adds
 
@@ -159,11 +171,6 @@ module _ (setup : Setup) (body : Assembled) (old new : View) where
       refused_grows setup body old new e (switch_refused setup body old new e told)
 
 -- ---- what the calls add that do not wait
-
-same_grows : (old new : View) → log_of_pass new ≡ log_of_pass old
-    → GrowsTo (log_of_pass old) (log_of_pass new)
-same_grows old new same =
-    grows_so (log_of_pass old) _ (log_of_pass new) same (grows_itself (log_of_pass old))
 
 module _ (setup : Setup) (body : Assembled) (old new : View) where
   vain_grows : (e : TryErr) → TellsBeginTry setup body old new e

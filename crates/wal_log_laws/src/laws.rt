@@ -16,7 +16,7 @@ ghost use Rattle.wal_rule.specs.declared.pass.Pass.{Pass};
 ghost use Rattle.wal_rule.specs.Passes.{view_of_pass};
 ghost use Rattle.machine_state.specs.Moves.{after_join, after_split};
 ghost use Rattle.run_laws.specs.Closed.{WasPromised};
-ghost use Rattle.wal_log.specs.Behind.{AnswersBehind};
+ghost use Rattle.wal_log.specs.Behind.{AnswersBehind, AnswersBehindTry};
 ghost use Rattle.wal_log.specs.Committing.{AnswersCommit, IsSealed};
 ghost use Rattle.wal_log.specs.Flights.{AnswersTryBegin};
 ghost use Rattle.wal_log.specs.Flushing.{AnswersFlush, AnswersFlushTry, IsToldHard, TellsHard};
@@ -65,6 +65,8 @@ pub fn logs_only_grow<D: Disk>()
     // A commit that is answered ahead is told as an insert.
     ensures behind { (old new : View) (answer : Result Caught FlushErr)
         → AnswersBehind old answer new → GrowsTo (log_of_pass old) (log_of_pass new) }
+    ensures behind_tries { (old new : View) (answer : Result Caught TryFlushErr)
+        → AnswersBehindTry old answer new → GrowsTo (log_of_pass old) (log_of_pass new) }
     ensures stays { (l : PassLog) → GrowsTo l l }
     ensures again { (first second third : PassLog) → GrowsTo first second
         → GrowsTo second third → GrowsTo first third }

@@ -1,6 +1,4 @@
 -- The tries so far have raised nothing, or less than what they met.
-use Rattle.std.proofs.Common.{◌≤◌}
-use Rattle.wal_rule.specs.SeatedPasses.{view_of}
 use Rattle.wal_log.specs.Behind.{RaisesAsync}
 use Rattle.wal_log.proofs.ahead.raise.Given as goal
 
@@ -9,5 +7,4 @@ invariant-loop g l = record {
   goes_on : (goal.iterator-loop g).can_next l.iterator'
       × (goal.iterator-loop g).is_finite l.iterator';
   raises : RaisesAsync l.fn.seated l.seated;
-  low : l.met ≤ (view_of l.seated).async_met;
 }

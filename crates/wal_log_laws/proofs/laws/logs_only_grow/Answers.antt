@@ -1,4 +1,4 @@
-use Rattle.wal_log_laws.proofs.Grown.{begin_grows, behind_grows, commit_grows, flush_try_grows, hard_grows, has_after_join, insert_grows, switch_grows}
+use Rattle.wal_log_laws.proofs.Grown.{begin_grows, behind_grows, behind_try_grows, commit_grows, flush_try_grows, hard_grows, has_after_join, insert_grows, switch_grows}
 use Rattle.wal_log_laws.proofs.laws.logs_only_grow.Goals as goal
 
 pub returns-clause-join : goal.returns-clause-join
@@ -24,3 +24,6 @@ returns-clause-switches g c = switch_grows
 
 pub returns-clause-behind : goal.returns-clause-behind
 returns-clause-behind g c = behind_grows
+
+pub returns-clause-behind_tries : goal.returns-clause-behind_tries
+returns-clause-behind_tries g c = behind_try_grows
