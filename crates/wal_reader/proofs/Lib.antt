@@ -16,6 +16,7 @@ pub mod RowLaws
 pub mod SettledLaws
 pub mod FailureLaws
 pub mod RunLaws
+pub mod SoFarLaws
 pub mod ReachLaws
 pub mod ReadAtLaws
 pub mod SoundLaws

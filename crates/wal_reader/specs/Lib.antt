@@ -20,6 +20,7 @@ pub mod Standings
 pub mod Buffers
 pub mod LogReader
 pub mod StepIn
+pub mod SoFar
 pub mod Settled
 pub mod Finds
 pub mod Runs

@@ -14,6 +14,9 @@ ghost use Rattle.wal_reader.specs.Pages.{Pages};
 ghost use Rattle.wal_reader.specs.ReadAt.{read_at};
 ghost use Rattle.wal_reader.specs.Runs.{RunsCompose, RunsGiveFronts};
 ghost use Rattle.wal_reader.specs.Settled.{DecodingIsSettled, StepsTellDecoding};
+ghost use Rattle.wal_reader.specs.SoFar.{ReadingBegins, ReadingEnds, ReadingGoesOn};
+
+use segment_disk::Disk;
 
 /// A law: what an image's pages decode to is settled by them, and the steps of a new reader tell
 /// it.
@@ -26,6 +29,16 @@ pub fn decoding_is_settled()
 pub fn runs_give_fronts()
     ensures compose { RunsCompose }
     ensures fronts { RunsGiveFronts }
+{}
+
+/// A law: records that a reader's steps gave one by one are what a disk's log decodes to, and so it
+/// ends; a front of it, where the disk failed or memory was wanting. It is an invariant of a loop
+/// over the steps: it holds at first, goes on with each record, and tells this at the end. The
+/// lemmas are `read_none`, `read_more` and `read_to_end` of proofs/SoFarLaws.
+pub fn readings_decode<D: Disk>()
+    ensures begins { ReadingBegins D.tape D.moment D.faults }
+    ensures goes_on { ReadingGoesOn D.tape D.moment D.faults }
+    ensures ends { ReadingEnds D.tape D.moment D.faults }
 {}
 
 /// A law: what is read at a place, as its bytes spell it or fail to, is what is computed there.

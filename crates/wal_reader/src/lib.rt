@@ -26,8 +26,8 @@ mod standing;
 
 pub use found::{Answer, DamageKind, FoundRecord, RecordHead, Stopped};
 pub use laws::{
-    decoding_is_settled, finding_is_decoding, reading_is_computed, runs_give_fronts,
-    switches_end_their_segment,
+    decoding_is_settled, finding_is_decoding, reading_is_computed, readings_decode,
+    runs_give_fronts, switches_end_their_segment,
 };
 pub use log_reader::Reader;
 pub use standing::{Comes, ReadErr, Step};
