@@ -7,14 +7,12 @@ use Rattle.byte_position.specs.Position.{first_position}
 use Rattle.segment_disk.specs.Tape.{Tape}
 use Rattle.wal_types.specs.declared.lsn.Lsn.{Lsn}
 use Rattle.wal_page.proofs.WordPositions.{end_address_of-first_position, first_position-whole}
-use Rattle.wal_reader.specs.Cache.{log_of}
-use Rattle.wal_reader.specs.Decodes.{Decodes}
-use Rattle.wal_reader.specs.LogReader.{StandsBehindRecord, reader_state}
+use Rattle.wal_reader.specs.LogReader.{StandsBehindRecord}
+use Rattle.wal_reader.specs.SoFar.{LogBegins, SaysOfLog}
 use Rattle.wal_reader.specs.Standings.{IsOnWay}
 use Rattle.wal_reader.specs.declared.found.DamageKind.TheVariants.{Missing}
 use Rattle.wal_reader.specs.declared.found.FoundRecord.{FoundRecord}
 use Rattle.wal_reader.specs.declared.found.Stopped.TheVariants.{Damaged}
-use Rattle.wal_reader.specs.declared.log_reader.Reader.{Reader}
 use Rattle.wal_reader.specs.declared.standing.ReadErr.{ReadErr}
 use Rattle.wal_reader.specs.declared.standing.Standing.{Standing}
 use Rattle.wal_reader.specs.declared.standing.Standing.TheVariants.{NotBegun, At, Stopped}
@@ -26,7 +24,8 @@ use Rattle.found_log.specs.declared.fault.FindFault.TheVariants.{Foreign}
 use Rattle.found_log.specs.declared.reading.RecordsEnd.{RecordsEnd}
 use Rattle.found_log.specs.Found.{EndsWell, judged}
 use Rattle.found_log.specs.Reading.{EndsRecords, IsReadLog, IsUnread, MayEndAt}
-use Rattle.found_log.proofs.ReadLaws.{GaveSo, IsAll, ReadsOne, Steps, ended_as, gave_all, gave_more, gave_on, gave_refused, refused_as, step_to}
+use Rattle.wal_reader.proofs.SoFarLaws.{last_of_first}
+use Rattle.found_log.proofs.ReadLaws.{ended_as, ends_well, refused_as, says_unread}
 
 -- ---- where records end
 
@@ -82,63 +81,43 @@ module _ (size made : ℕ) where
 
 -- ---- what was read
 
--- records that were given are these
-abbrev pub AreRead : List FoundRecord → List FoundRecord → Type 0
-AreRead records given = given ≡ records
-
-ends_well : (size : ℕ) (records : List FoundRecord) (t : Tape) → IsAll size (AreRead records) t
-    → EndsWell size records t
-ends_well size records t all = record {
-  answer = all.answer;
-  decodes = subst (λ (fs : List FoundRecord). Decodes size (log_of t size) size None fs all.answer)
-      all.holds all.decodes;
-  is_own = all.is_own;
-}
-
 -- a record ends before segment 1, or behind the segments that are there
 abbrev pub IsOutside : ℕ → ℕ → FoundRecord → Type 0
 IsOutside size made f = (f.head.end.0 < size) ⊎ (made * size + size < f.head.end.0)
 
-module _ (size made : ℕ) (tape : Option Tape) (reader next : Reader)
-    (sized : (reader_state reader).size ≡ size) (records : List FoundRecord)
-    (gave : GaveSo tape size reader (AreRead records)) where
-  -- a record more is read
-  pub read_more : (f : FoundRecord) → Steps tape reader next (step_to f)
-      → GaveSo tape size next (AreRead (records ++ f ∷ []))
-  read_more f steps =
-      gave_more size (AreRead records) reader next sized (AreRead (records ++ f ∷ [])) f
-      (λ given before. ap (λ (gs : List FoundRecord). gs ++ f ∷ []) before) tape gave steps
-
-  -- .. which ends outside of the segments that are there
-  pub read_outside : (f : FoundRecord) (fault : FindFault) → IsSegmentSize size
-      → (reader_state next).size ≡ size → Steps tape reader next (step_to f)
+module _ (size made : ℕ) (tape : Option Tape) (records : List FoundRecord) where
+  -- a record more was read, which ends outside of the segments that are there
+  pub read_outside : (f : FoundRecord) (fault : FindFault)
       → (fault ≡ Foreign (Damaged f.head.start Missing)) × IsOutside size made f
+      → IfSome tape (LogBegins size size None (records ++ f ∷ []))
       → IfSome tape (IsUnread size made fault)
-  read_outside f fault valid next_sized steps refused =
-      lifted tape (ReadsOne size (AreRead records) f) (IsUnread size made fault)
-      (λ (t : Tape) one. subst (λ (fault : FindFault). IsUnread size made fault t) (sym refused.0)
+  read_outside f fault refused begins =
+      lifted tape (LogBegins size size None (records ++ f ∷ [])) (IsUnread size made fault)
+      (λ (t : Tape) begins. subst (λ (fault : FindFault). IsUnread size made fault t)
+      (sym refused.0)
       (inr (record {
-        before = one.before;
+        before = records;
         last = f;
-        others = one.others;
-        answer = one.answer;
-        decodes = one.decodes;
+        others = begins.others;
+        answer = begins.answer;
+        decodes = last_of_first records f begins;
         outside = refused.1;
-      }))) (gave_on size (AreRead records) reader next sized f valid next_sized tape gave steps)
+      }))) begins
 
   -- all are read
   pub read_all : (end : RecordsEnd) → EndsRecords size made records end
-      → (step : Result Step ReadErr) → Steps tape reader next step → judged step ≡ ended_as
-      → IsReadLog size made tape end
-  read_all end ends step steps said = record {
+      → (step : Result Step ReadErr) → judged step ≡ ended_as
+      → IfSome tape (SaysOfLog size size None records step) → IsReadLog size made tape end
+  read_all end ends step said says = record {
     records = records;
     ends = ends;
-    tells = lifted tape (IsAll size (AreRead records)) (EndsWell size records)
-        (ends_well size records) (gave_all size (AreRead records) reader next sized tape step gave
-        steps said);
+    tells = lifted tape (SaysOfLog size size None records step) (EndsWell size records)
+        (ends_well size records step said) says;
   }
 
-  pub read_refused : (step : Result Step ReadErr) (fault : FindFault) → Steps tape reader next step
-      → judged step ≡ refused_as fault → IfSome tape (IsUnread size made fault)
-  read_refused step fault steps said =
-      gave_refused size (AreRead records) reader next sized made tape step fault gave steps said
+  pub read_refused : (step : Result Step ReadErr) (fault : FindFault)
+      → judged step ≡ refused_as fault → IfSome tape (SaysOfLog size size None records step)
+      → IfSome tape (IsUnread size made fault)
+  read_refused step fault said says =
+      lifted tape (SaysOfLog size size None records step) (IsUnread size made fault)
+      (says_unread size made records step fault said) says

@@ -1,21 +1,16 @@
-use Rattle.std.proofs.Common.{◌≡◌, ◌+◌, ◌^◌, ◌≤◌, List}
+use Rattle.std.proofs.Common.{List, None}
 use Rattle.wal_reader.specs.LogReader.{left_of, reader_state}
+use Rattle.wal_reader.specs.SoFar.{ReadSoFar}
 use Rattle.wal_reader.specs.declared.found.FoundRecord.{FoundRecord}
 use Rattle.found_log.specs.Reading.{EndsRecords}
-use Rattle.found_log.proofs.ReadLaws.{GaveSo}
-use Rattle.found_log.proofs.ReadSoFar.{AreRead}
 use Rattle.found_log.proofs.reading.read_records.Given as goal
 
 abbrev pub invariant-records : goal.invariant-records
 invariant-records g l = record {
   records : List FoundRecord;
-  sized : (reader_state l.reader).size ≡ l.fn.geometry;
+  so_far : ReadSoFar g.D.Disk.tape g.D.Disk.moment g.D.Disk.faults l.fn.geometry l.fn.geometry None
+      l.initial.disk l.disk l.reader records;
   ends : EndsRecords l.fn.geometry l.fn.made records l.end;
-  bounded : l.end.count + left_of (reader_state l.reader) ≤ 2 ^ 60;
-  gave : GaveSo (g.D.Disk.tape l.initial.disk) l.fn.geometry l.reader (AreRead records);
-  tape : g.D.Disk.tape l.disk ≡ g.D.Disk.tape l.initial.disk;
-  moment : g.D.Disk.moment l.disk ≡ g.D.Disk.moment l.initial.disk;
-  faults : g.D.Disk.faults l.disk ≡ g.D.Disk.faults l.initial.disk;
 }
 
 abbrev pub decreases-records : goal.decreases-records

@@ -1,44 +1,73 @@
-use Rattle.std.proofs.Common.{ℕ, Option, Ok, ap, refl, subst, sym, ◌∙◌}
-use Rattle.segment_disk.specs.Tape.{Tape}
-use Rattle.wal_reader.specs.LogReader.{LeavesReader, ReaderState, StandsAfter, StandsBehindRecord, reader_state}
-use Rattle.wal_reader.specs.Standings.{found_as, given_as}
+use Rattle.std.proofs.Common.{ℕ, ◌∷◌, ◌++◌, [], None, Result, Ok, Err, ap, subst, sym, ◌∙◌}
+use Rattle.std.proofs.lemmas.Result.{err_from_is_err_and}
+use Rattle.wal_reader.specs.LogReader.{StandsAfter, StandsBehindRecord, reader_state}
+use Rattle.wal_reader.specs.SoFar.{MakesStep, unbegun}
+use Rattle.wal_reader.specs.Standings.{found_as}
 use Rattle.wal_reader.specs.declared.found.FoundRecord.{FoundRecord}
+use Rattle.wal_reader.specs.declared.standing.ReadErr.{ReadErr}
 use Rattle.wal_reader.specs.declared.standing.Step.{Step}
+use Rattle.wal_reader.proofs.SoFarLaws.{read_more, read_none, read_to_end}
 use Rattle.wal_stream.specs.Sending.{IsWordEnd}
-use Rattle.wal_stream.proofs.ListLaws.{IsWordEnd-behind, IsWordEnd-start, ReadsUpto, ReadsUpto-more, ReadsUpto-none, Steps, unread_at}
+use Rattle.wal_stream.proofs.ListLaws.{IsWordEnd-behind, IsWordEnd-start, ends_with_more, list_ended, list_unread}
 use Rattle.wal_stream.proofs.reading.read_list.Goals as goal
+use Rattle.wal_stream.proofs.reading.read_list.Goals.{After-next}
 
 pub records-init : goal.records-init
 records-init g c =
     let is = c.segment_size.ensures.value in
     let valid = rw is at c.segment_size.ensures.valid in
-    let tape = g.D.Disk.tape c.args.disk.now in
+    let size = c.args.geometry in
     record {
-      sized = ap (λ (s : ReaderState). s.size) c.new-reader.ensures.state;
-      reads = subst (ReadsUpto tape c.args.geometry c.new-reader.result) (sym is) (ReadsUpto-none c.args.geometry tape c.new-reader.result (c.new-reader.ensures.state ∙ ap (unread_at c.args.geometry) is) c.new-reader.ensures.knows);
-      whole = subst IsWordEnd (sym is) (IsWordEnd-start c.args.geometry valid);
-      tape = refl;
-      moment = refl;
-      faults = refl;
+      found = [];
+      so_far = read_none valid
+          (◌∙◌ {b = unbegun size c.segment_size.result None} c.new-reader.ensures.state
+          (ap (λ (start : ℕ). unbegun size start None) is))
+          c.new-reader.ensures.knows;
+      end_is = is;
+      whole = subst IsWordEnd (sym is) (IsWordEnd-start size valid);
     }
+
+makes : (g : _) (c : After-next g) → MakesStep g.D.Disk.tape g.D.Disk.moment g.D.Disk.faults
+    c.records.disk c.next.new.disk c.records.reader c.next.new.self c.next.result
+makes g c =
+    let read = c.next.ensures in
+    record { gives = read.gives; leaves = read.leaves; uncalled = read.uncalled; cause = read.cause }
+
+pub returns-in_err-behind-clause-read : goal.returns-in_err-behind-clause-read
+returns-in_err-behind-clause-read g c =
+    let step = (goal.at.returns-in_err-behind-clause-read g c).After-next in
+    let before = c.records.invariant in
+    let p = err_from_is_err_and c.from_residual.result c.from_residual.ensures.1 in
+    let makes = subst (MakesStep g.D.Disk.tape g.D.Disk.moment g.D.Disk.faults c.records.disk
+    c.next.new.disk c.records.reader c.next.new.self) c.in_err-behind.was (makes g step) in
+    rw (p.1, p.2) (list_unread c.args.geometry c.records.end.0 before.found
+    (g.D.Disk.tape c.args.disk.now) _ (read_to_end before.so_far makes))
+
+pub returns-in-End-clause-read : goal.returns-in-End-clause-read
+returns-in-End-clause-read g c =
+    let step = (goal.at.returns-in-End-clause-read g c).After-next in
+    let before = c.records.invariant in
+    let makes = subst (MakesStep g.D.Disk.tape g.D.Disk.moment g.D.Disk.faults c.records.disk
+    c.next.new.disk c.records.reader c.next.new.self) (c.in_ok-behind.was ∙ ap Ok c.in-End.is)
+    (makes g step) in
+    list_ended c.args.geometry c.records.end.0 before.found (g.D.Disk.tape c.args.disk.now)
+    c.in-End.at before.end_is (read_to_end before.so_far makes)
 
 pub records-preserved-in-Record : goal.records-preserved-in-Record
 records-preserved-in-Record g c =
-    let f : FoundRecord = found_as c.in-Record.start c.in-Record.behind c.in-Record.prev c.in-Record.total c.in-Record.value in
+    let step = (goal.at.records-preserved-in-Record g c).After-next in
+    let f : FoundRecord = found_as c.in-Record.start c.in-Record.behind c.in-Record.prev
+    c.in-Record.total c.in-Record.value in
     let before = c.records.invariant in
-    let read = c.in_ok-behind.ensures in
-    let valid = rw c.segment_size.ensures.value at c.segment_size.ensures.valid in
-    let step_is = c.in-Record.is in
-    let gives = subst (λ (step : Step). Steps (g.D.Disk.tape c.records.disk) c.records.reader c.next.new.self (Ok step)) step_is read.gives in
-    let steps = subst (λ (tape : Option Tape). Steps tape c.records.reader c.next.new.self (Ok (given_as f))) before.tape gives in
-    let leaves = subst (λ (step : Step). LeavesReader (reader_state c.records.reader) (reader_state c.next.new.self) (Ok step)) step_is read.leaves in
-    let behind = subst (λ (step : Step). StandsAfter (reader_state c.records.reader).size c.next.new.self.standing (Ok step)) step_is read.behind in
-    let behind_here = subst (λ (size : ℕ). StandsBehindRecord size f c.next.new.self.standing) before.sized behind in
+    let valid = before.so_far.valid in
+    let behind = subst (λ (step : Step). StandsAfter (reader_state c.records.reader).size
+    c.next.new.self.standing (Ok step)) c.in-Record.is c.in_ok-behind.ensures.behind in
+    let behind_here = subst (λ (size : ℕ). StandsBehindRecord size f c.next.new.self.standing)
+    before.so_far.sized behind in
     record {
-      sized = ap (λ (s : ReaderState). s.size) leaves.0 ∙ before.sized;
-      reads = ReadsUpto-more c.args.geometry c.records.reader c.next.new.self before.sized c.records.end.0 (g.D.Disk.tape c.args.disk.now) f before.reads steps;
-      whole = IsWordEnd-behind c.args.geometry valid c.next.new.self.standing f c.next.new.self.on_way behind_here;
-      tape = read.uncalled.same_tape ∙ before.tape;
-      moment = read.uncalled.same_moment ∙ before.moment;
-      faults = read.cause ∙ before.faults;
+      found = before.found ++ f ∷ [];
+      so_far = read_more before.so_far (makes g step) f (c.in_ok-behind.was ∙ ap Ok c.in-Record.is);
+      end_is = ends_with_more c.args.geometry before.found f;
+      whole = IsWordEnd-behind c.args.geometry valid c.next.new.self.standing f
+          c.next.new.self.on_way behind_here;
     }
