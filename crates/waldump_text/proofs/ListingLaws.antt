@@ -1,5 +1,5 @@
--- A reader whose records are listed one after another.
-use Rattle.std.proofs.Common.{◌≡◌, ℕ, ◌+◌, ◌-◌, ◌≤◌, Bool, true, false, List, [], ◌∷◌, ◌++◌, length, take, Option, Some, None, Ok, if◌then◌else◌, refl, sym, ap, subst, ◌∙◌, append_assoc, length-append, arith}
+-- Records that are listed one behind another.
+use Rattle.std.proofs.Common.{◌≡◌, ℕ, ◌+◌, ◌-◌, ◌≤◌, Bool, true, false, List, [], ◌∷◌, ◌++◌, length, take, Option, Some, None, if◌then◌else◌, refl, sym, ap, subst, ◌∙◌, append_assoc, length-append, arith}
 use Rattle.std.specs.Prelude.{IsSomeAnd}
 use Rattle.std.proofs.lemmas.Grind.{flat_map-append}
 use Rattle.std.proofs.lemmas.List.{append-nil, take_all}
@@ -7,11 +7,7 @@ use Rattle.std.proofs.lemmas.Bool.{leb-false, leb-true}
 use Rattle.std.proofs.lemmas.List.Elements.{filter-append}
 use Rattle.std.proofs.Math.Seq.{take-append-add, take-append_seam}
 use Rattle.segment_disk.specs.Stream.{with_behind}
-use Rattle.wal_reader.specs.Standings.{given_as}
-use Rattle.wal_reader.specs.LogReader.{ReaderState, GivesRecords, IsNext}
-use Rattle.wal_reader.specs.Pages.{Pages}
 use Rattle.wal_reader.specs.declared.found.FoundRecord.{FoundRecord}
-use Rattle.wal_reader.specs.declared.found.Answer.{Answer}
 use Rattle.waldump_filter.specs.declared.Filter.{Filter}
 use Rattle.waldump_filter.specs.Keeping.{is_reached, keeps}
 use Rattle.waldump_text.specs.Listing.{IsLimitListed, kept_by, line_text, line_texts, listed_by, listed_of, listing, listing_in_reading, up_to}
@@ -159,85 +155,119 @@ pub is_limit_unreached : (limit : Option ℕ) (count : ℕ) → is_reached limit
 is_limit_unreached None count unreached listed = listed
 is_limit_unreached (Some limit) count unreached listed = omega (arith, leb-false limit count unreached)
 
--- ---- a reader whose records are listed
+-- ---- records that are listed one behind another
 
--- what a reader gave from a start on is listed by a filter, so many records, and it still gives
--- what comes behind that
-pub record IsUnderway (by : Filter) (pages : Pages) (start now : ReaderState) (old new : Option (List ℕ)) (count : ℕ) : Type 0 where
-  pub given : List FoundRecord
-  pub whole : (others : List FoundRecord) (answer : Answer) → GivesRecords pages now others answer → GivesRecords pages start (given ++ others) answer
-  pub taken : new ≡ with_behind old (printed by (kept_by by given))
-  pub counted : length (kept_by by given) ≡ count
+-- records are listed by a filter, as many as it keeps of them
+pub record Lists (by : Filter) (found : List FoundRecord) (old new : Option (List ℕ)) (count : ℕ)
+    : Type 0 where
+  pub taken : new ≡ with_behind old (printed by (kept_by by found))
+  pub counted : length (kept_by by found) ≡ count
+  pub few : count ≤ length found
 
-module _ (by : Filter) (pages : Pages) (start : ReaderState) (old : Option (List ℕ)) where
-  pub IsUnderway-none : IsUnderway by pages start start old old 0
-  IsUnderway-none = record { given = []; whole = λ others answer gives. gives; taken = sym (with_behind-nil old) ∙ ap (with_behind old) (printed-none by); counted = refl }
+module _ (by : Filter) (old : Option (List ℕ)) where
+  pub Lists-none : Lists by [] old old 0
+  Lists-none = record {
+    taken = sym (with_behind-nil old) ∙ ap (with_behind old) (printed-none by);
+    counted = refl;
+    few = omega arith;
+  }
 
-  module _ (now : ReaderState) (mid : Option (List ℕ)) (count : ℕ) (underway : IsUnderway by pages start now old mid count) where
+  module _ (found : List FoundRecord) (mid : Option (List ℕ)) (count : ℕ)
+      (lists : Lists by found old mid count) where
     module _ (within : IsWithin by.limit count) where
-      given_within : IsWithin by.limit (length (kept_by by underway.given))
-      given_within = subst (IsWithin by.limit) (sym underway.counted) within
+      given_within : IsWithin by.limit (length (kept_by by found))
+      given_within = subst (IsWithin by.limit) (sym lists.counted) within
 
-      -- wherever the reader stands a front of all is listed
-      pub listed_front : (others : List FoundRecord) → (n : ℕ) × (mid ≡ with_behind old (take n (lines_listed by (underway.given ++ others))))
+      -- whatever comes, a front of all is listed
+      pub listed_front : (others : List FoundRecord)
+          → (n : ℕ) × (mid ≡ with_behind old (take n (lines_listed by (found ++ others))))
       listed_front others =
-          let parts = listing-parts by underway.given given_within others in
-          let put : HasPut old mid 0 0 (lines_listed by (underway.given ++ others)) parts.0 = record { front = printed by (kept_by by underway.given); parts = parts.1; taken = underway.taken; faults = refl } in
+          let parts = listing-parts by found given_within others in
+          let put : HasPut old mid 0 0 (lines_listed by (found ++ others)) parts.0 = record {
+            front = printed by (kept_by by found);
+            parts = parts.1;
+            taken = lists.taken;
+            faults = refl;
+          } in
           HasPut-front put
 
-      -- where the reader stops all is listed
-      pub listed_all : (answer : Answer) → GivesRecords pages now [] answer → GivesRecords pages start underway.given answer
-          × (mid ≡ with_behind old (lines_listed by underway.given)) × (count ≡ length (listed_by by underway.given))
-      listed_all answer ends =
-          let all = listed_by-short by underway.given given_within in (
-            subst (λ (found : List FoundRecord). GivesRecords pages start found answer) (append-nil underway.given) (underway.whole [] answer ends),
-            underway.taken ∙ ap (λ (fs : List FoundRecord). with_behind old (printed by fs)) (sym all),
-            sym underway.counted ∙ ap length (sym all),
+      -- if nothing comes, all is listed
+      pub listed_all : (mid ≡ with_behind old (lines_listed by found))
+          × (count ≡ length (listed_by by found))
+      listed_all =
+          let all = listed_by-short by found given_within in (
+            lists.taken ∙ ap (λ (fs : List FoundRecord). with_behind old (printed by fs)) (sym all),
+            sym lists.counted ∙ ap length (sym all),
           )
 
-      -- so it is where the limit is reached, whatever comes
-      pub listed_reached : (others : List FoundRecord) → is_reached by.limit count ≡ true → (mid ≡ with_behind old (lines_listed by (underway.given ++ others)))
-          × (count ≡ length (listed_by by (underway.given ++ others))) × IsLimitListed by (underway.given ++ others)
+      -- so it is if the limit is reached, whatever comes
+      pub listed_reached : (others : List FoundRecord) → is_reached by.limit count ≡ true
+          → (mid ≡ with_behind old (lines_listed by (found ++ others)))
+          × (count ≡ length (listed_by by (found ++ others))) × IsLimitListed by (found ++ others)
       listed_reached others full =
-          let full_of : is_reached by.limit (length (kept_by by underway.given)) ≡ true = ap (is_reached by.limit) underway.counted ∙ full in
-          let all = listed_by-reached by underway.given given_within others full_of in
-          let more = ap length (filter-append (λ f. keeps by (listed_of f)) underway.given others) ∙ length-append (kept_by by underway.given) (kept_by by others) in (
-            underway.taken ∙ ap (λ (fs : List FoundRecord). with_behind old (printed by fs)) (sym all),
-            sym underway.counted ∙ ap length (sym all),
-            is_limit_listed by.limit count (length (kept_by by (underway.given ++ others))) (omega (arith, more, underway.counted)) full,
+          let full_of : is_reached by.limit (length (kept_by by found)) ≡ true =
+          ap (is_reached by.limit) lists.counted ∙ full in
+          let all = listed_by-reached by found given_within others full_of in
+          let more = ap length (filter-append (λ f. keeps by (listed_of f)) found others)
+          ∙ length-append (kept_by by found) (kept_by by others) in (
+            lists.taken ∙ ap (λ (fs : List FoundRecord). with_behind old (printed by fs)) (sym all),
+            sym lists.counted ∙ ap length (sym all),
+            is_limit_listed by.limit count (length (kept_by by (found ++ others)))
+                (omega (arith, more, lists.counted)) full,
           )
 
     -- the limit is not listed where it is not reached
-    pub limit_unlisted : is_reached by.limit count ≡ false → IsLimitListed by underway.given → ⊥
-    limit_unlisted unreached listed = is_limit_unreached by.limit (length (kept_by by underway.given)) (ap (is_reached by.limit) underway.counted ∙ unreached) listed
+    pub limit_unlisted : is_reached by.limit count ≡ false → IsLimitListed by found → ⊥
+    limit_unlisted unreached listed =
+        is_limit_unreached by.limit (length (kept_by by found))
+        (ap (is_reached by.limit) lists.counted ∙ unreached) listed
 
-    module _ (next : ReaderState) (f : FoundRecord) (is : IsNext pages now next (Ok (given_as f))) (kept : List FoundRecord) (kept_is : kept_by by (f ∷ []) ≡ kept) (new : Option (List ℕ)) where
-      kept_more : kept_by by (underway.given ++ f ∷ []) ≡ kept_by by underway.given ++ kept
-      kept_more = filter-append (λ g. keeps by (listed_of g)) underway.given (f ∷ []) ∙ ap (λ (fs : List FoundRecord). kept_by by underway.given ++ fs) kept_is
+    module _ (f : FoundRecord) (kept : List FoundRecord) (kept_is : kept_by by (f ∷ []) ≡ kept) where
+      kept_more : kept_by by (found ++ f ∷ []) ≡ kept_by by found ++ kept
+      kept_more =
+          filter-append (λ g. keeps by (listed_of g)) found (f ∷ [])
+          ∙ ap (λ (fs : List FoundRecord). kept_by by found ++ fs) kept_is
 
-      -- a record is printed if it is kept
-      pub IsUnderway-more : new ≡ with_behind mid (printed by kept) → IsUnderway by pages start next old new (count + length kept)
-      IsUnderway-more taken = record {
-        given = underway.given ++ f ∷ [];
-        whole = λ others answer gives. subst (λ (found : List FoundRecord). GivesRecords pages start found answer) (sym (append_assoc underway.given (f ∷ []) others)) (underway.whole (f ∷ others) answer (is others answer gives));
-        taken =
-            taken
-            ∙ ap (λ (text : Option (List ℕ)). with_behind text (printed by kept)) underway.taken
-            ∙ with_behind-append old (printed by (kept_by by underway.given)) (printed by kept)
-            ∙ ap (with_behind old) (sym (ap (printed by) kept_more ∙ printed-append by (kept_by by underway.given) kept));
-        counted = ap length kept_more ∙ length-append (kept_by by underway.given) kept ∙ ap (λ n. n + length kept) underway.counted;
-      }
+      counted_more : length (kept_by by (found ++ f ∷ [])) ≡ count + length kept
+      counted_more =
+          ap length kept_more ∙ length-append (kept_by by found) kept
+          ∙ ap (λ n. n + length kept) lists.counted
 
       -- the sink fails at its line
-      pub listed_front_of_next : IsWithin by.limit (count + length kept) → (others : List FoundRecord) → (n : ℕ) × (new ≡ with_behind mid (take n (printed by kept)))
-          → (n : ℕ) × (new ≡ with_behind old (take n (lines_listed by (underway.given ++ f ∷ others))))
-      listed_front_of_next within others taken =
-          let given = underway.given ++ f ∷ [] in
-          let counted : length (kept_by by given) ≡ count + length kept = ap length kept_more ∙ length-append (kept_by by underway.given) kept ∙ ap (λ n. n + length kept) underway.counted in
-          let parts = listing-parts by given (subst (IsWithin by.limit) (sym counted) within) others in
-          let whole : lines_listed by (underway.given ++ f ∷ others) ≡ printed by (kept_by by underway.given) ++ (printed by kept ++ parts.0) =
-          ap (lines_listed by) (sym (append_assoc underway.given (f ∷ []) others)) ∙ parts.1
-          ∙ ap (λ (text : List ℕ). text ++ parts.0) (ap (printed by) kept_more ∙ printed-append by (kept_by by underway.given) kept)
-          ∙ append_assoc (printed by (kept_by by underway.given)) (printed by kept) parts.0 in
-          let put : HasPut old mid 0 0 (lines_listed by (underway.given ++ f ∷ others)) (printed by kept ++ parts.0) = record { front = printed by (kept_by by underway.given); parts = whole; taken = underway.taken; faults = refl } in
+      pub listed_front_of_next : (new : Option (List ℕ)) → IsWithin by.limit (count + length kept)
+          → (others : List FoundRecord)
+          → (n : ℕ) × (new ≡ with_behind mid (take n (printed by kept)))
+          → (n : ℕ) × (new ≡ with_behind old (take n (lines_listed by ((found ++ f ∷ []) ++ others))))
+      listed_front_of_next new within others taken =
+          let given = found ++ f ∷ [] in
+          let parts =
+          listing-parts by given (subst (IsWithin by.limit) (sym counted_more) within) others in
+          let whole : lines_listed by (given ++ others)
+          ≡ printed by (kept_by by found) ++ (printed by kept ++ parts.0) =
+          parts.1
+          ∙ ap (λ (text : List ℕ). text ++ parts.0)
+          (ap (printed by) kept_more ∙ printed-append by (kept_by by found) kept)
+          ∙ append_assoc (printed by (kept_by by found)) (printed by kept) parts.0 in
+          let put : HasPut old mid 0 0 (lines_listed by (given ++ others))
+          (printed by kept ++ parts.0) = record {
+            front = printed by (kept_by by found);
+            parts = whole;
+            taken = lists.taken;
+            faults = refl;
+          } in
           HasPut-front_of_next (printed by kept) parts.0 put refl taken
+
+    -- a record more is printed if it is kept
+    pub Lists-more : (f : FoundRecord) (new : Option (List ℕ)) (more : ℕ)
+        → Prints by f mid new count more → Lists by (found ++ f ∷ []) old new more
+    Lists-more f new more prints =
+        let kept_here = kept_more f prints.kept prints.kept_is in record {
+          taken =
+              prints.taken
+              ∙ ap (λ (text : Option (List ℕ)). with_behind text (printed by prints.kept)) lists.taken
+              ∙ with_behind-append old (printed by (kept_by by found)) (printed by prints.kept)
+              ∙ ap (with_behind old) (sym (ap (printed by) kept_here
+              ∙ printed-append by (kept_by by found) prints.kept));
+          counted = counted_more f prints.kept prints.kept_is ∙ sym prints.count_is;
+          few = omega (arith, prints.one, lists.few, length-append found (f ∷ []));
+        }

@@ -1,5 +1,5 @@
-use Rattle.waldump_text.proofs.DumpLaws.{decoding_of_disk_is_settled}
+use Rattle.wal_reader.proofs.SoFarLaws.{log_is_settled}
 use Rattle.waldump_text.proofs.laws.decoding_is_settled.Goals as goal
 
 pub returns : goal.returns
-returns c = decoding_of_disk_is_settled
+returns c = log_is_settled
