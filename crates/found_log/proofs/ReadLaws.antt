@@ -1,5 +1,5 @@
 -- What the steps of a reader say of a log, as they are judged.
-use Rattle.std.proofs.Common.{◌≡◌, ℕ, Bool, true, false, List, ◌∷◌, Option, Some, None, Result, Ok, Err, inl, refl, sym, ap, subst, ◌∙◌}
+use Rattle.std.proofs.Common.{◌≡◌, ℕ, Bool, true, false, List, Option, Some, None, Result, Ok, Err, inl, refl, sym, ap, subst, ◌∙◌}
 use Rattle.std.specs.Prelude.{if◌then◌else◌}
 use Rattle.segment_disk.specs.Tape.{Tape}
 use Rattle.wal_reader.specs.SoFar.{LogDecodes, SaysOfLog}

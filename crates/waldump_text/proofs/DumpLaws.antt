@@ -40,8 +40,7 @@ module _ (size : ℕ) (by : Filter) (valid : IsSegmentSize size) (old : Option (
       (found : List FoundRecord) (answer : Answer) → DecodesOnDisk size by t found answer
       → (n : ℕ) × (new ≡ with_behind old (take n (text found))) → PutsFront text size by t old new
   front_of text t new found answer decodes front = λ others other on_disk.
-      (let same = (same_log t valid decodes on_disk).0 in
-      (
+      (let same = (same_log t valid decodes on_disk).0 in (
         front.0,
         front.1 ∙ ap (λ (fs : List FoundRecord). with_behind old (take front.0 (text fs))) same,
       ))

@@ -1,9 +1,8 @@
-use Rattle.std.proofs.Common.{◌≡◌, ◌^◌, ◌<◌, ℕ, [], ◌∷◌, ◌++◌, None, Ok, ap, refl, subst, sym, ◌∙◌, arith}
+use Rattle.std.proofs.Common.{◌≡◌, ℕ, [], ◌∷◌, ◌++◌, None, Ok, ap, refl, subst, sym, ◌∙◌, arith}
 use Rattle.std.proofs.lemmas.Result.{err_from_is_err_and}
 use Rattle.wal_types.specs.declared.lsn.Lsn.{Lsn}
 use Rattle.wal_reader.specs.LogReader.{StandsAfter, StandsBehindRecord, reader_state}
 use Rattle.wal_reader.specs.SoFar.{MakesStep, unbegun}
-use Rattle.wal_reader.specs.Standings.{given_as}
 use Rattle.wal_reader.proofs.SoFarLaws.{read_first, read_more, read_none, read_to_end}
 use Rattle.found_log.specs.Reading.{MayEndAt}
 use Rattle.found_log.proofs.ReadLaws.{gives_record, said_as, step_to}

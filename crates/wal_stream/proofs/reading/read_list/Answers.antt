@@ -1,10 +1,9 @@
-use Rattle.std.proofs.Common.{ℕ, ◌∷◌, ◌++◌, [], None, Result, Ok, Err, ap, subst, sym, ◌∙◌}
+use Rattle.std.proofs.Common.{ℕ, ◌∷◌, ◌++◌, [], None, Ok, ap, subst, sym, ◌∙◌}
 use Rattle.std.proofs.lemmas.Result.{err_from_is_err_and}
 use Rattle.wal_reader.specs.LogReader.{StandsAfter, StandsBehindRecord, reader_state}
 use Rattle.wal_reader.specs.SoFar.{MakesStep, unbegun}
 use Rattle.wal_reader.specs.Standings.{found_as}
 use Rattle.wal_reader.specs.declared.found.FoundRecord.{FoundRecord}
-use Rattle.wal_reader.specs.declared.standing.ReadErr.{ReadErr}
 use Rattle.wal_reader.specs.declared.standing.Step.{Step}
 use Rattle.wal_reader.proofs.SoFarLaws.{read_more, read_none, read_to_end}
 use Rattle.wal_stream.specs.Sending.{IsWordEnd}
