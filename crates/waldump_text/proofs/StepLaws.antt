@@ -1,5 +1,5 @@
 -- A reader's step, by the record that is listed of it.
-use Rattle.std.proofs.Common.{◌≡◌, Ok, Result, ap, refl, subst}
+use Rattle.std.proofs.Common.{◌≡◌, ◌∙◌, Bool, Ok, Result, ap, refl, subst, sym}
 use Rattle.std.specs.Prelude.{IfOk}
 use Rattle.wal_types.specs.declared.lsn.Lsn.{Lsn}
 use Rattle.wal_types.specs.declared.record.Record.{Record}
@@ -13,6 +13,8 @@ use Rattle.wal_reader.specs.declared.standing.Comes.TheVariants as coming
 use Rattle.wal_reader.specs.declared.standing.ReadErr.{ReadErr}
 use Rattle.wal_reader.specs.declared.standing.Step.{Step}
 use Rattle.wal_reader.specs.declared.standing.Step.TheVariants as steps
+use Rattle.waldump_filter.specs.Keeping.{keeps}
+use Rattle.waldump_filter.specs.declared.Filter.{Filter}
 use Rattle.waldump_filter.specs.declared.listed.Listed.{Listed}
 use Rattle.waldump_text.specs.Listing.{IsListable, listed_of}
 use Rattle.waldump_text.specs.Sifting.{listed_with}
@@ -38,3 +40,9 @@ pub gives_listable : (value : Record) (comes : Comes) (r : Listed) (gives : Give
 gives_listable value comes r gives spelled =
     IsListable-from_spelled gives.found
     (subst (λ (step : Result Step ReadErr). IfOk step GivesSpelled) gives.step_is spelled)
+
+-- whether the filter that is picked keeps a record tells whether this one does
+pub kept_too : (picked by : Filter) (kept : Bool) (r other : Listed) → picked ≡ by → r ≡ other
+    → keeps picked r ≡ kept → keeps by other ≡ kept
+kept_too picked by kept r other same is told =
+    sym (ap (λ (filter : Filter). keeps filter r) same ∙ ap (keeps by) is) ∙ told

@@ -1,4 +1,4 @@
-use Rattle.std.proofs.Common.{◌≡◌, ◌∷◌, ◌++◌, [], Bool, true, false, Option, Some, None, Result, Ok, Err, ap, subst, sym, refl, ◌∙◌, arith}
+use Rattle.std.proofs.Common.{◌≡◌, ◌∷◌, ◌++◌, [], true, false, Option, Some, None, Result, Ok, Err, subst, sym, refl, arith}
 use Rattle.std.specs.Prelude.{IfSome}
 use Rattle.std.proofs.lemmas.Result.{err_from_is_err_and}
 use Rattle.waldump_filter.specs.Keeping.{is_reached, keeps}
@@ -16,13 +16,9 @@ use Rattle.wal_reader.proofs.SoFarLaws.{read_first, read_more, read_none, read_t
 use Rattle.waldump_text.proofs.CountingLaws.{Adds, Adds-kept, Adds-passed_over, IsTallied-more, IsTallied-none, tally_ended, tally_failed, tally_reached}
 use Rattle.waldump_text.proofs.DumpLaws.{Says}
 use Rattle.waldump_text.proofs.ListingLaws.{IsWithin, IsWithin-none}
-use Rattle.waldump_text.proofs.StepLaws.{GivesListed, gives_end, gives_listable, gives_listed}
+use Rattle.waldump_text.proofs.StepLaws.{GivesListed, gives_end, gives_listable, gives_listed, kept_too}
 use Rattle.waldump_text.proofs.counting.tally_log.Goals as goal
 use Rattle.waldump_text.proofs.counting.tally_log.Goals.{In-Record, In_ok-step}
-
--- that a record is kept by the filter that is picked says that it is by this one
-kept_too : (picked by : Filter) (kept : Bool) (r other : Listed) → picked ≡ by → r ≡ other → keeps picked r ≡ kept → keeps by other ≡ kept
-kept_too picked by kept r other same is told = sym (ap (λ (filter : Filter). keeps filter r) same ∙ ap (keeps by) is) ∙ told
 
 -- what is told of a record that has a weight
 weight_told : (filter : Filter) (r : Listed) (told : Option Weight) (w : Weight) → told ≡ Some w → TellsWeight filter r told → (keeps filter r ≡ true) × Weighs r w

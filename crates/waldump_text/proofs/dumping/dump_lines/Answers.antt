@@ -1,4 +1,4 @@
-use Rattle.std.proofs.Common.{◌≡◌, ℕ, Bool, ◌+◌, true, false, List, [], ◌∷◌, ◌++◌, take, Result, Ok, Err, if◌then◌else◌, ap, refl, subst, sym, ◌∙◌, arith}
+use Rattle.std.proofs.Common.{◌≡◌, ℕ, ◌+◌, true, false, List, [], ◌∷◌, ◌++◌, take, Result, Ok, Err, if◌then◌else◌, ap, refl, subst, sym, ◌∙◌, arith}
 use Rattle.std.specs.Prelude.{IfSome}
 use Rattle.std.proofs.lemmas.Result.{err_from_is_err_and}
 use Rattle.segment_disk.specs.Stream.{with_behind}
@@ -7,7 +7,6 @@ use Rattle.wal_reader.specs.Filled.{step_with}
 use Rattle.wal_reader.specs.SoFar.{MakesStep}
 use Rattle.wal_reader.proofs.SoFarLaws.{read_first, read_more, read_none, read_to_end}
 use Rattle.wal_types.specs.declared.record.Record.{Record}
-use Rattle.waldump_filter.specs.declared.Filter.{Filter}
 use Rattle.waldump_filter.specs.declared.listed.Listed.{Listed}
 use Rattle.wal_reader.specs.declared.standing.ReadErr.{ReadErr}
 use Rattle.wal_reader.specs.declared.standing.Step.{Step}
@@ -15,7 +14,7 @@ use Rattle.waldump_text.specs.Listing.{IsListable, line_text, listed_of}
 use Rattle.waldump_text.specs.Sifting.{held_of, listed_with}
 use Rattle.waldump_text.proofs.DumpLaws.{Says, dump_cut, dump_ended, dump_failed, dump_reached}
 use Rattle.waldump_text.proofs.ListingLaws.{IsWithin-more, IsWithin-none, Lists-more, Lists-none, Prints, Prints-kept, Prints-passed_over, kept, printed-one}
-use Rattle.waldump_text.proofs.StepLaws.{GivesListed, gives_end, gives_listable, gives_listed}
+use Rattle.waldump_text.proofs.StepLaws.{GivesListed, gives_end, gives_listable, gives_listed, kept_too}
 use Rattle.waldump_text.proofs.dumping.dump_lines.Goals as goal
 use Rattle.waldump_text.proofs.dumping.dump_lines.Goals.{In-Record, In_ok-step}
 
@@ -42,10 +41,6 @@ returns-in_err-step-clause-listed g c =
     rw (p.1, p.2) (dump_failed c.args.geometry c.args.filter.now before.so_far.valid c.requires.plain
     _ before.found _ c.records.count before.lists before.within (g.D.Disk.tape c.args.disk.now) _
     (read_to_end before.so_far makes) unreached)
-
--- that a record is kept by the filter that is picked says that it is by this one
-told_kept : (picked by : Filter) (kept : Bool) (r other : Listed) → picked ≡ by → r ≡ other → kept ≡ keeps picked r → kept ≡ keeps by other
-told_kept picked by kept r other same is told = told ∙ ap (λ (filter : Filter). keeps filter r) same ∙ ap (keeps by) is
 
 -- the record that was read
 abbrev held : (g : _) (c : In-Record g) → Record
@@ -94,8 +89,8 @@ returns-in_err-print-clause-listed g c =
     let is_kept : c.keeps.result ≡ true = cc in
     let listed_is = c.keeps.ensures.listed is_kept ∙ given.listed_is in
     let keeps_it : keeps by (listed_of f) ≡ true =
-    sym (told_kept g.B.ByFilter.filter by c.keeps.result _ _ (sym c.requires.by) given.listed_is
-    c.keeps.ensures.keeps) ∙ is_kept in
+    kept_too g.B.ByFilter.filter by true _ _ (sym c.requires.by) given.listed_is
+    (sym c.keeps.ensures.keeps ∙ is_kept) in
     let taken = subst (λ (text : List ℕ). (n : ℕ) × (g.O.Sink.taken c.print.new.out
     ≡ with_behind (g.O.Sink.taken c.records.out) (take n text)))
     (ap (λ (r : Listed). if by.quiet then [] else line_text by.times r) listed_is
@@ -118,8 +113,8 @@ records-preserved-then-keeps g c =
     let is_kept : c.keeps.result ≡ true = cc in
     let listed_is = c.keeps.ensures.listed is_kept ∙ given.listed_is in
     let keeps_it : keeps by (listed_of f) ≡ true =
-    sym (told_kept g.B.ByFilter.filter by c.keeps.result _ _ (sym c.requires.by) given.listed_is
-    c.keeps.ensures.keeps) ∙ is_kept in
+    kept_too g.B.ByFilter.filter by true _ _ (sym c.requires.by) given.listed_is
+    (sym c.keeps.ensures.keeps ∙ is_kept) in
     let unreached : is_reached by.limit c.records.count ≡ false = cc in
     let taken = c.in_ok-print.ensures.put.0
     ∙ ap (λ (r : Listed). with_behind out (if by.quiet then [] else line_text by.times r)) listed_is
@@ -146,8 +141,8 @@ records-preserved g c =
     let count = c.records.count in
     let is_refused : c.keeps.result ≡ false = cc in
     let passes : keeps by (listed_of f) ≡ false =
-    sym (told_kept g.B.ByFilter.filter by c.keeps.result _ _ (sym c.requires.by) given.listed_is
-    c.keeps.ensures.keeps) ∙ is_refused in
+    kept_too g.B.ByFilter.filter by false _ _ (sym c.requires.by) given.listed_is
+    (sym c.keeps.ensures.keeps ∙ is_refused) in
     let prints : Prints by f out out count count =
     Prints-passed_over by f out out count count passes refl refl before.within in
     record {
