@@ -1,4 +1,5 @@
 pub mod Pages
+pub mod SegmentSizes
 pub mod Decodes
 pub mod ReadAt
 pub mod Filled

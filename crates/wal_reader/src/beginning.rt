@@ -62,16 +62,14 @@ pub(crate) fn find_beginning<D: Disk>(
         }
         page += 1;
     }
-    Err(ReadFailure::Told(page_end(cache.geometry, page)))
+    Err(ReadFailure::Told(page_end(cache, page)))
 }
 
 // The log ends where a page would start.
-fn page_end(geometry: Geometry, page: u64) -> Answer
+fn page_end(cache: &PageCache, page: u64) -> Answer
     requires { page * 8192 < 2 ^ 64 }
-    ensures { result ≡ ended geometry (position_of geometry (page * 8192)) }
+    ensures { result ≡ ended cache.now.geometry (position_of cache.now.geometry (page * 8192)) }
 {
-    // That its first byte position has this end form rests on a valid size.
-    let _size = geometry.segment_size();
     Answer::End {
         at: Lsn(page * PAGE_SIZE),
     }
@@ -86,11 +84,11 @@ fn front_of(cache: &PageCache, page: u64, timeline: u32) -> Result<Front, Answer
     ensures reachable { IfOk result IsReachableFront }
 {
     if is_zero_word(cache, 0) {
-        return Err(page_end(cache.geometry, page));
+        return Err(page_end(cache, page));
     }
     let info = check_held(cache, page, timeline)?;
     let skipped = skipped_bytes(&info);
-    if skipped >= PAGE_SIZE - u64::from(header_len(cache.geometry, page)) {
+    if skipped >= PAGE_SIZE - u64::from(header_len(cache, page)) {
         return Ok(Front::Filled {
             timeline: info.timeline,
         });

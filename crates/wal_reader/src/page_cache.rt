@@ -4,11 +4,9 @@
 //! has the next `load` read it anew.
 
 ghost use Rattle.std.specs.Prelude.{◌≡◌, ◌+◌, ◌*◌, ◌/◌, ◌%◌, ◌<◌, ◌≤◌, ◌^◌, Some, None, Ok, false, IfOk, OnErr, IfSome, IsTrue};
+ghost use Rattle.byte_position.specs.Geometry.{IsSegmentSize};
 ghost use Rattle.segment_disk.specs.Cause.{HasCause};
-ghost use Rattle.wal_reader.specs.Cache.{IsLoaded};
-ghost use Rattle.wal_reader.specs.PageCursor.{Sees};
-ghost use Rattle.wal_reader.specs.Pages.{Pages};
-ghost use Rattle.wal_reader.specs.ReadsOn.{ReadsOn};
+ghost use Rattle.wal_reader.specs.SegmentSizes.{IsSegmentSize-prop};
 
 use byte_position::{Geometry, Page};
 use segment_disk::{Disk, Failed};
@@ -24,13 +22,21 @@ pub(crate) struct PageCache {
     /// Which page is held, counted from address 0.
     pub(crate) number: Option<u64>,
     pub(crate) bytes: Box<Page>,
+    ghost valid: { IsSegmentSize geometry } by { IsSegmentSize-prop geometry },
 }
 
 impl PageCache {
+    ghost use Rattle.wal_reader.specs.Cache.{IsLoaded};
+    ghost use Rattle.wal_reader.specs.PageCursor.{Sees};
+    ghost use Rattle.wal_reader.specs.Pages.{Pages};
+    ghost use Rattle.wal_reader.specs.ReadsOn.{ReadsOn};
+
     /// Nothing is held yet.
     pub(crate) fn new(alloc: Global, geometry: Geometry) -> Result<PageCache, AllocError>
         ensures { IfOk result (λ cache. (cache.geometry ≡ geometry) × (cache.number ≡ None)) }
     {
+        // That the size is valid rests on its own call.
+        let _size = geometry.segment_size();
         Ok(PageCache {
             geometry,
             number: None,

@@ -18,19 +18,17 @@ use crate::found::{Answer, DamageKind, Stopped};
 use crate::page_cache::PageCache;
 use crate::page_cursor::PageCursor;
 use crate::read_failure::ReadFailure;
-use byte_position::{Geometry, LONG_HEADER_LEN, PAGE_SIZE, SHORT_HEADER_LEN};
+use byte_position::{LONG_HEADER_LEN, PAGE_SIZE, SHORT_HEADER_LEN};
 use segment_disk::Disk;
 use wal_page::{PageInfo, check_page};
 use wal_types::Lsn;
 
-/// How many bytes a page's header has.
-pub(crate) fn header_len(geometry: Geometry, page: u64) -> u32
-    ensures value { result ≡ header_size geometry page }
-    ensures valid { IsSegmentSize geometry }
+/// How many bytes a page's header has, in the log of the page that is held.
+pub(crate) fn header_len(cache: &PageCache, page: u64) -> u32
+    ensures value { result ≡ header_size cache.now.geometry page }
+    ensures valid { IsSegmentSize cache.now.geometry }
 {
-    // That the size is valid rests on its own call.
-    let _size = geometry.segment_size();
-    if page % u64::from(geometry.pages()) == 0 {
+    if page % u64::from(cache.geometry.pages()) == 0 {
         LONG_HEADER_LEN as u32
     } else {
         SHORT_HEADER_LEN as u32
@@ -98,7 +96,7 @@ pub(crate) fn turn_page<D: Disk>(
     }
     Ok(PageCursor {
         page,
-        offset: header_len(cache.geometry, page),
+        offset: header_len(cache, page),
         timeline: info.timeline,
     })
 }

@@ -143,8 +143,6 @@ pub(crate) fn open_ready<D: Disk>(
     ensures reads_on { ReadsOn D.tape D.moment disk.old disk.new cache.old cache.new }
     ensures cause { HasFailureCause (D.faults disk.old) (D.faults disk.new) result }
 {
-    // That the cursor stands in its page rests on a valid size.
-    let _size = cache.geometry.segment_size();
     match ready {
         Some(cursor) => Ok(cursor),
         None => open_page(cache, disk, at),

@@ -62,7 +62,7 @@ pub(crate) fn open_page<D: Disk>(
     if !cache.load(disk, page)? {
         return Err(ReadFailure::Told(end_of_log(cache.geometry, at.position)));
     }
-    let opens = offset == header_len(cache.geometry, page);
+    let opens = offset == header_len(cache, page);
     if opens && is_zero_word(cache, 0) {
         return Err(ReadFailure::Told(end_of_log(cache.geometry, at.position)));
     }

@@ -12,13 +12,13 @@ use Rattle.wal_reader.proofs.ready.open_ready.Goals as goal
 pub returns-in-Some-clause-cursor : goal.returns-in-Some-clause-cursor
 returns-in-Some-clause-cursor g c =
     let ready = subst (λ (o : Option PageCursor). IsReadyAt c.args.cache.now c.args.at o) c.in-Some.is c.requires.ready in
-    let valid = rw c.segment_size-size.ensures.value at c.segment_size-size.ensures.valid in
+    let valid = c.args.cache.now.valid in
     (ready.0.0, gathers_none c.args.cache.now.geometry c.args.at.position c.in-Some.cursor valid ready.0.1.0 ready.0.1.1 ready.1.0)
 
 pub returns-in-Some-clause-place : goal.returns-in-Some-clause-place
 returns-in-Some-clause-place g c =
     let ready = subst (λ (o : Option PageCursor). IsReadyAt c.args.cache.now c.args.at o) c.in-Some.is c.requires.ready in
-    let valid = rw c.segment_size-size.ensures.value at c.segment_size-size.ensures.valid in
+    let valid = c.args.cache.now.valid in
     let word = address_of-mod_word c.args.cache.now.geometry valid c.args.at.position c.requires.reachable.aligned in
     (ready.0.1.0, let offset = ready.0.1.1 in omega arith)
 
