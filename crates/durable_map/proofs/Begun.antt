@@ -1,5 +1,5 @@
--- What a map's calls add to the log of its pass.
-use Rattle.std.proofs.Common.{◌≡◌, ℕ, ◌≤◌, List, [], ◌∷◌, ◌++◌, append_assoc, Some, None, Result, Ok, Err, inl, refl, sym, ap, subst, ◌∙◌}
+-- What the calls of a map's part add to the log of its pass.
+use Rattle.std.proofs.Common.{◌≡◌, ℕ, ◌≤◌, List, [], ◌∷◌, ◌++◌, append_assoc, Option, Some, None, Result, Ok, Err, inl, refl, sym, ap, subst, ◌∙◌}
 use Rattle.std.proofs.lemmas.List.{append-nil}
 use Rattle.wal_spelling.specs.Spelling.{Assembled, assembled}
 use Rattle.wal_types.specs.declared.answers.Refused.{Refused}
@@ -16,12 +16,12 @@ use Rattle.wal_log.specs.Logs.{setup_of_log}
 use Rattle.wal_log.specs.PassLogs.{PassLog, log_of_pass}
 use Rattle.wal_log_laws.specs.Growing.{GrowsTo, HasGrown}
 use Rattle.durable_map.specs.Changes.{MapChange}
-use Rattle.durable_map.specs.History.{AnswersCall, ChangeCall, LeadTo, WasAnswered, begun_at, begun_by, begun_in}
+use Rattle.durable_map.specs.History.{ChangeCall, LeadTo, WasAnswered, begun_at, begun_by, begun_in}
 use Rattle.durable_map.specs.Records.{IsLoggable, SaysChange, change_record}
-use Rattle.durable_map.specs.Stores.{AnswersChange, IsOpenMap, log_under, view_under}
+use Rattle.durable_map.specs.Stores.{AnswersCall, AnswersChange, view_of_part}
 use Rattle.durable_map.specs.declared.fault.ChangeErr.{ChangeErr}
 use Rattle.durable_map.specs.declared.fault.ChangeErr.TheVariants as changes
-use Rattle.durable_map.specs.declared.store.DurableMap.{DurableMap}
+use Rattle.durable_map.specs.declared.part.MapPart.{MapPart}
 use Rattle.durable_map.proofs.Fronts.{SayEach, say_each_append}
 use Rattle.durable_map.proofs.Logged.{says_own}
 
@@ -88,59 +88,51 @@ same_grows : ((l : PassLog) → GrowsTo l l) → (old new : View) → new ≡ ol
 same_grows stays old new same = subst (λ (v : View). GrowsTo (log_of_pass old) (log_of_pass v))
     (sym same) (stays (log_of_pass old))
 
--- ---- of a map
+-- ---- of a part
 
-module _ {D : Type 0} where
-  one_call : (change : MapChange) (old new : DurableMap D) (answer : Result Sealed ChangeErr)
-      → AnswersChange change old new answer
-      → AddsChanges (view_under old) (view_under new) (begun_by change answer)
-  one_call change old new (Ok sealed) answers =
-      one_added (setup_of_log (log_under old)) change (view_under old) (view_under new)
-      (answers.told).entry answers.loggable (answers.told).own
-      (ap entries_in (answers.told).log_is)
-  one_call change old new (Err changes.Memory) answers =
-      none_added (view_under old) (view_under new) (ap entries_of answers.0)
-  one_call change old new (Err changes.TooLong) answers =
-      none_added (view_under old) (view_under new) (ap entries_of (answers.0).1)
-  one_call change old new (Err (changes.Refused refused)) answers =
-      let why = (answers.0).1 in
-      subst (λ (r : Refused).
-      AddsChanges (view_under old) (view_under new) (begun_at change r.reserved)) (sym why.1)
-      (refused_added (setup_of_log (log_under old)) change (view_under old) (view_under new)
-      why.0 (answers.0).0 why.2)
+one_call : (setup : Setup) (change : MapChange) (old new : MapPart)
+    (answer : Result Sealed ChangeErr) → AnswersChange setup change old new answer
+    → AddsChanges (view_of_part old) (view_of_part new) (begun_by change answer)
+one_call setup change old new (Ok sealed) answers =
+    one_added setup change (view_of_part old) (view_of_part new) (answers.told).entry
+    answers.loggable (answers.told).own (ap entries_in (answers.told).log_is)
+one_call setup change old new (Err changes.Memory) answers =
+    none_added (view_of_part old) (view_of_part new) (ap entries_of answers.0)
+one_call setup change old new (Err changes.TooLong) answers =
+    none_added (view_of_part old) (view_of_part new) (ap entries_of (answers.0).1)
+one_call setup change old new (Err (changes.Refused refused)) answers =
+    let why = (answers.0).1 in
+    subst (λ (r : Refused).
+    AddsChanges (view_of_part old) (view_of_part new) (begun_at change r.reserved)) (sym why.1)
+    (refused_added setup change (view_of_part old) (view_of_part new) why.0 (answers.0).0 why.2)
 
+module _ {D : Type 0} (wal : Wal D) where
   -- ---- calls
 
-  pub all_added : (calls : List ChangeCall) (first last : DurableMap D)
-      → LeadTo calls first last
-      → AddsChanges (view_under first) (view_under last) (begun_in calls)
+  pub all_added : (calls : List ChangeCall) (first last : MapPart) → LeadTo wal calls first last
+      → AddsChanges (view_of_part first) (view_of_part last) (begun_in calls)
   all_added [] first last called =
-      none_added (view_under first) (view_under last)
-      (ap (λ (map : DurableMap D). entries_of (view_under map)) called)
+      none_added (view_of_part first) (view_of_part last)
+      (ap (λ (part : MapPart). entries_of (view_of_part part)) called)
   all_added (call ∷ calls) first last called =
-      adds_on (view_under first) (view_under called.0) (view_under last)
+      adds_on (view_of_part first) (view_of_part called.0) (view_of_part last)
       (begun_by call.change call.answer) (begun_in calls)
-      (one_call call.change first called.0 call.answer (called.1).answers)
+      (one_call (setup_of_log wal) call.change first called.0 call.answer (called.1).answers)
       (all_added calls called.0 last called.2)
 
-  pub same_log : (calls : List ChangeCall) (first last : DurableMap D)
-      → LeadTo calls first last → log_under last ≡ log_under first
-  same_log [] first last called = ap (λ (map : DurableMap D). log_under map) called
-  same_log (call ∷ calls) first last called =
-      same_log calls called.0 last called.2 ∙ (called.1).log
-
-  pub still_open : (calls : List ChangeCall) (first last : DurableMap D)
-      → LeadTo calls first last → IsOpenMap first → IsOpenMap last
-  still_open [] first last called kept =
-      subst (λ (map : DurableMap D). IsOpenMap map) (sym called) kept
-  still_open (call ∷ calls) first last called kept =
-      still_open calls called.0 last called.2 (called.1).kept
+  -- the passes that its pass took in are the same
+  pub same_joined : (calls : List ChangeCall) (first last : MapPart) → LeadTo wal calls first last
+      → ((view_of_part last).reserving).joined ≡ ((view_of_part first).reserving).joined
+  same_joined [] first last called =
+      ap (λ (part : MapPart). ((view_of_part part).reserving).joined) called
+  same_joined (call ∷ calls) first last called =
+      same_joined calls called.0 last called.2 ∙ ((called.1).keeps).joined
 
   -- those before a call, it, and those behind it
   split_calls : (before : List ChangeCall) (call : ChangeCall) (others : List ChangeCall)
-      (first last : DurableMap D) → LeadTo (before ++ call ∷ others) first last
-      → (old new : DurableMap D) × LeadTo before first old × AnswersCall call old new
-      × LeadTo others new last
+      (first last : MapPart) → LeadTo wal (before ++ call ∷ others) first last
+      → (old new : MapPart) × LeadTo wal before first old
+      × AnswersCall wal call.change old new call.answer × LeadTo wal others new last
   split_calls [] call others first last called =
       (first, called.0, refl, called.1, called.2)
   split_calls (one ∷ before) call others first last called =
@@ -151,22 +143,19 @@ module _ {D : Type 0} where
 
   -- a commit of this log told by a moment that an entry is durable, which the last pass has; up to
   -- it these changes are said
-  pub record IsCommitted (first last : DurableMap D) (at : ℕ) (changes : List MapChange) : Type 0
-    where
-      pub setup : Setup
-      pub same : setup_of_log (log_under last) ≡ setup
-      pub body : Assembled
-      pub old : View
-      pub new : View
-      pub sealed : Sealed
-      pub by : sealed.moment ≤ at
-      pub told : IsSealed setup body old new sealed
-      pub grown : HasGrown (log_of_pass new) (view_under last)
-      pub more : List Entry
-      pub rest : List Entry
-      pub entries : entries_of (view_under last)
-          ≡ entries_of (view_under first) ++ (more ++ told.entry ∷ rest)
-      pub said : SayEach (more ++ told.entry ∷ []) changes
+  pub record IsCommitted (first last : MapPart) (at : ℕ) (changes : List MapChange) : Type 0 where
+    pub body : Assembled
+    pub old : View
+    pub new : View
+    pub sealed : Sealed
+    pub by : sealed.moment ≤ at
+    pub told : IsSealed (setup_of_log wal) body old new sealed
+    pub grown : HasGrown (log_of_pass new) (view_of_part last)
+    pub more : List Entry
+    pub rest : List Entry
+    pub entries : entries_of (view_of_part last)
+        ≡ entries_of (view_of_part first) ++ (more ++ told.entry ∷ rest)
+    pub said : SayEach (more ++ told.entry ∷ []) changes
 
   module _ (commits : (setup : Setup) (body : Assembled) (old new : View)
       (answer : Result Sealed Refused) → AnswersCommit setup body old answer new
@@ -174,50 +163,47 @@ module _ {D : Type 0} where
       (stays : (l : PassLog) → GrowsTo l l)
       (again : (one two three : PassLog) → GrowsTo one two → GrowsTo two three
       → GrowsTo one three) where
-    one_grows : (change : MapChange) (old new : DurableMap D) (answer : Result Sealed ChangeErr)
-        → AnswersChange change old new answer
-        → GrowsTo (log_of_pass (view_under old)) (log_of_pass (view_under new))
+    one_grows : (change : MapChange) (old new : MapPart) (answer : Result Sealed ChangeErr)
+        → AnswersChange (setup_of_log wal) change old new answer
+        → GrowsTo (log_of_pass (view_of_part old)) (log_of_pass (view_of_part new))
     one_grows change old new (Ok sealed) answers =
-        commits (setup_of_log (log_under old)) (assembled (change_record change))
-        (view_under old) (view_under new) (Ok sealed) answers.told
+        commits (setup_of_log wal) (assembled (change_record change))
+        (view_of_part old) (view_of_part new) (Ok sealed) answers.told
     one_grows change old new (Err changes.Memory) answers =
-        same_grows stays (view_under old) (view_under new) answers.0
+        same_grows stays (view_of_part old) (view_of_part new) answers.0
     one_grows change old new (Err changes.TooLong) answers =
-        same_grows stays (view_under old) (view_under new) (answers.0).1
+        same_grows stays (view_of_part old) (view_of_part new) (answers.0).1
     one_grows change old new (Err (changes.Refused refused)) answers =
-        commits (setup_of_log (log_under old)) (assembled (change_record change))
-        (view_under old) (view_under new) (Err refused) (answers.0).1
+        commits (setup_of_log wal) (assembled (change_record change))
+        (view_of_part old) (view_of_part new) (Err refused) (answers.0).1
 
-    all_grow : (calls : List ChangeCall) (first last : DurableMap D) → LeadTo calls first last
-        → GrowsTo (log_of_pass (view_under first)) (log_of_pass (view_under last))
+    all_grow : (calls : List ChangeCall) (first last : MapPart) → LeadTo wal calls first last
+        → GrowsTo (log_of_pass (view_of_part first)) (log_of_pass (view_of_part last))
     all_grow [] first last called =
-        subst (λ (map : DurableMap D).
-        GrowsTo (log_of_pass (view_under first)) (log_of_pass (view_under map))) (sym called)
-        (stays (log_of_pass (view_under first)))
+        subst (λ (part : MapPart).
+        GrowsTo (log_of_pass (view_of_part first)) (log_of_pass (view_of_part part))) (sym called)
+        (stays (log_of_pass (view_of_part first)))
     all_grow (call ∷ calls) first last called =
-        again (log_of_pass (view_under first)) (log_of_pass (view_under called.0))
-        (log_of_pass (view_under last))
+        again (log_of_pass (view_of_part first)) (log_of_pass (view_of_part called.0))
+        (log_of_pass (view_of_part last))
         (one_grows call.change first called.0 call.answer (called.1).answers)
         (all_grow calls called.0 last called.2)
 
-    pub committed : (calls : List ChangeCall) (first last : DurableMap D) (at : ℕ)
-        (found upto : List MapChange) → LeadTo calls first last
+    pub committed : (calls : List ChangeCall) (first last : MapPart) (at : ℕ)
+        (found upto : List MapChange) → LeadTo wal calls first last
         → (a : WasAnswered at found calls upto)
         → IsCommitted first last at (begun_in a.before ++ a.change ∷ [])
     committed calls first last at found upto called a =
         let call : ChangeCall = record { change = a.change; answer = Ok a.sealed } in
         let parts = split_calls a.before call a.others first last
-        (subst (λ (cs : List ChangeCall). LeadTo cs first last) a.are called) in
-        let old = view_under parts.0 in
-        let new = view_under parts.1 in
+        (subst (λ (cs : List ChangeCall). LeadTo wal cs first last) a.are called) in
+        let old = view_of_part parts.0 in
+        let new = view_of_part parts.1 in
         let answers = (parts.3).answers in
         let e = (answers.told).entry in
         let added = all_added a.before first parts.0 parts.2 in
         let behind = all_added a.others parts.1 last parts.4 in
-        let logs = same_log a.others parts.1 last parts.4 ∙ (parts.3).log in
         record {
-          setup = setup_of_log (log_under parts.0);
-          same = ap (λ (wal : Wal D). setup_of_log wal) logs;
           body = assembled (change_record a.change);
           old = old;
           new = new;
@@ -225,7 +211,7 @@ module _ {D : Type 0} where
           by = a.by;
           told = answers.told;
           grown = (
-            log_of_pass (view_under last),
+            log_of_pass (view_of_part last),
             all_grow a.others parts.1 last parts.4,
             inl refl,
           );
@@ -235,10 +221,9 @@ module _ {D : Type 0} where
               ∙ ap (λ (es : List Entry). es ++ behind.0) (ap entries_in (answers.told).log_is)
               ∙ append_assoc (entries_of old) (e ∷ []) behind.0
               ∙ ap (λ (es : List Entry). es ++ (e ∷ behind.0)) added.1
-              ∙ append_assoc (entries_of (view_under first)) added.0 (e ∷ behind.0);
+              ∙ append_assoc (entries_of (view_of_part first)) added.0 (e ∷ behind.0);
           said = say_each_append added.0 (e ∷ []) (begun_in a.before) (a.change ∷ []) added.2 (
-            says_entry (setup_of_log (log_under parts.0)) a.change old e answers.loggable
-                (answers.told).own,
+            says_entry (setup_of_log wal) a.change old e answers.loggable (answers.told).own,
             tt,
           );
         }

@@ -8,7 +8,8 @@ use Rattle.durable_map.specs.Opening.{AreSaid}
 use Rattle.durable_map.specs.Records.{SaysChange}
 use Rattle.durable_map.specs.Stores.{AnswersChange, AreOf, Holds, SaysTheSame, Slots, TakesIn, changes_behind}
 use Rattle.durable_map.specs.declared.fault.ChangeErr.{ChangeErr}
-use Rattle.durable_map.specs.declared.store.DurableMap.{DurableMap}
+use Rattle.durable_map.specs.declared.part.MapPart.{MapPart}
+use Rattle.machine_state.specs.declared.setup.Setup.{Setup}
 use Rattle.wal_types.specs.declared.answers.Sealed.{Sealed}
 
 pub after_all_push : (map : MapMeaning) (changes : List MapChange) (change : MapChange)
@@ -40,10 +41,10 @@ takes_in_over change old made new same taken key =
     taken key ∙ ap (cond (bytes_eq change.key key) change.value) (same key)
 
 -- what a map holds behind an answer
-pub holds_behind : {D : Type 0} (change : MapChange) (changes : List MapChange)
-    (old new : DurableMap D) (answer : Result Sealed ChangeErr)
-    → AnswersChange change old new answer → Holds old changes
+pub holds_behind : (setup : Setup) (change : MapChange) (changes : List MapChange)
+    (old new : MapPart) (answer : Result Sealed ChangeErr)
+    → AnswersChange setup change old new answer → Holds old changes
     → Holds new (changes_behind change changes answer)
-holds_behind change changes old new (Ok sealed) answers held =
+holds_behind setup change changes old new (Ok sealed) answers held =
     are_of_more changes change old.entries new.entries held answers.taken
-holds_behind change changes old new (Err error) answers held = λ key. answers.1 key ∙ held key
+holds_behind setup change changes old new (Err error) answers held = λ key. answers.1 key ∙ held key

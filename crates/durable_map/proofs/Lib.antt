@@ -7,4 +7,5 @@ pub mod MapLives
 pub mod Mains
 pub mod ReadLaws
 pub mod SetAgain
+pub mod Shared
 pub mod Spelled

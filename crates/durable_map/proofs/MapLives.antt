@@ -18,10 +18,10 @@ use Rattle.machine_state.specs.declared.setup.Setup.{Setup}
 use Rattle.machine_state.specs.Views.{View}
 use Rattle.machine_state.specs.Words.{Opening}
 use Rattle.wal_log.specs.declared.wal.Wal.{Wal}
-use Rattle.wal_log.specs.Committing.{AnswersCommit, IsSealed}
+use Rattle.wal_log.specs.Committing.{AnswersCommit}
 use Rattle.wal_log.specs.Logs.{setup_of_log}
 use Rattle.wal_log.specs.PassLogs.{PassLog, log_of_pass}
-use Rattle.wal_log.specs.Reopening.{IsReopened, TellsReopenFault}
+use Rattle.wal_log.specs.Reopening.{TellsReopenFault}
 use Rattle.wal_log.specs.declared.opening.OpenFaultKind.{OpenFaultKind}
 use Rattle.reopened_log_laws.specs.Lives.{IsFrontWith, LifeEndsAt}
 use Rattle.wal_log_laws.specs.Growing.{GrowsTo, IsFrontOf}
@@ -33,11 +33,11 @@ use Rattle.durable_map.specs.History.{EndsOpening, FailsToOpen, LivesMap, MapHis
 use Rattle.durable_map.specs.History.{starts_empty, lives, ends_opening, fails_to_open, rests}
 use Rattle.durable_map.specs.Lives.{AnsweredChangesStay}
 use Rattle.durable_map.specs.Opening.{AreSaid, IsAllOfLog, OpensMap, TellsMapFault}
-use Rattle.durable_map.specs.Stores.{log_under, view_under}
+use Rattle.durable_map.specs.Stores.{log_under, part_under, view_of_part, view_under}
 use Rattle.durable_map.specs.declared.fault.MapFaultKind.{MapFaultKind}
 use Rattle.durable_map.specs.declared.fault.MapFaultKind.TheVariants.{Memory, Disk, NoChange, Log}
 use Rattle.durable_map.specs.declared.store.DurableMap.{DurableMap}
-use Rattle.durable_map.proofs.Begun.{IsCommitted, all_added, committed, entries_of, same_log, still_open}
+use Rattle.durable_map.proofs.Begun.{IsCommitted, all_added, committed, entries_of, same_joined}
 use Rattle.durable_map.proofs.Fronts.{SayEach, are_said_append, found_from-append, front_said, reaches, said_each}
 
 some_tape : (a b : Tape) → Some a ≡ Some b → a ≡ b
@@ -198,22 +198,15 @@ module _ {D : Type 0} (tape : D → Option Tape) (moment faults : D → ℕ)
     its_found = life.opened.read.changes
 
     abbrev wal : Wal D
-    wal = log_under life.last
+    wal = log_under life.map
 
     abbrev own : List Entry
-    own = order_of tape moment faults (log_under life.last) (life.last).pass
+    own = order_of tape moment faults (log_under life.map) (life.last).pass
         (life.ended).closed (life.ended).closes
 
-    its_log : log_under life.last ≡ log_under life.map
-    its_log = same_log life.calls life.map life.last life.called
-
-    reopened : IsReopened tape moment faults life.setup life.opened.handed
-        (log_under life.last) (life.map).pass life.opened.found
-    reopened = subst (λ (w : Wal D). IsReopened tape moment faults life.setup life.opened.handed w
-        (life.map).pass life.opened.found) (sym its_log) life.opened.reopened
-
-    sized : (setup_of_log (log_under life.last)).seg_size ≡ size
-    sized = ap (λ (o : Opening). (o.setup).seg_size) reopened.opening ∙ (life.handed).sized
+    sized : (setup_of_log (log_under life.map)).seg_size ≡ size
+    sized = ap (λ (o : Opening). (o.setup).seg_size) life.opened.reopened.opening
+        ∙ (life.handed).sized
 
     -- ---- the order
 
@@ -225,11 +218,12 @@ module _ {D : Type 0} (tape : D → Option Tape) (moment faults : D → ℕ)
     none_yet : entries_of (view_under life.map) ≡ []
     none_yet = ap entries_of life.opened.reopened.view
 
-    own_is : own ≡ entries_of (view_under life.last)
-    own_is = lone (log_under life.last) (life.last).pass (life.ended).closed
-        (life.ended).closes (still_open life.calls life.map life.last life.called life.kept).alone
+    own_is : own ≡ entries_of (view_of_part life.last)
+    own_is = lone (log_under life.map) (life.last).pass (life.ended).closed
+        (life.ended).closes (same_joined (log_under life.map) life.calls (part_under life.map)
+        life.last life.called ∙ (life.kept).alone)
 
-    order_is : (es : List Entry) → entries_of (view_under life.last)
+    order_is : (es : List Entry) → entries_of (view_of_part life.last)
         ≡ entries_of (view_under life.map) ++ es → order ≡ life.front ++ es
     order_is es added = (life.ended).order_is
         ∙ ap (λ (l : List Entry). life.front ++ l)
@@ -248,7 +242,8 @@ module _ {D : Type 0} (tape : D → Option Tape) (moment faults : D → ℕ)
 
     order_said : AreSaid (found_of size order) begun
     order_said =
-        let added = all_added life.calls life.map life.last life.called in
+        let added = all_added (log_under life.map) life.calls (part_under life.map) life.last
+        life.called in
         subst (λ (cs : List MapChange). AreSaid (found_of size order) cs) (sym life.begun_is)
         (subst (λ (es : List Entry).
         AreSaid (found_of size es) (its_found ++ begun_in life.calls))
@@ -258,9 +253,10 @@ module _ {D : Type 0} (tape : D → Option Tape) (moment faults : D → ℕ)
 
     module _ (upto : List MapChange) (a : WasAnswered life.at life.opened.read.changes life.calls
         upto) where
-      done : IsCommitted life.map life.last life.at (begun_in a.before ++ a.change ∷ [])
-      done = committed commits stays again life.calls life.map life.last life.at its_found upto
-          life.called a
+      done : IsCommitted (log_under life.map) (part_under life.map) life.last life.at
+          (begun_in a.before ++ a.change ∷ [])
+      done = committed (log_under life.map) commits stays again life.calls (part_under life.map)
+          life.last life.at its_found upto life.called a
 
       abbrev e : Entry
       e = (done.told).entry
@@ -296,20 +292,18 @@ module _ {D : Type 0} (tape : D → Option Tape) (moment faults : D → ℕ)
           ∙ found_from-append size 0 below (e ∷ []))
           (all_said (done.more ++ e ∷ []) (begun_in a.before ++ a.change ∷ []) done.said))
 
-      mark_promised : IsPromisedDurable size life.at order (view_under life.last)
+      mark_promised : IsPromisedDurable size life.at order (view_of_part life.last)
           (found_entry size (prev_of size 0 (life.front ++ done.more)) (done.told).entry)
       mark_promised =
-          let told = promised (log_under life.last) life.front (life.last).pass
+          let told = promised (log_under life.map) life.front (life.last).pass
           (life.ended).closed (life.ended).closes done.body done.old done.new done.sealed life.at
-          (subst (λ (s : Setup). IsSealed s done.body done.old done.new done.sealed)
-          (sym done.same) done.told) done.grown done.by in
+          done.told done.grown done.by in
           let there : Contains (found_of size order) mark =
           subst (λ (rs : List FoundRecord). Contains rs mark) (sym found_there)
           (Contains-append_right (found_of size below) (mark ∷ behind) mark
           (Contains-append_left (mark ∷ []) behind mark (Contains-push [] mark))) in
-          let same_size = sym (ap (λ (s : Setup). s.seg_size) done.same) ∙ sized in
           let ends : finish_of size e ≡ told.0.head.end.0 =
-          ap (λ (n : ℕ). finish_of n e) (sym same_size) ∙ sym (done.told).end_is ∙ sym told.2 in (
+          ap (λ (n : ℕ). finish_of n e) (sym sized) ∙ sym (done.told).end_is ∙ sym told.2 in (
             there,
             told.4.1,
             told.4.2,
@@ -332,11 +326,11 @@ module _ {D : Type 0} (tape : D → Option Tape) (moment faults : D → ℕ)
     all_marked : (uptos : List (List MapChange))
         → All (WasAnswered life.at life.opened.read.changes life.calls) uptos
         → (hard : List FoundRecord)
-        × All (IsPromisedDurable size life.at order (view_under life.last)) hard
+        × All (IsPromisedDurable size life.at order (view_of_part life.last)) hard
         × All (IsMarked size order hard) uptos
     all_marked [] told = (
       [],
-      All-nil (IsPromisedDurable size life.at order (view_under life.last)),
+      All-nil (IsPromisedDurable size life.at order (view_of_part life.last)),
       All-nil (IsMarked size order []),
     )
     all_marked (upto ∷ uptos) told =
@@ -346,7 +340,7 @@ module _ {D : Type 0} (tape : D → Option Tape) (moment faults : D → ℕ)
         let one = mark upto a in
         let all = one ∷ rest.0 in (
           all,
-          All-cons (IsPromisedDurable size life.at order (view_under life.last)) one rest.0
+          All-cons (IsPromisedDurable size life.at order (view_of_part life.last)) one rest.0
               (mark_promised upto a) rest.1,
           All-cons (IsMarked size order all) upto uptos
               (more_hard size order (one ∷ []) all
@@ -359,8 +353,8 @@ module _ {D : Type 0} (tape : D → Option Tape) (moment faults : D → ℕ)
     -- ---- the log's life
 
     module _ (hard : List FoundRecord)
-        (kept : All (IsPromisedDurable size life.at order (view_under life.last)) hard) where
-      lived : IsLived tape moment faults size (log_under life.last) life.front next order hard
+        (kept : All (IsPromisedDurable size life.at order (view_of_part life.last)) hard) where
+      lived : IsLived tape moment faults size (log_under life.map) life.front next order hard
       lived = record {
         pass = (life.last).pass;
         closed = (life.ended).closed;
@@ -378,15 +372,15 @@ module _ {D : Type 0} (tape : D → Option Tape) (moment faults : D → ℕ)
       continues = record {
         setup = life.setup;
         disk = life.opened.handed;
-        wal = log_under life.last;
-        first = (life.map).pass;
+        wal = log_under life.map;
+        first = (part_under life.map).pass;
         found = life.opened.found;
         handed = record {
           sized = (life.handed).sized;
           named = (life.handed).named;
           before = life.opened.only_read.uncalled.same_tape ∙ (life.handed).before;
         };
-        reopened = reopened;
+        reopened = life.opened.reopened;
         front = life.front;
         below = life.below;
         lived = lived;
@@ -456,7 +450,7 @@ module _ {D : Type 0} (tape : D → Option Tape) (moment faults : D → ℕ)
       setup = life.setup;
       disk = life.opened.handed;
       wal = log_under life.map;
-      first = (life.map).pass;
+      first = (part_under life.map).pass;
       found = life.opened.found;
       handed = still_handed size sysid t life.setup life.disk life.opened.handed life.handed
           life.opened.only_read.uncalled;

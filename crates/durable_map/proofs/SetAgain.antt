@@ -19,6 +19,8 @@ use Rattle.machine_state.specs.declared.setup.Setup.{Setup}
 use Rattle.machine_state.specs.Sound.{IsSetup}
 use Rattle.machine_state.specs.Words.{Opening}
 use Rattle.wal_log.specs.declared.closing.Closed.{Closed}
+use Rattle.wal_rule.specs.declared.pass.Pass.{Pass}
+use Rattle.wal_log.specs.declared.wal.Wal.{Wal}
 use Rattle.wal_log.specs.Closing.{ClosesLog}
 use Rattle.wal_log.specs.Logs.{opening_of_log}
 use Rattle.reopened_log_laws.specs.FoundFirst.{AreFoundEntries}
@@ -27,11 +29,12 @@ use Rattle.wal_log_laws.specs.History.{IsHandedIn, order_of}
 use Rattle.wal_log_laws.specs.History as wal_lives
 use Rattle.wal_log_laws.specs.Lives.{PromisedRecordsStay}
 use Rattle.durable_map.specs.Changes.{MapChange, MapMeaning, empty_map, map_of}
-use Rattle.durable_map.specs.History.{AnswersCall, LivesMap, WasAnswered, lives, starts_empty}
+use Rattle.durable_map.specs.History.{LivesMap, WasAnswered, lives, starts_empty}
 use Rattle.durable_map.specs.Lives.{AnsweredChangesStay}
 use Rattle.durable_map.specs.OneSet.{FindsSet}
 use Rattle.durable_map.specs.Opening.{OpensMap}
-use Rattle.durable_map.specs.Stores.{IsOpenMap, log_under, map_held}
+use Rattle.durable_map.specs.Stores.{AnswersCall, IsOpenMap, log_under, map_held, part_under}
+use Rattle.durable_map.specs.declared.part.MapPart.{MapPart}
 use Rattle.durable_map.specs.declared.store.DurableMap.{DurableMap}
 use Rattle.durable_map.proofs.Changed.{after_all_push}
 
@@ -79,14 +82,22 @@ last_wins changes change =
 
 -- ---- two lives
 
+-- what is closed is the same log
+pub closes_same : {D : Type 0} (tape : D → Option Tape) (moment faults : D → ℕ) (wal other : Wal D)
+    (pass : Pass) (closed : Closed D) → wal ≡ other
+    → ClosesLog tape moment faults wal pass closed → ClosesLog tape moment faults other pass closed
+closes_same {D} tape moment faults wal other pass closed same closes =
+    subst (λ (w : Wal D). ClosesLog tape moment faults w pass closed) same closes
+
 module _ {D : Type 0} (tape : D → Option Tape) (moment faults : D → ℕ)
     (stay : PromisedRecordsStay tape moment faults)
     (answered : AnsweredChangesStay tape moment faults) (setup : Setup) (disk : D)
-    (map last : DurableMap D) (closed : Closed D) (again : DurableMap D) (change : MapChange)
+    (map : DurableMap D) (last : MapPart) (closed : Closed D) (again : DurableMap D)
+    (change : MapChange)
     (sealed : Sealed) (opened : OpensMap tape moment faults setup disk map)
     (kept : IsOpenMap map)
-    (call : AnswersCall (record { change = change; answer = Ok sealed }) map last)
-    (closes : ClosesLog tape moment faults (log_under last) last.pass closed)
+    (call : AnswersCall (log_under map) change (part_under map) last (Ok sealed))
+    (closes : ClosesLog tape moment faults (log_under map) last.pass closed)
     (reopened : OpensMap tape moment faults setup closed.disk again)
     (nothing : HoldsNothing (tape disk)) (tells : IsSome (tape disk))
     (narrow : setup.sysid < 2 ^ 64) where
@@ -108,7 +119,7 @@ module _ {D : Type 0} (tape : D → Option Tape) (moment faults : D → ℕ)
   front =
       let is = (stay setup.seg_size setup.sysid at_first.0 [] [] (wal_lives.starts_empty
       its_setup.size (some_id setup.sysid its_setup.named) narrow empty)).finds setup
-      opened.handed map.log map.pass opened.found (record {
+      opened.handed map.log (part_under map).pass opened.found (record {
         sized = refl;
         named = refl;
         before = opened.only_read.uncalled.same_tape ∙ at_first.1;
@@ -120,7 +131,7 @@ module _ {D : Type 0} (tape : D → Option Tape) (moment faults : D → ℕ)
       )
 
   abbrev own : List Entry
-  own = order_of tape moment faults (log_under last) last.pass closed closes
+  own = order_of tape moment faults (log_under map) last.pass closed closes
 
   abbrev upto : List MapChange
   upto = opened.read.changes ++ change ∷ []
@@ -128,12 +139,12 @@ module _ {D : Type 0} (tape : D → Option Tape) (moment faults : D → ℕ)
   module _ (now : Tape) (told : tape closed.disk ≡ Some now)
       (none_torn : NoTornPass setup.seg_size
       (pages_in setup.seg_size (image_as_read (state_now now)))
-      (order_of tape moment faults (log_under last) last.pass closed closes)) where
+      (order_of tape moment faults (log_under map) last.pass closed closes)) where
     abbrev at : ℕ
-    at = length now.calls + sealed.moment + (opening_of_log (log_under last)).moment
+    at = length now.calls + sealed.moment + (opening_of_log (log_under map)).moment
 
     life : LivesMap tape moment faults setup.seg_size setup.sysid at_first.0 now
-        (front.0 ++ order_of tape moment faults (log_under last) last.pass closed closes)
+        (front.0 ++ order_of tape moment faults (log_under map) last.pass closed closes)
         (opened.read.changes ++ change ∷ []) ((opened.read.changes ++ change ∷ []) ∷ [])
     life = record {
       setup = setup;
@@ -192,6 +203,7 @@ module _ {D : Type 0} (tape : D → Option Tape) (moment faults : D → ℕ)
   pub finds_change : (value : List ℕ) → change.value ≡ Some value
       → FindsSet tape moment faults setup change.key value again
   finds_change value is = record {
+    map = map;
     last = last;
     closed = closed;
     closes = closes;

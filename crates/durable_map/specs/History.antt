@@ -16,7 +16,9 @@ use Rattle.wal_types.specs.declared.lsn.Lsn.{Lsn}
 use Rattle.wal_page.specs.Order.{Entry}
 use Rattle.machine_state.specs.declared.setup.Setup.{Setup}
 use Rattle.wal_log.specs.declared.closing.Closed.{Closed}
+use Rattle.wal_log.specs.declared.wal.Wal.{Wal}
 use Rattle.wal_log.specs.Closing.{ClosesLog}
+use Rattle.wal_rule.specs.declared.pass.Pass.{Pass}
 use Rattle.wal_rule.specs.Tables.{began_of_table}
 use Rattle.wal_log.specs.Logs.{opening_of_log, table_of}
 use Rattle.reopened_log_laws.specs.FoundFirst.{AreFoundEntries}
@@ -24,10 +26,11 @@ use Rattle.reopened_log_laws.specs.Lives.{LifeEndsAt}
 use Rattle.wal_log_laws.specs.History.{IsHandedIn, order_of}
 use Rattle.durable_map.specs.Changes.{MapChange}
 use Rattle.durable_map.specs.Opening.{OpensMap, TellsMapFault}
-use Rattle.durable_map.specs.Stores.{AnswersChange, IsOpenMap, log_under}
+use Rattle.durable_map.specs.Stores.{AnswersCall, IsOpenMap, log_under, part_under}
 use Rattle.durable_map.specs.declared.fault.ChangeErr.{ChangeErr}
 use Rattle.durable_map.specs.declared.fault.ChangeErr.TheVariants.{Memory, TooLong, Refused}
 use Rattle.durable_map.specs.declared.fault.MapFault.{MapFault}
+use Rattle.durable_map.specs.declared.part.MapPart.{MapPart}
 use Rattle.durable_map.specs.declared.store.DurableMap.{DurableMap}
 
 -- ---- calls
@@ -37,17 +40,12 @@ pub record ChangeCall : Type 0 where
   pub change : MapChange
   pub answer : Result Sealed ChangeErr
 
--- what such a call promises
-pub record AnswersCall {D : Type 0} (call : ChangeCall) (old new : DurableMap D) : Type 0 where
-  pub answers : AnswersChange call.change old new call.answer
-  pub log : log_under new ≡ log_under old
-  pub kept : IsOpenMap new
-
--- calls, one behind another, lead from a map to another one
-abbrev pub LeadTo : {D : Type 0} → List ChangeCall → (first last : DurableMap D) → Type 0
-LeadTo [] first last = last ≡ first
-LeadTo {D} (call ∷ calls) first last =
-    (next : DurableMap D) × AnswersCall call first next × LeadTo calls next last
+-- calls, one behind another, lead from a part of a log's map to another one
+abbrev pub LeadTo : {D : Type 0} → Wal D → List ChangeCall → (first last : MapPart) → Type 0
+LeadTo wal [] first last = last ≡ first
+LeadTo wal (call ∷ calls) first last =
+    (next : MapPart) × AnswersCall wal call.change first next call.answer
+    × LeadTo wal calls next last
 
 -- a change was begun where its record got a place in the log
 abbrev pub begun_at : MapChange → Option Lsn → List MapChange
@@ -80,17 +78,16 @@ pub record WasAnswered (moment : ℕ) (found : List MapChange) (calls : List Cha
 -- ---- lives
 
 module _ {D : Type 0} (tape : D → Option Tape) (moment faults : D → ℕ) where
-  -- a map was closed, whose log went on behind these entries, and its life ended at a moment since
-  -- the opening
-  pub record EndsMap (size : ℕ) (map : DurableMap D) (front : List Entry) (next : Tape)
+  -- a log that went on behind these entries was closed by a pass, and its life ended at a moment
+  -- since the opening
+  pub record EndsMap (size : ℕ) (wal : Wal D) (pass : Pass) (front : List Entry) (next : Tape)
       (order : List Entry) (at : ℕ) : Type 0 where
     pub closed : Closed D
-    pub closes : ClosesLog tape moment faults (log_under map) map.pass closed
-    pub order_is : order
-        ≡ front ++ order_of tape moment faults (log_under map) map.pass closed closes
+    pub closes : ClosesLog tape moment faults wal pass closed
+    pub order_is : order ≡ front ++ order_of tape moment faults wal pass closed closes
     pub now : Tape
     pub after : tape closed.disk ≡ Some now
-    pub since : (opening_of_log (log_under map)).moment ≤ at
+    pub since : (opening_of_log wal).moment ≤ at
     pub ends : LifeEndsAt size order now at next
 
   pub record LivesMap (size sysid : ℕ) (t next : Tape) (order : List Entry)
@@ -102,13 +99,13 @@ module _ {D : Type 0} (tape : D → Option Tape) (moment faults : D → ℕ) whe
     pub opened : OpensMap tape moment faults setup disk map
     pub kept : IsOpenMap map
     pub calls : List ChangeCall
-    pub last : DurableMap D
-    pub called : LeadTo calls map last
+    pub last : MapPart
+    pub called : LeadTo (log_under map) calls (part_under map) last
     -- behind the entries of the records that the reader finds there
     pub front : List Entry
     pub below : AreFoundEntries size t front
     pub at : ℕ
-    pub ended : EndsMap size last front next order at
+    pub ended : EndsMap size (log_under map) last.pass front next order at
     pub begun_is : begun ≡ opened.read.changes ++ begun_in calls
     pub told : All (WasAnswered at opened.read.changes calls) answered
 

@@ -1,3 +1,4 @@
+pub mod Asked
 pub mod Changes
 pub mod History
 pub mod Lives
@@ -5,4 +6,5 @@ pub mod OneSet
 pub mod Opening
 pub mod Reading
 pub mod Records
+pub mod Sharing
 pub mod Stores

@@ -8,7 +8,7 @@ use Rattle.wal_log_laws.specs.History.{IsHandedIn}
 use Rattle.durable_map.specs.Changes.{MapChange}
 use Rattle.durable_map.specs.History.{MapHistory}
 use Rattle.durable_map.specs.Opening.{OpensMap}
-use Rattle.durable_map.specs.Stores.{Holds}
+use Rattle.durable_map.specs.Stores.{Holds, part_under}
 use Rattle.durable_map.specs.declared.store.DurableMap.{DurableMap}
 
 module _ {D : Type 0} (tape : D → Option Tape) (moment faults : D → ℕ) where
@@ -23,5 +23,5 @@ module _ {D : Type 0} (tape : D → Option Tape) (moment faults : D → ℕ) whe
       → (setup : Setup) (disk : D) (map : DurableMap D)
       → IsHandedIn tape moment faults size sysid t setup disk
       → (opened : OpensMap tape moment faults setup disk map)
-      → Holds map opened.read.changes × IsFrontOf opened.read.changes begun
+      → Holds (part_under map) opened.read.changes × IsFrontOf opened.read.changes begun
       × All (λ upto. IsFrontOf upto opened.read.changes) answered

@@ -10,17 +10,19 @@ use Rattle.wal_log.specs.Closing.{ClosesLog}
 use Rattle.wal_log_laws.specs.History.{order_of}
 use Rattle.durable_map.specs.Opening.{OpensMap}
 use Rattle.durable_map.specs.Stores.{log_under, map_held}
+use Rattle.durable_map.specs.declared.part.MapPart.{MapPart}
 use Rattle.durable_map.specs.declared.store.DurableMap.{DurableMap}
 
 -- a map was closed, and opened on the disk that came back. If this told a tape then, as whose disk
 -- is read no torn record passes its CRC, the key has the value there
 pub record FindsSet {D : Type 0} (tape : D → Option Tape) (moment faults : D → ℕ) (setup : Setup)
     (key value : List ℕ) (again : DurableMap D) : Type 0 where
-  pub last : DurableMap D
+  pub map : DurableMap D
+  pub last : MapPart
   pub closed : Closed D
-  pub closes : ClosesLog tape moment faults (log_under last) last.pass closed
+  pub closes : ClosesLog tape moment faults (log_under map) last.pass closed
   pub opened : OpensMap tape moment faults setup closed.disk again
   pub found : (now : Tape) → tape closed.disk ≡ Some now
       → NoTornPass setup.seg_size (pages_in setup.seg_size (image_as_read (state_now now)))
-      (order_of tape moment faults (log_under last) last.pass closed closes)
+      (order_of tape moment faults (log_under map) last.pass closed closes)
       → map_held again key ≡ Some value

@@ -97,11 +97,11 @@ module _ {D : Type 0} (tape : D → Option Tape) (moment faults : D → ℕ) whe
   -- its log was read, and then gone on with; if the disk tells what it holds, the records that were
   -- read are those behind which the log goes on
   pub record OpensMap (setup : Setup) (disk : D) (map : DurableMap D) : Type 0 where
-    pub read : AreRead setup.seg_size (tape disk) map.entries
+    pub read : AreRead setup.seg_size (tape disk) (map.part).entries
     pub handed : D
     pub only_read : IsOnlyRead disk handed
     pub found : Found
-    pub reopened : IsReopened tape moment faults setup handed map.log map.pass found
+    pub reopened : IsReopened tape moment faults setup handed map.log (map.part).pass found
     pub same : IfSome (tape disk) (λ t. reopened.records ≡ read.records)
 
   -- why none was opened, and what is left of the disk

@@ -8,13 +8,16 @@ use Rattle.std.specs.declared.vec.Vec.{Vec}
 use Rattle.wal_spelling.specs.Spelling.{assembled}
 use Rattle.wal_types.specs.declared.answers.Sealed.{Sealed}
 use Rattle.machine_state.specs.Views.{View}
+use Rattle.machine_state.specs.declared.setup.Setup.{Setup}
 use Rattle.wal_rule.specs.Passes.{view_of_pass}
 use Rattle.wal_log.specs.declared.wal.Wal.{Wal}
 use Rattle.wal_log.specs.Committing.{IsSealed, RefusesCommit}
 use Rattle.wal_log.specs.Logs.{IsPassOfLog, setup_of_log}
 use Rattle.wal_log.specs.Sharing.{ShareNumbers}
+use Rattle.wal_log.specs.Standing.{KeepsPass}
 use Rattle.durable_map.specs.declared.fault.ChangeErr.{ChangeErr}
 use Rattle.durable_map.specs.declared.fault.ChangeErr.TheVariants.{Memory, TooLong, Refused}
+use Rattle.durable_map.specs.declared.part.MapPart.{MapPart}
 use Rattle.durable_map.specs.declared.store.DurableMap.{DurableMap}
 use Rattle.durable_map.specs.Changes.{MapChange, MapMeaning, map_behind, map_of}
 use Rattle.durable_map.specs.Records.{IsLoggable, change_record}
@@ -55,25 +58,40 @@ TakesIn change old new =
 abbrev pub SaysTheSame : Slots → Slots → Type 0
 SaysTheSame old new = (key : List ℕ) → map_in new key ≡ map_in old key
 
--- ---- a map that is kept by a log
+-- ---- a part of a map: keys, and the pass that logs their changes
+
+-- what its pass knows
+abbrev pub view_of_part : MapPart → View
+view_of_part part = view_of_pass part.pass
+
+abbrev pub part_held : MapPart → MapMeaning
+part_held part = map_in part.entries
+
+-- it holds the map of these changes
+abbrev pub Holds : MapPart → List MapChange → Type 0
+Holds part changes = AreOf changes part.entries
+
+-- between two calls its pass is about nothing
+abbrev pub IsPartOfLog : {D : Type 0} → Wal D → MapPart → Type 0
+IsPartOfLog wal part = IsPassOfLog wal part.pass
+
+-- ---- a map that is kept by a log, in one part
 
 abbrev pub log_under : {D : Type 0} → DurableMap D → Wal D
 log_under map = map.log
 
--- what its pass knows
+abbrev pub part_under : {D : Type 0} → DurableMap D → MapPart
+part_under map = map.part
+
 abbrev pub view_under : {D : Type 0} → DurableMap D → View
-view_under map = view_of_pass map.pass
+view_under map = view_of_part map.part
 
 abbrev pub map_held : {D : Type 0} → DurableMap D → MapMeaning
-map_held map = map_in map.entries
-
--- it holds the map of these changes
-abbrev pub Holds : {D : Type 0} → DurableMap D → List MapChange → Type 0
-Holds map changes = AreOf changes map.entries
+map_held map = part_held map.part
 
 -- between two calls its pass is about nothing, has all numbers of its log, and took no other one in
 pub record IsOpenMap {D : Type 0} (map : DurableMap D) : Type 0 where
-  pub pass : IsPassOfLog map.log map.pass
+  pub pass : IsPartOfLog map.log map.part
   pub numbers : ShareNumbers (setup_of_log map.log).passes (view_under map) []
   pub alone : ((view_under map).reserving).joined ≡ []
 
@@ -81,30 +99,37 @@ pub record IsOpenMap {D : Type 0} (map : DurableMap D) : Type 0 where
 
 -- the log told that the change's record is durable at the moment told, and then this one change was
 -- taken in
-pub record IsDurable {D : Type 0} (change : MapChange) (old new : DurableMap D) (sealed : Sealed)
+pub record IsDurable (setup : Setup) (change : MapChange) (old new : MapPart) (sealed : Sealed)
     : Type 0 where
   pub loggable : IsLoggable change
-  pub told : IsSealed (setup_of_log old.log) (assembled (change_record change)) (view_under old)
-      (view_under new) sealed
+  pub told : IsSealed setup (assembled (change_record change)) (view_of_part old)
+      (view_of_part new) sealed
   pub taken : TakesIn change old.entries new.entries
 
 -- why it is refused, and what of the log is then as it was
-abbrev pub Refuses : {D : Type 0} → MapChange → DurableMap D → DurableMap D → ChangeErr
-    → Type 0
-Refuses change old new Memory = view_under new ≡ view_under old
-Refuses change old new TooLong = (IsLoggable change → ⊥) × (view_under new ≡ view_under old)
-Refuses change old new (Refused refused) =
+abbrev pub Refuses : Setup → MapChange → MapPart → MapPart → ChangeErr → Type 0
+Refuses setup change old new Memory = view_of_part new ≡ view_of_part old
+Refuses setup change old new TooLong =
+    (IsLoggable change → ⊥) × (view_of_part new ≡ view_of_part old)
+Refuses setup change old new (Refused refused) =
     IsLoggable change
-    × RefusesCommit (setup_of_log old.log) (assembled (change_record change)) (view_under old)
-    (view_under new) refused
+    × RefusesCommit setup (assembled (change_record change)) (view_of_part old)
+    (view_of_part new) refused
 
 -- Ok: it is durable, and was then taken in; else why not, and the map is as it was
-abbrev pub AnswersChange : {D : Type 0} → MapChange → DurableMap D → DurableMap D
-    → Result Sealed ChangeErr → Type 0
-AnswersChange change old new (Ok sealed) = IsDurable change old new sealed
-AnswersChange change old new (Err error) =
-    Refuses change old new error
+abbrev pub AnswersChange : Setup → MapChange → MapPart → MapPart → Result Sealed ChangeErr
+    → Type 0
+AnswersChange setup change old new (Ok sealed) = IsDurable setup change old new sealed
+AnswersChange setup change old new (Err error) =
+    Refuses setup change old new error
     × SaysTheSame old.entries new.entries
+
+-- and its pass may be used again, and keeps what a pass keeps in a call
+pub record AnswersCall {D : Type 0} (wal : Wal D) (change : MapChange) (old new : MapPart)
+    (answer : Result Sealed ChangeErr) : Type 0 where
+  pub answers : AnswersChange (setup_of_log wal) change old new answer
+  pub pass : IsPartOfLog wal new
+  pub keeps : KeepsPass (view_of_part old) (view_of_part new)
 
 -- the changes that a map holds behind an answer
 abbrev pub changes_behind : MapChange → List MapChange → Result Sealed ChangeErr

@@ -3,12 +3,13 @@
 ghost use Rattle.std.specs.Prelude.{◌≡◌, List, Result};
 ghost use Rattle.wal_types.specs.declared.answers.Sealed.{Sealed};
 ghost use Rattle.wal_types.specs.declared.record.Record.{Record};
+ghost use Rattle.machine_state.specs.declared.setup.Setup.{Setup};
 ghost use Rattle.durable_map.specs.Changes.{MapChange};
 ghost use Rattle.durable_map.specs.Lives.{AnsweredChangesStay};
 ghost use Rattle.durable_map.specs.Records.{IsLoggable, SaysChange, change_record};
 ghost use Rattle.durable_map.specs.Stores.{AnswersChange, Holds, changes_behind};
 ghost use Rattle.durable_map.specs.declared.fault.ChangeErr.{ChangeErr};
-ghost use Rattle.durable_map.specs.declared.store.DurableMap.{DurableMap};
+ghost use Rattle.durable_map.specs.declared.part.MapPart.{MapPart};
 
 use segment_disk::Disk;
 use wal_log_laws::laws::logs_only_grow;
@@ -26,9 +27,9 @@ pub fn records_say_one_change()
 
 /// The map of some changes is behind an Ok that of these and this one, and behind any other answer
 /// that of these.
-pub fn changes_grow_by_one<D: Disk>()
-    ensures { (change : MapChange) (changes : List MapChange) (old new : DurableMap D)
-        (answer : Result Sealed ChangeErr) → AnswersChange change old new answer
+pub fn changes_grow_by_one()
+    ensures { (setup : Setup) (change : MapChange) (changes : List MapChange) (old new : MapPart)
+        (answer : Result Sealed ChangeErr) → AnswersChange setup change old new answer
         → Holds old changes → Holds new (changes_behind change changes answer) }
 {}
 

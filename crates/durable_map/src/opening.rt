@@ -9,6 +9,7 @@ ghost use Rattle.durable_map.specs.Stores.{IsOpenMap};
 
 use crate::entries::{Entries, take_in};
 use crate::fault::{MapFault, MapFaultKind};
+use crate::part::MapPart;
 use crate::store::DurableMap;
 use byte_position::Geometry;
 use segment_disk::Disk;
@@ -21,9 +22,10 @@ use wal_rule::numbers::seats_keep_numbers;
 use wal_types::Lsn;
 
 impl<D: Disk> DurableMap<D> {
-    /// Opens the map that is on a disk, whatever a crash left of it, and an empty one on a disk
-    /// without segment 1. A log with a record that says no change is refused, and its disk only
-    /// read.
+    /// Opens the map that is on a disk, and an empty one on a disk without segment 1. A log with a
+    /// record that says no change is refused, and its disk only read; so is one that stops as no
+    /// crash lets a log stop. What a crash leaves of a map's own log gives a map, as far as
+    /// `answered_changes_stay` says.
     pub fn open(alloc: Global, disk: D, setup: Setup) -> Result<DurableMap<D>, MapFault<D>>
         ensures opened { IfOk result (OpensMap D.tape D.moment D.faults setup disk) }
         ensures kept { IfOk result IsOpenMap }
@@ -46,10 +48,12 @@ impl<D: Disk> DurableMap<D> {
         };
         match Wal::reopen(alloc, disk, setup) {
             Ok((log, pass, _)) => Ok(DurableMap {
-                entries,
                 log,
-                pass,
-                alloc,
+                part: MapPart {
+                    entries,
+                    pass,
+                    alloc,
+                },
             }),
             Err(OpenFault { disk, kind }) => Err(MapFault {
                 disk,

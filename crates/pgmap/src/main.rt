@@ -1,6 +1,7 @@
 //! pgmap: keeps a map of keys to values by a write-ahead log, and is the smallest program that is
-//! built on one. Commands come line by line from the standard input, and each is answered before
-//! the next is read.
+//! built on one. Commands come line by line from the standard input. With one thread each is
+//! answered before the next is read; with several they are done by some thousands at a time, and
+//! answered in the order of the lines.
 #![tactic(auto)]
 
 ghost use Rattle.durable_map.specs.Stores.{IsOpenMap};
@@ -9,33 +10,28 @@ mod asked;
 mod command;
 mod place;
 mod scanner;
+mod sharing;
+mod telling;
 #[cfg(test)]
 mod tests;
 mod trouble;
 mod word;
 
 use asked::{MapOptions, Wish};
-use command::MapCommand;
-use durable_map::{ChangeErr, DurableMap};
-use place::ShownPlace;
+use command::call_of_line;
+use durable_map::DurableMap;
 use segment_disk::Disk;
 use segment_files::{Access, FileDisk};
+use sharing::share;
 use std::io::{BufRead, BufReader};
 use std::process;
 use std::process::ExitCode;
 use std::sync::Wait;
+use std::thread::Threads;
+use telling::tell;
 use trouble::PgmapErr;
-use wal_log::{Sealed, Setup};
+use wal_log::Setup;
 use word::ShownWord;
-
-// Segments of 1 MiB, at most 4 GiB of log, and one pass.
-const SETUP: Setup = Setup {
-    seg_size: 1 << 20,
-    ring_pages: 64,
-    cap_segments: 4096,
-    sysid: 1,
-    passes: 1,
-};
 
 fn main(rt: HostRuntime) -> ExitCode {
     match run(&rt, rt) {
@@ -47,18 +43,34 @@ fn main(rt: HostRuntime) -> ExitCode {
     }
 }
 
-fn run<R: Wait>(waiting: &R, rt: HostRuntime) -> Result<(), PgmapErr> {
+fn run<R: Threads + Wait + Sync>(threads: &R, rt: HostRuntime) -> Result<(), PgmapErr> {
     let alloc = rt.alloc();
     let MapOptions { folder, wish } = MapOptions::of_words(rt)?;
     let process = process::id(rt.process());
     let disk = FileDisk::open(rt, alloc, folder.as_str(), process, Access::Write)?;
-    let mut map = match DurableMap::open(alloc, disk, SETUP) {
+    let mut map = match DurableMap::open(alloc, disk, setup(wish)) {
         Ok(map) => map,
         Err(fault) => return Err(PgmapErr::of_unopened(fault.kind)),
     };
     match wish {
         Wish::List => list(rt, &map),
-        Wish::Obey => obey(waiting, rt, &mut map),
+        Wish::Obey => obey(threads, rt, &mut map),
+        Wish::Share { threads: count } => share(threads, rt, map, count),
+    }
+}
+
+// Segments of 1 MiB, at most 4 GiB of log, and a pass for each thread.
+fn setup(wish: Wish) -> Setup {
+    let passes = match wish {
+        Wish::Share { threads } => threads,
+        Wish::Obey | Wish::List => 1,
+    };
+    Setup {
+        seg_size: 1 << 20,
+        ring_pages: 64,
+        cap_segments: 4096,
+        sysid: 1,
+        passes,
     }
 }
 
@@ -90,48 +102,25 @@ fn obey<D: Disk, R: Wait>(
     let lines = BufReader::new(alloc, rt.reader())?.split(alloc, b'\n');
     for (index, line) in lines.enumerate() {
         let line = line?;
-        let number = index as u64 + 1;
-        match MapCommand::of_line(alloc, line.as_slice()) {
-            Ok(Some(command)) => answer(waiting, rt, map, number, command)?,
-            Ok(None) => {}
-            Err(fault) => return Err(PgmapErr::of_line(number, fault)),
-        }
+        obey_line(waiting, rt, map, index as u64 + 1, line.as_slice())?;
     }
     Ok(())
 }
 
-// Does one command, and prints its answer.
-fn answer<D: Disk, R: Wait>(
+// Does a line's command, and prints its answer.
+fn obey_line<D: Disk, R: Wait>(
     waiting: &R,
     rt: HostRuntime,
     map: &mut DurableMap<D>,
-    line: u64,
-    command: MapCommand,
+    number: u64,
+    line: &[u8],
 ) -> Result<(), PgmapErr>
     requires { IsOpenMap map.old }
     ensures { IsOpenMap map.new }
 {
-    match command {
-        MapCommand::Set { key, value } => tell(rt, line, map.set(waiting, key.as_slice(), value)),
-        MapCommand::Del { key } => tell(rt, line, map.del(waiting, key.as_slice())),
-        MapCommand::Get { key } => {
-            let text = match map.get(key.as_slice()) {
-                Some(value) => format!(in rt.alloc(); "{}", ShownWord(value))?,
-                None => String::from_str(rt.alloc(), word::NONE)?,
-            };
-            rt.println(text)?;
-            Ok(())
-        }
-    }
-}
-
-// Prints what a change was answered.
-fn tell(rt: HostRuntime, line: u64, answer: Result<Sealed, ChangeErr>) -> Result<(), PgmapErr> {
-    match answer {
-        Ok(Sealed { start, moment, .. }) => {
-            println!(rt; "ok {} {moment}", ShownPlace(start))?;
-            Ok(())
-        }
-        Err(error) => Err(PgmapErr::of_refused(line, error)),
+    match call_of_line(rt.alloc(), line) {
+        Ok(Some(call)) => tell(rt, number, map.answer(waiting, call)),
+        Ok(None) => Ok(()),
+        Err(fault) => Err(PgmapErr::of_line(number, fault)),
     }
 }

@@ -1,8 +1,9 @@
 //! Lines, taken apart and shown again.
 
-use crate::command::MapCommand;
+use crate::command::call_of_line;
 use crate::scanner::LineFault;
 use crate::word::ShownWord;
+use durable_map::MapCall;
 use std::process::Abort;
 use std::test::Fail;
 
@@ -19,7 +20,7 @@ fn words_are_shown_as_they_are_read(rt: HostRuntime) -> Result<(), Fail> {
         ("get a\\x", "a\\x"),
         ("get \"\\\\\\\"\\x00\\xfF\"", "\"\\\\\\\"\\x00\\xff\""),
     ] {
-        let Ok(Some(MapCommand::Get { key })) = MapCommand::of_line(alloc, line.as_bytes()) else {
+        let Ok(Some(MapCall::Get { key })) = call_of_line(alloc, line.as_bytes()) else {
             panic!(rt; "no get: {line}");
         };
         let text = format!(in alloc; "{}", ShownWord(key.as_slice()))?;
@@ -41,7 +42,7 @@ fn lines_without_meaning_are_refused(rt: HostRuntime) {
         ("get \"\\y\"", LineFault::Escape),
         ("get \"\\x0g\"", LineFault::Escape),
     ] {
-        match MapCommand::of_line(rt.alloc(), line.as_bytes()) {
+        match call_of_line(rt.alloc(), line.as_bytes()) {
             Err(told) => assert_eq!(rt; told, fault, "of {line}"),
             Ok(_) => panic!(rt; "no fault: {line}"),
         }
@@ -51,7 +52,7 @@ fn lines_without_meaning_are_refused(rt: HostRuntime) {
 #[test]
 fn empty_lines_and_comments_ask_for_nothing(rt: HostRuntime) -> Result<(), Fail> {
     for line in ["", "   ", "# set a 1"] {
-        assert!(rt; matches!(MapCommand::of_line(rt.alloc(), line.as_bytes()), Ok(None)));
+        assert!(rt; matches!(call_of_line(rt.alloc(), line.as_bytes()), Ok(None)));
     }
     Ok(())
 }

@@ -4,7 +4,7 @@ use crate::place::ShownPlace;
 use crate::scanner::LineFault;
 use durable_map::{ChangeErr, MapFaultKind};
 use segment_disk::Memory;
-use std::alloc::AllocError;
+use std::alloc::{AllocError, AllocFailed};
 use std::io;
 use std::io::ErrorKind;
 use thiserror::Error;
@@ -16,7 +16,7 @@ use wal_types::{Cause, Refused};
 pub enum PgmapErr {
     #[error("out of memory")]
     Memory,
-    #[error("usage: pgmap [--dir FOLDER] [list]")]
+    #[error("usage: pgmap [--dir FOLDER] [--threads N | list]")]
     Usage,
     #[error("line {line}: {fault}")]
     Line { line: u64, fault: LineFault },
@@ -110,6 +110,12 @@ impl PgmapErr {
 
 impl From<AllocError> for PgmapErr {
     fn from(_e: AllocError) -> PgmapErr {
+        PgmapErr::Memory
+    }
+}
+
+impl<T: Drop> From<AllocFailed<T>> for PgmapErr {
+    fn from(_e: AllocFailed<T>) -> PgmapErr {
         PgmapErr::Memory
     }
 }

@@ -5,4 +5,4 @@ use Rattle.durable_map.proofs.store.DurableMap.close.Goals as goal
 pub close-requires-clause-numbers : goal.close-requires-clause-numbers
 close-requires-clause-numbers g c =
     c.passes_share_numbers.ensures.all (setup_of_log c.args.self.log).passes
-    (view_of_pass c.args.self.pass) c.requires.numbers
+    (view_of_pass c.args.self.part.pass) c.requires.numbers

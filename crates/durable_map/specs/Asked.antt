@@ -1,0 +1,29 @@
+-- What a part of a map tells of what it was asked.
+use Rattle.std.specs.Prelude.{◌≡◌, ℕ, List, Option, Some, None}
+use Rattle.wal_log.specs.declared.wal.Wal.{Wal}
+use Rattle.durable_map.specs.Stores.{AnswersCall, part_held, slot_bytes}
+use Rattle.durable_map.specs.declared.asked.MapCall.{MapCall}
+use Rattle.durable_map.specs.declared.asked.MapCall.TheVariants.{Set, Get, Del}
+use Rattle.durable_map.specs.declared.asked.MapTold.{MapTold}
+use Rattle.durable_map.specs.declared.asked.MapTold.TheVariants.{Changed, Value, NoMemory}
+use Rattle.durable_map.specs.declared.part.MapPart.{MapPart}
+
+-- what a key has, or that there was no memory
+abbrev pub TellsValue : MapPart → List ℕ → MapTold → Type 0
+TellsValue part key (Changed answer) = ⊥
+TellsValue part key (Value value) = slot_bytes value ≡ part_held part key
+TellsValue part key NoMemory = Unit {0}
+
+abbrev pub TellsChange : {D : Type 0} → Wal D → (key : List ℕ) → Option (List ℕ) → MapPart
+    → MapPart → MapTold → Type 0
+TellsChange wal key value old new (Changed answer) =
+    AnswersCall wal (record { key = key; value = value }) old new answer
+TellsChange wal key value old new (Value told) = ⊥
+TellsChange wal key value old new NoMemory = ⊥
+
+-- a change is answered as by `set` or `del`; a `get` changes nothing
+abbrev pub TellsPart : {D : Type 0} → Wal D → MapCall → MapPart → MapPart → MapTold → Type 0
+TellsPart wal (Set key value) old new told =
+    TellsChange wal key.items (Some value.items) old new told
+TellsPart wal (Del key) old new told = TellsChange wal key.items None old new told
+TellsPart wal (Get key) old new told = (new ≡ old) × TellsValue old key.items told
