@@ -9,6 +9,8 @@
 #![tactic(auto)]
 
 mod asked;
+#[cfg(test)]
+mod chain;
 mod change;
 mod entries;
 mod fault;
