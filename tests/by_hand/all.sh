@@ -87,6 +87,12 @@ try python3 kill.py --append --program "$program" 1000
 try python3 two_writers.py --program "$program" 200
 try python3 moments_of_one.py --program "$program" 200
 try python3 switches.py --program "$program" 100
+map=$here/../../crates/pgmap/out/pgmap
+if [ -x "$map" ]; then
+  try python3 kill_pgmap.py --program "$map" 60
+else
+  skip kill_pgmap.py "pgmap is not built: call rt run in crates/pgmap"
+fi
 try_postgres
 prove wrong_definitions.py
 prove wrong_statuses.py
