@@ -14,6 +14,8 @@ mod chain;
 mod change;
 mod entries;
 mod fault;
+#[cfg(test)]
+mod lanes;
 pub mod laws;
 mod one_set;
 mod opening;

@@ -14,7 +14,7 @@ use wal_log::{Cause, CommitErr, Sealed, Setup};
 use wal_spelling::Body;
 use wal_types::{Lsn, Xid};
 
-const SETUP: Setup = Setup {
+pub const SETUP: Setup = Setup {
     seg_size: 1 << 20,
     ring_pages: 4,
     cap_segments: 3,
