@@ -4,9 +4,9 @@
 Builds crates/pgmap and crates/bench_log if they are not there (`rt run`, which proves them first), and the program by
 ./pgwal. Each round gives `pgmap --threads 4` 100,000 sets of 100 bytes in a fresh folder, and has bench_log commit as often
 by four backends in another one; the two take turns. Of pgmap the whole program is timed, its opening, its reading of the
-script and its printing among it; of bench_log the commits alone, by itself. Then the map's folder is opened by `pgmap list`,
-whose lines are thrown away, and listed by `./pgwal dump --quiet`; both read files that the system has in memory. Printed are
-the median, the least and the most.
+script and its printing among it; of bench_log the commits alone, by itself. Then the map's folder is opened by `pgmap`
+without any command, and listed by `./pgwal dump --quiet`; both read files that the system has in memory, and the whole
+program is timed. Printed are the median, the least and the most.
 
 A change waits for a sync: TMPDIR has to name a folder on the disk that is to be measured, not one in memory.
 Usage: bench/map.py [RUNS [SETS [THREADS]]]; by default 5 runs of 100,000 sets by 4 threads
@@ -72,7 +72,7 @@ def main():
                 sys.exit(f"pgmap answered {printed.count(b'ok ')} of {sets}")
             rates["sets"].append(sets / seconds)
             size = log_bytes(os.path.join(folder, FOLDER))
-            seconds, _ = timed([pgmap, "--dir", FOLDER, "list"], folder, stdout=subprocess.DEVNULL)
+            seconds, _ = timed([pgmap, "--dir", FOLDER], folder, input=b"", stdout=subprocess.DEVNULL)
             rates["open"].append(size / seconds / 1e6)
             listing = [pgwal, "dump", "--quiet", "--seg", str(SEGMENT)]
             seconds, _ = timed(listing, folder, stdout=subprocess.DEVNULL)
@@ -86,7 +86,7 @@ def main():
     print("|---|---|---|---|---|")
     shown(f"pgmap --threads {threads}, sets of {VALUE_BYTES} bytes", "a second", rates["sets"])
     shown(f"bench_log, {threads} backends, commits", "a second", rates["commits"])
-    shown("pgmap list: the log is opened", "MB/s", rates["open"])
+    shown("pgmap without commands: the log is opened", "MB/s", rates["open"])
     shown("pgwal dump --quiet", "MB/s", rates["dump"])
     ratio = statistics.median(rates["sets"]) / statistics.median(rates["commits"])
     print(f"sets to commits: {ratio:.2f}")

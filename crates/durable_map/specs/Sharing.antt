@@ -6,8 +6,8 @@ use Rattle.durable_map.specs.Stores.{IsPartOfLog, view_of_part}
 use Rattle.durable_map.specs.declared.sharing.MapLane.{MapLane}
 use Rattle.durable_map.specs.declared.sharing.SharedMap.{SharedMap}
 
-abbrev pub view_of_lane : MapLane → View
-view_of_lane lane = view_of_part lane.part
+abbrev pub view_in_lane : MapLane → View
+view_in_lane lane = view_of_part lane.part
 
 -- between two calls each lane's pass is about nothing
 abbrev pub AreLanesOf : {D : Type 0} → Wal D → List MapLane → Type 0

@@ -6,7 +6,7 @@
 ghost use Rattle.std.specs.Prelude.{◌≡◌, ◌+◌, ◌<◌, ◌≤◌, ◌-◌, IfOk, vec_len};
 ghost use Rattle.wal_log.specs.Logs.{IsPassOfLog};
 ghost use Rattle.wal_log.specs.Standing.{KeepsPass};
-ghost use Rattle.durable_map.specs.Sharing.{AreLanesOf, IsSharedMap, view_of_lane};
+ghost use Rattle.durable_map.specs.Sharing.{AreLanesOf, IsSharedMap, view_in_lane};
 ghost use Rattle.durable_map.specs.Stores.{IsOpenMap, IsPartOfLog};
 
 use crate::asked::{MapCall, MapTold};
@@ -54,7 +54,7 @@ impl MapLane {
     fn work<D: Disk, R: Wait>(&mut self, rt: &R, log: &Wal<D>)
         requires { IsPartOfLog log.now self.old.part }
         ensures pass { IsPartOfLog log.now self.new.part }
-        ensures keeps { KeepsPass (view_of_lane self.old) (view_of_lane self.new) }
+        ensures keeps { KeepsPass (view_in_lane self.old) (view_in_lane self.new) }
     {
         let alloc = self.part.alloc;
         let calls = mem::replace(&mut self.calls, Vec::new(alloc));
