@@ -1,0 +1,81 @@
+//! What the command line asks for.
+
+use crate::bound::Bound;
+use clap::error::ErrorKind;
+use clap::{Arg, ArgAction, ArgMatches, Command, Error, value_parser};
+use std::alloc::{AllocError, Global};
+
+// What is expected of a word for a place.
+const PLACES: &str = "an address as 0/1000028, or a segment as 000000010000000000000001";
+
+/// What is listed, and how.
+#[derive(Drop)]
+pub struct ListingAsked<'a> {
+    /// The folder of segment files.
+    pub folder: &'a str,
+    /// The timeline; the highest one in the folder if none is given.
+    pub timeline: Option<u32>,
+    pub start: Option<Bound>,
+    pub end: Option<Bound>,
+    /// How many records are listed at most.
+    pub limit: Option<u64>,
+    pub quiet: bool,
+}
+
+fn declared<'a>(alloc: Global) -> Result<Command<'a>, AllocError> {
+    let command = Command::new(alloc, "cluster_dump")
+        .version("1")
+        .about("Lists the records of a cluster's write-ahead log.");
+    let path = valued(alloc, "path", 'p', "FOLDER").help("The folder of segment files");
+    let command = command.arg(path.default_value("."))?;
+    let start = valued(alloc, "start", 's', "LSN").help("Where to begin: an address, or a segment");
+    let command = command.arg(start)?;
+    let end = valued(alloc, "end", 'e', "LSN").help("Where to end: an address, or a segment");
+    let command = command.arg(end)?;
+    let timeline = valued(alloc, "timeline", 't', "TIMELINE").value_parser(value_parser!(u32));
+    let command = command.arg(timeline.help("The timeline (the highest there is)"))?;
+    let limit = valued(alloc, "limit", 'n', "N").value_parser(value_parser!(u64));
+    let command = command.arg(limit.help("How many records to list"))?;
+    let quiet = Arg::new(alloc, "quiet").short('q').long("quiet");
+    let quiet = quiet.action(ArgAction::SetTrue);
+    command.arg(quiet.help("List no record, and tell how the log ends"))
+}
+
+// An option that takes a value.
+fn valued<'a>(alloc: Global, name: &'a str, letter: char, value: &'a str) -> Arg<'a> {
+    Arg::new(alloc, name)
+        .short(letter)
+        .long(name)
+        .value_name(value)
+        .action(ArgAction::Set)
+}
+
+/// What words ask for, the program's name the first of them.
+pub fn words_ask<'a>(alloc: Global, words: &'a [String]) -> Result<ListingAsked<'a>, Error> {
+    let matches = declared(alloc)?.try_get_matches_from(words)?;
+    Ok(ListingAsked {
+        folder: matches.get_str("path").unwrap_or("."),
+        timeline: matches.get_one::<u32>("timeline"),
+        start: bound(alloc, &matches, "start")?,
+        end: bound(alloc, &matches, "end")?,
+        limit: matches.get_one::<u64>("limit"),
+        quiet: matches.get_flag("quiet"),
+    })
+}
+
+fn bound(alloc: Global, matches: &ArgMatches<'_>, option: &str) -> Result<Option<Bound>, Error> {
+    let Some(word) = matches.get_str(option) else {
+        return Ok(None);
+    };
+    match Bound::of_word(word) {
+        Some(bound) => Ok(Some(bound)),
+        None => Err(no_bound(alloc, option, word)?),
+    }
+}
+
+fn no_bound(alloc: Global, option: &str, word: &str) -> Result<Error, AllocError> {
+    let text = format!(in alloc;
+        "invalid value '{word}' for '--{option} <LSN>': expected {PLACES}"
+    )?;
+    declared(alloc)?.error(ErrorKind::ValueValidation, text.as_str())
+}

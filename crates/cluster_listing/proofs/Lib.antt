@@ -1,0 +1,4 @@
+pub mod TakingLaws
+pub mod PrintingLaws
+pub mod UnderwayLaws
+pub mod WalkLaws

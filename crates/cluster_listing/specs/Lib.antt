@@ -1,0 +1,5 @@
+pub mod Ending
+pub mod Taking
+pub mod Walk
+pub mod Form
+pub mod Listing

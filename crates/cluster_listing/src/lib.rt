@@ -1,0 +1,16 @@
+//! The listing of the log of a real cluster's folder: over any disk and any sink, records as lines,
+//! and how the log ended.
+#![tactic(auto)]
+
+mod ending;
+mod form;
+mod listing;
+mod printing;
+mod taking;
+mod walking;
+
+pub use ending::Ending;
+pub use form::Form;
+pub use listing::{Listing, list};
+pub use taking::TakeErr;
+pub use walking::{ListErr, Walked};
