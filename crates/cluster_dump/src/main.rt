@@ -64,7 +64,7 @@ fn list_folder(rt: HostRuntime, asked: &ListingAsked<'_>) -> Result<u8, FolderEr
     disk.read_front(timeline.first, &mut header)?;
     let geometry = segment_size(&header).ok_or(FolderErr::NoHeader)?;
     let filter = filter_of(asked, &timeline, geometry).ok_or(FolderErr::NoSuchSegment)?;
-    let form = if asked.quiet { Form::Quiet } else { Form::Line };
+    let form = form_of(asked);
     let out = StandardSink::new(alloc, rt.stdout())?;
     let Listing { walked, mut out } = list(alloc, &mut disk, geometry, &filter, form, out);
     let mut ending = Ending::of(walked);
@@ -81,6 +81,17 @@ fn list_folder(rt: HostRuntime, asked: &ListingAsked<'_>) -> Result<u8, FolderEr
     let _ = ending.tell(&mut err);
     let _ = err.flush();
     Ok(ending.status())
+}
+
+fn form_of(asked: &ListingAsked<'_>) -> Form {
+    let whole = asked.data;
+    if asked.quiet {
+        Form::Quiet
+    } else if asked.json {
+        Form::Json { whole }
+    } else {
+        Form::Line { whole }
+    }
 }
 
 // Which records are listed: from the start asked for, or from the first segment's first byte on.

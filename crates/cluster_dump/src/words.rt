@@ -20,6 +20,10 @@ pub struct ListingAsked<'a> {
     /// How many records are listed at most.
     pub limit: Option<u64>,
     pub quiet: bool,
+    /// Whether records are printed as JSON objects.
+    pub json: bool,
+    /// Whether all of the main data is printed.
+    pub data: bool,
 }
 
 fn declared<'a>(alloc: Global) -> Result<Command<'a>, AllocError> {
@@ -36,9 +40,19 @@ fn declared<'a>(alloc: Global) -> Result<Command<'a>, AllocError> {
     let command = command.arg(timeline.help("The timeline (the highest there is)"))?;
     let limit = valued(alloc, "limit", 'n', "N").value_parser(value_parser!(u64));
     let command = command.arg(limit.help("How many records to list"))?;
-    let quiet = Arg::new(alloc, "quiet").short('q').long("quiet");
-    let quiet = quiet.action(ArgAction::SetTrue);
-    command.arg(quiet.help("List no record, and tell how the log ends"))
+    let quiet = switch(alloc, "quiet", 'q').help("List no record, and tell how the log ends");
+    let command = command.arg(quiet)?;
+    let json = switch(alloc, "json", 'j').help("Print each record as a JSON object on a line");
+    let command = command.arg(json)?;
+    command.arg(switch(alloc, "data", 'd').help("Print all main data, and not its first 64 bytes"))
+}
+
+// An option without a value.
+fn switch<'a>(alloc: Global, name: &'a str, letter: char) -> Arg<'a> {
+    Arg::new(alloc, name)
+        .short(letter)
+        .long(name)
+        .action(ArgAction::SetTrue)
 }
 
 // An option that takes a value.
@@ -60,6 +74,8 @@ pub fn words_ask<'a>(alloc: Global, words: &'a [String]) -> Result<ListingAsked<
         end: bound(alloc, &matches, "end")?,
         limit: matches.get_one::<u64>("limit"),
         quiet: matches.get_flag("quiet"),
+        json: matches.get_flag("json"),
+        data: matches.get_flag("data"),
     })
 }
 

@@ -1,4 +1,5 @@
 pub mod TakingLaws
+pub mod TextLaws
 pub mod PrintingLaws
 pub mod UnderwayLaws
 pub mod WalkLaws

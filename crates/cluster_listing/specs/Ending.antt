@@ -68,27 +68,27 @@ ending_status (Overwritten at) = 6
 ending_status (NoSegment at) = 7
 ending_status SinkFault = 8
 
-abbrev pub place_pieces : List ℕ → Lsn → List ℕ → List (List ℕ)
-place_pieces what at behind =
+abbrev pub place_line : List ℕ → Lsn → List ℕ → List (List ℕ)
+place_line what at behind =
     codes "cluster_dump: " ∷ what ∷ lsn_text at.0 ∷ behind ∷ codes "\n" ∷ []
 
-abbrev pub kind_pieces : List ℕ → Lsn → List ℕ → List (List ℕ)
-kind_pieces what at kind =
+abbrev pub kind_line : List ℕ → Lsn → List ℕ → List (List ℕ)
+kind_line what at kind =
     codes "cluster_dump: " ∷ what ∷ lsn_text at.0 ∷ codes ": " ∷ kind ∷ codes "\n" ∷ []
 
-abbrev pub enough_pieces : ℕ → List (List ℕ)
-enough_pieces count =
+abbrev pub enough_line : ℕ → List (List ℕ)
+enough_line count =
     codes "cluster_dump: listed as many as asked for: " ∷ decimal count ∷ codes "\n" ∷ []
 
 -- the line that tells it
 abbrev pub ending_text : Ending → List (List ℕ)
-ending_text (Clean at) = place_pieces (codes "clean end at ") at []
-ending_text (Enough count) = enough_pieces count
-ending_text (NoSegment at) = place_pieces (codes "segment missing at ") at []
-ending_text (Torn at kind) = kind_pieces (codes "torn record at ") at (damage_name kind)
-ending_text (Damaged at kind) = kind_pieces (codes "damaged at ") at (damage_name kind)
-ending_text (Compressed at) = place_pieces (codes "damaged at ") at (codes ": compressed")
-ending_text (Overwritten at) = place_pieces (codes "damaged at ") at (codes ": overwritten")
+ending_text (Clean at) = place_line (codes "clean end at ") at []
+ending_text (Enough count) = enough_line count
+ending_text (NoSegment at) = place_line (codes "segment missing at ") at []
+ending_text (Torn at kind) = kind_line (codes "torn record at ") at (damage_name kind)
+ending_text (Damaged at kind) = kind_line (codes "damaged at ") at (damage_name kind)
+ending_text (Compressed at) = place_line (codes "damaged at ") at (codes ": compressed")
+ending_text (Overwritten at) = place_line (codes "damaged at ") at (codes ": overwritten")
 ending_text OutOfMemory = codes "cluster_dump: out of memory\n" ∷ []
 ending_text DiskFault = codes "cluster_dump: disk fault\n" ∷ []
 ending_text SinkFault = codes "cluster_dump: sink fault\n" ∷ []

@@ -2,7 +2,7 @@
 
 ghost use Rattle.std.specs.Prelude.{◌≡◌};
 ghost use Rattle.waldump_text.specs.Put.{Puts, joined};
-ghost use Rattle.cluster_listing.specs.Ending.{ending_at, ending_of, ending_of_read, ending_of_stop, ending_of_take, ending_text, enough_pieces, is_torn, kind_pieces, place_pieces, ending_status};
+ghost use Rattle.cluster_listing.specs.Ending.{ending_at, ending_of, ending_of_read, ending_of_stop, ending_of_take, ending_text, enough_line, is_torn, kind_line, place_line, ending_status};
 
 use crate::taking::TakeErr;
 use crate::walking::{ListErr, Walked};
@@ -149,7 +149,7 @@ fn tell_place<'a, E: Sink>(
     behind: &'a str,
 ) -> Result<(), SinkFault>
     ensures { Puts (E.taken err.old) (E.taken err.new) (E.faults err.old) (E.faults err.new)
-        (joined (place_pieces what.now at behind.now)) result }
+        (joined (place_line what.now at behind.now)) result }
 {
     put_all(
         err,
@@ -171,7 +171,7 @@ fn tell_kind<'a, E: Sink>(
     kind: &'a str,
 ) -> Result<(), SinkFault>
     ensures { Puts (E.taken err.old) (E.taken err.new) (E.faults err.old) (E.faults err.new)
-        (joined (kind_pieces what.now at kind.now)) result }
+        (joined (kind_line what.now at kind.now)) result }
 {
     put_all(
         err,
@@ -188,7 +188,7 @@ fn tell_kind<'a, E: Sink>(
 
 fn tell_enough<E: Sink>(err: &mut E, count: u64) -> Result<(), SinkFault>
     ensures { Puts (E.taken err.old) (E.taken err.new) (E.faults err.old) (E.faults err.new)
-        (joined (enough_pieces count)) result }
+        (joined (enough_line count)) result }
 {
     let mut digits = itoa::Buffer::new();
     put_all(

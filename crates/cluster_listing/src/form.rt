@@ -3,6 +3,9 @@
 pub enum Form {
     /// Not at all.
     Quiet,
-    /// A line, as pg_waldump's.
-    Line,
+    /// A line, as pg_waldump's. `whole` says whether all of the main data is shown, or its first
+    /// 64 bytes.
+    Line { whole: bool },
+    /// A JSON object on a line.
+    Json { whole: bool },
 }

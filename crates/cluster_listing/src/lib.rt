@@ -4,9 +4,15 @@
 
 mod ending;
 mod form;
+mod json;
+mod kinds;
+mod line;
 mod listing;
+mod pieces;
 mod printing;
 mod taking;
+#[cfg(test)]
+mod tests;
 mod walking;
 
 pub use ending::Ending;

@@ -35,7 +35,8 @@ pub fn list<D: Disk, O: Sink + Drop>(
     ensures uncalled { IsUncalled D.tape D.moment disk.old disk.new }
     ensures cause { HasWalkCause (D.faults disk.old) (D.faults disk.new) result.walked }
 {
-    let mut printer = Printer { form, out };
+    let line = Vec::new(alloc);
+    let mut printer = Printer { form, out, line };
     let walked = walk(alloc, disk, geometry, filter, &mut printer);
     Listing {
         walked,

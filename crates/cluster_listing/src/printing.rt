@@ -1,21 +1,25 @@
 //! Records printed into a sink as they come.
 
+ghost use Rattle.std.specs.Prelude.{◌≡◌, ◌++◌, OnOk};
 ghost use Rattle.waldump_text.specs.Listing.{IsListable};
-ghost use Rattle.waldump_text.specs.Put.{Puts};
 ghost use Rattle.cluster_listing.specs.Form.{record_text};
 
 use crate::form::Form;
+use crate::json::push_object;
+use crate::line::push_line;
 use crate::taking::{TakeErr, TakesRecords};
 use segment_disk::Sink;
-use std::alloc::Global;
+use std::alloc::{AllocError, Global};
 use waldump_filter::Listed;
-use waldump_text::{SinkFault, line};
+use waldump_text::put;
 
 /// A sink that takes records in a form.
 #[derive(Drop)]
 pub(crate) struct Printer<O: Sink + Drop> {
     pub(crate) form: Form,
     pub(crate) out: O,
+    /// Room for a record's text.
+    pub(crate) line: Vec<u8>,
 }
 
 impl<O: Sink + Drop> TakesRecords for Printer<O> {
@@ -29,19 +33,21 @@ impl<O: Sink + Drop> TakesRecords for Printer<O> {
         (O.faults first.out) (O.faults now.out) e (records_text first.form rs) };
 
     fn take(&mut self, _alloc: Global, r: &Listed) -> Result<(), TakeErr> {
-        print(self.form, r, &mut self.out)?;
+        self.line.clear();
+        push_record(&mut self.line, self.form, r)?;
+        put(&mut self.out, &self.line)?;
         Ok(())
     }
 }
 
-// Puts a record's text.
-fn print<O: Sink>(form: Form, r: &Listed, out: &mut O) -> Result<(), SinkFault>
+/// A record's text.
+pub(crate) fn push_record(line: &mut Vec<u8>, form: Form, r: &Listed) -> Result<(), AllocError>
     requires { IsListable r.now }
-    ensures { Puts (O.taken out.old) (O.taken out.new) (O.faults out.old) (O.faults out.new)
-        (record_text form r.now) result }
+    ensures { OnOk result (line.new.items ≡ line.old.items ++ record_text form r.now) }
 {
     match form {
         Form::Quiet => Ok(()),
-        Form::Line => line(r, out),
+        Form::Line { whole } => push_line(line, whole, r),
+        Form::Json { whole } => push_object(line, whole, r),
     }
 }
