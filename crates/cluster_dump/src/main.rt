@@ -11,7 +11,7 @@ mod words;
 use bound::Bound;
 use byte_position::Geometry;
 use clap::error::ErrorKind;
-use cluster_listing::{Ending, Form, Listing, list};
+use cluster_listing::{Ending, Form, Listing, list, list_tail};
 use folder::{Timeline, segment_size};
 use folder_err::FolderErr;
 use segment_files::StandardSink;
@@ -66,7 +66,19 @@ fn list_folder(rt: HostRuntime, asked: &ListingAsked<'_>) -> Result<u8, FolderEr
     let filter = filter_of(asked, &timeline, geometry).ok_or(FolderErr::NoSuchSegment)?;
     let form = form_of(asked);
     let out = StandardSink::new(alloc, rt.stdout())?;
-    let Listing { walked, mut out } = list(alloc, &mut disk, geometry, &filter, form, out);
+    let listing = match asked.tail {
+        Some(most) => list_tail(
+            alloc,
+            &mut disk,
+            geometry,
+            &filter,
+            form,
+            most as usize,
+            out,
+        ),
+        None => list(alloc, &mut disk, geometry, &filter, form, out),
+    };
+    let Listing { walked, mut out } = listing;
     let mut ending = Ending::of(walked);
     if let Ending::Clean { at } = ending {
         if misses(&mut disk, &timeline, geometry, at)? {

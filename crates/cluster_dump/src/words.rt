@@ -19,6 +19,8 @@ pub struct ListingAsked<'a> {
     pub end: Option<Bound>,
     /// How many records are listed at most.
     pub limit: Option<u64>,
+    /// How many of the last records are printed, if not all are.
+    pub tail: Option<u32>,
     pub quiet: bool,
     /// Whether records are printed as JSON objects.
     pub json: bool,
@@ -40,6 +42,8 @@ fn declared<'a>(alloc: Global) -> Result<Command<'a>, AllocError> {
     let command = command.arg(timeline.help("The timeline (the highest there is)"))?;
     let limit = valued(alloc, "limit", 'n', "N").value_parser(value_parser!(u64));
     let command = command.arg(limit.help("How many records to list"))?;
+    let tail = valued(alloc, "tail", 'l', "N").value_parser(value_parser!(u32));
+    let command = command.arg(tail.help("How many of the last records to print"))?;
     let quiet = switch(alloc, "quiet", 'q').help("List no record, and tell how the log ends");
     let command = command.arg(quiet)?;
     let json = switch(alloc, "json", 'j').help("Print each record as a JSON object on a line");
@@ -73,6 +77,7 @@ pub fn words_ask<'a>(alloc: Global, words: &'a [String]) -> Result<ListingAsked<
         start: bound(alloc, &matches, "start")?,
         end: bound(alloc, &matches, "end")?,
         limit: matches.get_one::<u64>("limit"),
+        tail: matches.get_one::<u32>("tail"),
         quiet: matches.get_flag("quiet"),
         json: matches.get_flag("json"),
         data: matches.get_flag("data"),

@@ -1,5 +1,6 @@
 pub mod TakingLaws
 pub mod TextLaws
+pub mod TailLaws
 pub mod PrintingLaws
 pub mod UnderwayLaws
 pub mod WalkLaws

@@ -6,3 +6,4 @@ pub mod Json
 pub mod Kinds
 pub mod Line
 pub mod Listing
+pub mod Tail

@@ -10,6 +10,7 @@ mod line;
 mod listing;
 mod pieces;
 mod printing;
+mod tail;
 mod taking;
 #[cfg(test)]
 mod tests;
@@ -18,5 +19,6 @@ mod walking;
 pub use ending::Ending;
 pub use form::Form;
 pub use listing::{Listing, list};
+pub use tail::list_tail;
 pub use taking::TakeErr;
 pub use walking::{ListErr, Walked};

@@ -5,7 +5,7 @@ ghost use Rattle.waldump_filter.specs.declared.listed.Listed.{Listed};
 ghost use Rattle.waldump_text.specs.Listing.{IsListable};
 ghost use Rattle.cluster_listing.specs.Taking.{CutMore, TookMore};
 
-use std::alloc::{AllocError, Global};
+use std::alloc::{AllocError, AllocFailed, Global};
 use thiserror::Error;
 use waldump_filter::Listed;
 use waldump_text::SinkFault;
@@ -17,6 +17,17 @@ pub enum TakeErr {
     Memory,
     #[error("the listing cannot be written")]
     Sink(SinkFault),
+}
+
+impl<T: Drop> From<AllocFailed<T>> for TakeErr {
+    ghost use Rattle.std.specs.Prelude.{◌≡◌};
+    ghost use Rattle.cluster_listing.specs.declared.taking.TakeErr.TheVariants as errors;
+
+    ghost from_gives = { λ _ e. e ≡ errors.Memory };
+
+    fn from(_error: AllocFailed<T>) -> TakeErr {
+        TakeErr::Memory
+    }
 }
 
 impl From<AllocError> for TakeErr {
