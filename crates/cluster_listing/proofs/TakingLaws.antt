@@ -1,5 +1,5 @@
 -- Records that are taken one behind another.
-use Rattle.std.proofs.Common.{List, [], ◌∷◌, ◌++◌, sym, subst, append_assoc}
+use Rattle.std.proofs.Common.{List, [], ◌++◌, sym, subst, append_assoc}
 use Rattle.std.proofs.lemmas.List.{append-nil}
 use Rattle.waldump_filter.specs.declared.listed.Listed.{Listed}
 use Rattle.cluster_listing.specs.Taking.{CutMore, TookMore}

@@ -1,5 +1,5 @@
 -- What records are called.
-use Rattle.std.specs.Prelude.{ℕ, ◌+◌, ◌*◌, ◌/◌, List, [], ◌∷◌, codes, length, nat_lt, ◌==◌, slice_index_or, if◌then◌else◌}
+use Rattle.std.specs.Prelude.{ℕ, ◌/◌, List, [], ◌∷◌, codes, length, nat_lt, ◌==◌, slice_index_or, if◌then◌else◌}
 use Rattle.waldump_text.specs.Names.{record_word, word_text}
 use Rattle.cluster_listing.specs.declared.kinds.KindName.{KindName}
 use Rattle.cluster_listing.specs.declared.kinds.KindName.TheVariants.{Own, Other}

@@ -1,6 +1,5 @@
 -- What is taken of a disk's log.
 use Rattle.std.specs.Prelude.{◌≡◌, ℕ, List, ◌++◌, length, map, Option, Some, None, Result, Ok, Err}
-use Rattle.segment_disk.specs.Cause.{RoseByOne}
 use Rattle.segment_disk.specs.Tape.{Tape}
 use Rattle.wal_types.specs.declared.lsn.Lsn.{Lsn}
 use Rattle.wal_reader.specs.declared.found.FoundRecord.{FoundRecord}

@@ -1,4 +1,4 @@
-use Rattle.std.proofs.Common.{◌++◌, codes, ap, sym, ◌∙◌}
+use Rattle.std.proofs.Common.{◌++◌, codes}
 use Rattle.cluster_listing.specs.Line.{blocks_line, ended_text, line_head, shown_text}
 use Rattle.cluster_listing.proofs.TextLaws.{four_behind, two_behind}
 use Rattle.cluster_listing.proofs.line.push_line.Goals as goal

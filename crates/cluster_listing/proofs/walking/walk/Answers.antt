@@ -1,4 +1,4 @@
-use Rattle.std.proofs.Common.{◌≡◌, ℕ, ◌+◌, ◌^◌, ◌≤◌, true, false, List, [], ◌∷◌, Option, Some, None, Result, Ok, Err, ap, refl, subst, sym, ◌∙◌, arith}
+use Rattle.std.proofs.Common.{◌≡◌, true, false, [], ◌∷◌, Option, Result, Ok, Err, ap, subst, sym, ◌∙◌, arith}
 use Rattle.std.proofs.lemmas.Result.{err_from_is_err_and}
 use Rattle.std.specs.Prelude.{IfOk}
 use Rattle.segment_disk.specs.Tape.{Tape}
@@ -13,7 +13,6 @@ use Rattle.wal_reader.specs.declared.standing.Comes.{Comes}
 use Rattle.wal_reader.specs.declared.standing.ReadErr.{ReadErr}
 use Rattle.wal_reader.specs.declared.standing.Step.{Step}
 use Rattle.wal_reader.specs.declared.standing.Step.TheVariants.{End}
-use Rattle.waldump_filter.specs.declared.listed.Listed.{Listed}
 use Rattle.waldump_text.specs.Listing.{IsListable, listed_of}
 use Rattle.waldump_text.proofs.ListingLaws.{IsWithin-more}
 use Rattle.waldump_text.proofs.SpelledLaws.{IsListable-from_spelled}
