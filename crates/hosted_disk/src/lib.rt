@@ -1,0 +1,20 @@
+//! A disk whose calls somebody else makes: the program that links the log, with its own files. The
+//! log's calls are queued, and the program, the host, takes them from the queue in order, makes
+//! them, and says how many it has made.
+//!
+//! `disk` is what the log calls, `calls` what the host has of it, and `progress` what tells
+//! everybody else how far the host has come.
+#![tactic(auto)]
+
+mod calls;
+mod disk;
+mod opening;
+mod progress;
+#[cfg(test)]
+mod tests;
+mod words;
+
+pub use calls::HostCalls;
+pub use disk::HostedDisk;
+pub use opening::hosted_disk;
+pub use progress::HostProgress;
