@@ -1,0 +1,5 @@
+mod Promises
+mod Appends
+mod Sessions
+mod Survival
+mod Soles

@@ -1,0 +1,198 @@
+-- A session stays open, and a record that it appends stays so, from call to call.
+use Rattle.std.specs.Prelude.{Ok, Err}
+use Rattle.std.proofs.Common.{◌≡◌, refl, sym, subst}
+use Rattle.wal_spelling.specs.Spelling.{Assembled}
+use Rattle.wal_page.specs.Order.{Entry}
+use Rattle.wal_types.specs.declared.answers.Receipt.{Receipt}
+use Rattle.hosted_disk.specs.Hosted.{HasNoCalls, hosted_faults, hosted_moment, hosted_tape}
+use Rattle.hosted_disk.specs.declared.disk.HostedDisk.{HostedDisk}
+use Rattle.machine_state.specs.declared.setup.Setup.{Setup}
+use Rattle.wal_rule.specs.declared.pass.Pass.{Pass}
+use Rattle.wal_rule.specs.Passes.{view_of_pass}
+use Rattle.wal_log.specs.declared.beginning.TryErr.{TryErr}
+use Rattle.wal_log.specs.declared.in_flight.Inflight.{Inflight}
+use Rattle.wal_log.specs.declared.wal.Wal.{Wal}
+use Rattle.wal_log.specs.Beginning.{TellsBeginTry}
+use Rattle.wal_log.specs.Flights.{AnswersTryBegin, Finishes, IsInFlightOf, KeepsLog, view_of_flight}
+use Rattle.wal_log.specs.Inserting.{HasReserved}
+use Rattle.wal_log.specs.Logs.{IsPassOfLog}
+use Rattle.wal_log.specs.Opening.{IsOpened}
+use Rattle.wal_log.specs.PassLogs.{PassLog, log_of_pass}
+use Rattle.wal_log.specs.Standing.{KeepsPass, entry_in_flight}
+use Rattle.wal_log.proofs.Keeping.{further_pass, same_pass}
+use Rattle.wal_log_laws.specs.Growing.{GrowsTo}
+use Rattle.wal_log_laws.proofs.Grown.{begin_grows, grows_itself}
+use Rattle.embedded_log.specs.Appended.{IsAppended, IsBegunBy, IsGoing, wal_of_appending}
+use Rattle.embedded_log.specs.Opened.{IsFirstOn, OpensSession}
+use Rattle.embedded_log.specs.Sessions.{GoesOnOpen, IsOpenSession, setup_of_session, view_of_helper, view_of_session, wal_of_session}
+use Rattle.embedded_log.specs.declared.appending.Appending.{Appending}
+use Rattle.embedded_log.specs.declared.session.LogSession.{LogSession}
+use Rattle.embedded_log.specs.declared.shared.SharedLog.{SharedLog}
+use Rattle.embedded_log.proofs.Appends.{begins, ends, given_up, goes_on, grown_by_entry}
+use Rattle.embedded_log.proofs.Promises.{pending_still}
+
+grown_same : (l m : PassLog) → m ≡ l → GrowsTo l m
+grown_same l m is = subst (λ (x : PassLog). GrowsTo l x) (sym is) (grows_itself l)
+
+module _ {H : Type 0} where
+  -- ---- a record is begun, or not
+
+  abbrev pub begun_by : LogSession H → Inflight → Appending H
+  begun_by s flight =
+      record { log = s.log; flight = flight; helper = s.helper; pending = s.pending }
+
+  pub begun_session : (s : LogSession H) (shared : SharedLog H) → shared ≡ (s.log).value
+      → (body : Assembled) (flight : Inflight) → IsOpenSession s
+      → AnswersTryBegin shared.wal body (view_of_session s) (Ok flight)
+      → IsGoing body s (begun_by s flight)
+  begun_session s shared is body flight stands answers =
+      let old = view_of_session s in
+      let now = view_of_flight flight in
+      let began = subst (λ (x : SharedLog H). AnswersTryBegin x.wal body old (Ok flight)) is answers
+      in
+      let begun : IsBegunBy (setup_of_session s) body old flight =
+      begins (setup_of_session s) body old flight began.1 began.2 in record {
+        same_log = refl;
+        kept = record {
+          flight = began.0;
+          helper = stands.helper;
+          pending = pending_still s.pending (log_of_pass old) (log_of_pass now)
+              (grown_by_entry begun.entry (log_of_pass old) (log_of_pass now)
+              begun.reserved.log_is) stands.pending;
+        };
+        begun = begun;
+        helper = same_pass (view_of_helper s);
+      }
+
+  abbrev pub with_pass : LogSession H → Pass → LogSession H
+  with_pass s pass =
+      record { log = s.log; pass = pass; helper = s.helper; pending = s.pending }
+
+  pub refused_session : (s : LogSession H) (shared : SharedLog H) → shared ≡ (s.log).value
+      → (body : Assembled) (why : TryErr) (pass : Pass) → IsOpenSession s
+      → AnswersTryBegin shared.wal body (view_of_session s) (Err (why, pass))
+      → TellsBeginTry (setup_of_session s) body (view_of_session s)
+      (view_of_session (with_pass s pass)) why × GoesOnOpen s (with_pass s pass)
+  refused_session s shared is body why pass stands answers =
+      let old = view_of_session s in
+      let now = view_of_pass pass in
+      let told = subst (λ (x : SharedLog H). AnswersTryBegin x.wal body old (Err (why, pass))) is
+      answers in
+      let grows : GrowsTo (log_of_pass old) (log_of_pass now) =
+      begin_grows (wal_of_session s) body old (Err (why, pass)) told in (
+        told.1,
+        record {
+          same_log = refl;
+          kept = record {
+            pass = told.0;
+            helper = stands.helper;
+            pending = pending_still s.pending (log_of_pass old) (log_of_pass now) grows
+                stands.pending;
+          };
+          keeps = told.2;
+          grows = grows;
+          helper = same_pass (view_of_helper s);
+        },
+      )
+
+  -- ---- it goes on
+
+  abbrev pub going_by : Appending H → Inflight → Pass → Appending H
+  going_by a flight helper =
+      record { log = a.log; flight = flight; helper = helper; pending = a.pending }
+
+  module _ (body : Assembled) (old : LogSession H) (a : Appending H) (going : IsGoing body old a)
+    where
+      pub still_going : (next : Inflight) (helper : Pass)
+          → IsInFlightOf (wal_of_appending a) next → IsPassOfLog (wal_of_appending a) helper
+          → KeepsPass (view_of_pass a.helper) (view_of_pass helper)
+          → (next.begun).start ≡ ((a.flight).begun).start
+          → (next.begun).end ≡ ((a.flight).begun).end
+          → entry_in_flight (view_of_flight next) ≡ entry_in_flight (view_of_flight a.flight)
+          → KeepsLog (view_of_flight a.flight) (view_of_flight next)
+          → IsGoing body old (going_by a next helper)
+      still_going next helper in_flight helper_is kept start end same keeps = record {
+        same_log = going.same_log;
+        kept = record {
+          flight = in_flight;
+          helper = helper_is;
+          pending = pending_still a.pending (log_of_pass (view_of_flight a.flight))
+              (log_of_pass (view_of_flight next))
+              (grown_same (log_of_pass (view_of_flight a.flight))
+              (log_of_pass (view_of_flight next)) keeps.log) (going.kept).pending;
+        };
+        begun = goes_on (setup_of_session old) body (view_of_session old) a.flight next
+            going.begun start end same keeps;
+        helper = further_pass (view_of_helper old) (view_of_pass a.helper) (view_of_pass helper)
+            going.helper kept;
+      }
+
+      -- ---- it ends
+
+      abbrev pub ended_by : Pass → LogSession H
+      ended_by pass =
+          record { log = a.log; pass = pass; helper = a.helper; pending = a.pending }
+
+      pub ended_session : (pass : Pass) → IsPassOfLog (wal_of_appending a) pass
+          → KeepsLog (view_of_flight a.flight) (view_of_pass pass)
+          → GoesOnOpen old (ended_by pass)
+      ended_session pass pass_is keeps =
+          let mid = view_of_flight a.flight in
+          let now = view_of_pass pass in
+          let reserved = (given_up (setup_of_session old) body (view_of_session old) a.flight now
+          going.begun keeps).1 in record {
+            same_log = going.same_log;
+            kept = record {
+              pass = pass_is;
+              helper = (going.kept).helper;
+              pending = pending_still a.pending (log_of_pass mid) (log_of_pass now)
+                  (grown_same (log_of_pass mid) (log_of_pass now) keeps.log)
+                  (going.kept).pending;
+            };
+            keeps = further_pass (view_of_session old) mid now (going.begun).keeps keeps.keeps;
+            grows = grown_by_entry _ (log_of_pass (view_of_session old)) (log_of_pass now)
+                reserved.log_is;
+            helper = going.helper;
+          }
+
+      pub finished_session : {D : Type 0} (wal : Wal D) (receipt : Receipt) (pass : Pass)
+          → IsPassOfLog (wal_of_appending a) pass → Finishes wal a.flight receipt pass
+          → IsAppended (setup_of_session old) body (view_of_session old) (view_of_pass pass) receipt
+          × GoesOnOpen old (ended_by pass)
+      finished_session wal receipt pass pass_is done = (
+        ends (setup_of_session old) body (view_of_session old) wal a.flight receipt pass going.begun
+            done,
+        ended_session pass pass_is done.keeps,
+      )
+
+      pub given_up_session : (pass : Pass) → IsPassOfLog (wal_of_appending a) pass
+          → KeepsLog (view_of_flight a.flight) (view_of_pass pass)
+          → ((e : Entry) × HasReserved (setup_of_session old) body (view_of_session old)
+          (view_of_pass pass) e) × GoesOnOpen old (ended_by pass)
+      given_up_session pass pass_is keeps = (
+        given_up (setup_of_session old) body (view_of_session old) a.flight (view_of_pass pass)
+            going.begun keeps,
+        ended_session pass pass_is keeps,
+      )
+
+  -- ---- a log is opened
+
+  pub opens : (setup : Setup) (disk : HostedDisk) (wal : Wal HostedDisk) (first : Pass)
+      (session : LogSession H) → HasNoCalls disk
+      → IsOpened hosted_tape hosted_moment hosted_faults setup disk wal first
+      → IsFirstOn wal first session
+      → OpensSession setup session
+  opens setup disk wal first session untouched opened begins = record {
+    disk = disk;
+    untouched = untouched;
+    first = first;
+    opened = subst (λ (w : Wal HostedDisk).
+        IsOpened hosted_tape hosted_moment hosted_faults setup disk w first) (sym begins.log)
+        opened;
+    begins = record {
+      log = refl;
+      pass = begins.pass;
+      helper = begins.helper;
+      kept = begins.kept;
+    };
+  }

@@ -1,0 +1,5 @@
+pub mod Promised
+pub mod Sessions
+pub mod Appended
+pub mod Opened
+pub mod Surviving

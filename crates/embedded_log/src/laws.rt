@@ -1,0 +1,37 @@
+//! What a program that links the log may count on, proved by functions that do nothing.
+
+ghost use Rattle.machine_state.specs.declared.setup.Setup.{Setup};
+ghost use Rattle.embedded_log.specs.Opened.{OpensSession};
+ghost use Rattle.embedded_log.specs.Sessions.{GoesOnOpen, IsSole};
+ghost use Rattle.embedded_log.specs.Surviving.{ToldRecordsSurvive};
+ghost use Rattle.embedded_log.specs.declared.session.LogSession.{LogSession};
+
+use hosted_disk::HostedDisk;
+use std::sync::atomic::Rule;
+use wal_log::numbers::calls_keep_numbers;
+use wal_log::shared_numbers::passes_share_numbers;
+use wal_log_laws::laws::{closed_logs_are_closed_on_their_disk, sealed_records_survive};
+use wal_rule::numbers::seats_keep_numbers;
+
+/// A record that a session appended, and below whose end all was promised to be durable from a
+/// moment on, is found in whatever a crash leaves of the disk's tape at that moment or a later one.
+/// A flush tells such a promise once the host has made as many calls: so from then on whatever a
+/// crash leaves of the host's disk has the record.
+pub fn told_records_survive<H: Rule>()
+    ensures { ToldRecordsSurvive H }
+{
+    closed_logs_are_closed_on_their_disk::<HostedDisk>();
+    sealed_records_survive::<HostedDisk>();
+}
+
+/// The first session is the only one until it splits another one off, since no call takes a number
+/// from its passes: so it may close the log.
+pub fn first_sessions_are_sole<H: Rule>()
+    ensures opened { (setup : Setup) (session : LogSession H) → OpensSession setup session
+        → IsSole session }
+    ensures kept { (old new : LogSession H) → GoesOnOpen old new → IsSole old → IsSole new }
+{
+    seats_keep_numbers();
+    calls_keep_numbers();
+    passes_share_numbers();
+}

@@ -1,0 +1,25 @@
+//! A log that a program links, which is not Rattle's: its calls try once and never wait, and the
+//! program makes the calls of the disk.
+//!
+//! `session` is what one thread calls with, and `shared` what all sessions share. A log is opened
+//! by `opening`, and its first session split by `splitting`. A record is appended by `appending`;
+//! `flushing` tells that it is durable. `closing` ends the log. `laws` says what all this comes to.
+#![tactic(auto)]
+
+mod appending;
+mod closing;
+mod flushing;
+mod laws;
+mod opening;
+mod session;
+mod shared;
+mod splitting;
+#[cfg(test)]
+mod tests;
+
+pub use appending::{Append, Appending};
+pub use flushing::FlushRefusal;
+pub use laws::{first_sessions_are_sole, told_records_survive};
+pub use opening::{OpenRefusal, open};
+pub use session::LogSession;
+pub use shared::{FlushBusy, SharedLog};
