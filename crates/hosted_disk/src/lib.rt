@@ -3,11 +3,12 @@
 //! them, and says how many it has made.
 //!
 //! `disk` is what the log calls, `calls` what the host has of it, and `progress` what tells
-//! everybody else how far the host has come.
+//! everybody else how far the host has come. `laws` says what a failed call of the host's leaves.
 #![tactic(auto)]
 
 mod calls;
 mod disk;
+mod laws;
 mod opening;
 mod progress;
 #[cfg(test)]
@@ -16,5 +17,6 @@ mod words;
 
 pub use calls::HostCalls;
 pub use disk::HostedDisk;
+pub use laws::failed_calls_leave_no_more;
 pub use opening::hosted_disk;
 pub use progress::HostProgress;
