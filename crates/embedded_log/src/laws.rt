@@ -15,8 +15,8 @@ use wal_rule::numbers::seats_keep_numbers;
 
 /// A record that a session appended, and below whose end all was promised to be durable from a
 /// moment on, is found in whatever a crash leaves of the disk's tape at that moment or a later one.
-/// A flush tells such a promise once the host has made as many calls: so from then on whatever a
-/// crash leaves of the host's disk has the record.
+/// The log was opened anew and closed, and no torn record passes its CRC in what is left. A flush
+/// tells such a promise once the host has said that it made as many calls.
 pub fn told_records_survive<H: Rule>()
     ensures { ToldRecordsSurvive H }
 {
