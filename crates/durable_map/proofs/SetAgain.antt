@@ -9,7 +9,10 @@ use Rattle.std.proofs.lemmas.List.Elements.{All-cons, All-head, All-nil}
 use Rattle.segment_disk.specs.declared.disk.Call.{Call}
 use Rattle.segment_disk.specs.DiskImage.{image_as_read}
 use Rattle.segment_disk.specs.Tape.{Tape, state_now}
+use Rattle.flush_core.specs.Calls.{with_calls}
 use Rattle.flush_core.specs.Pages.{HoldsNothing}
+use Rattle.flush_core.specs.Settled.{MakesCalls, settle_calls}
+use Rattle.flush_core.proofs.GrowingTapes.{with_calls-some}
 use Rattle.wal_types.specs.declared.answers.Sealed.{Sealed}
 use Rattle.wal_page.specs.Order.{Entry}
 use Rattle.wal_reader.specs.Pages.{pages_in}
@@ -22,7 +25,8 @@ use Rattle.wal_log.specs.declared.closing.Closed.{Closed}
 use Rattle.wal_rule.specs.declared.pass.Pass.{Pass}
 use Rattle.wal_log.specs.declared.wal.Wal.{Wal}
 use Rattle.wal_log.specs.Closing.{ClosesLog}
-use Rattle.wal_log.specs.Logs.{opening_of_log}
+use Rattle.wal_log.specs.Logs.{opening_of_log, table_of}
+use Rattle.wal_rule.specs.Tables.{began_of_table}
 use Rattle.reopened_log_laws.specs.FoundFirst.{AreFoundEntries}
 use Rattle.wal_log_laws.specs.Growing.{IsFrontOf}
 use Rattle.wal_log_laws.specs.History.{IsHandedIn, order_of}
@@ -130,6 +134,27 @@ module _ {D : Type 0} (tape : D → Option Tape) (moment faults : D → ℕ)
             (is.4.front ∙ ap (found_of setup.seg_size) (none_taken is.4.count [] refl)),
       )
 
+  -- what the disk tells that came back
+  abbrev began : Option Tape
+  began = began_of_table tape (table_of (log_under map))
+
+  settling : MakesCalls (tape opened.handed) began (moment opened.handed)
+      (opening_of_log (log_under map)).moment
+      (settle_calls setup.seg_size (opened.found).end.0 opened.reopened.made)
+  settling = opened.reopened.settled.calls
+
+  began_is : began ≡ Some (record at_first.0 {
+    calls = (at_first.0).calls ++ settling.calls;
+  })
+  began_is = settling.made.tape
+      ∙ ap (λ (o : Option Tape). with_calls o settling.calls)
+      (opened.only_read.uncalled.same_tape ∙ at_first.1)
+      ∙ with_calls-some at_first.0 settling.calls
+
+  behind : (t : Tape) × (tape closed.disk ≡ Some t)
+  behind = some_told (tape closed.disk) (subst (λ (d : D). IsSome (tape d)) closes.disk_is
+      (((closes.closes).of_log).told (subst (λ (o : Option Tape). IsSome o) (sym began_is) refl)))
+
   abbrev own : List Entry
   own = order_of tape moment faults (log_under map) last.pass closed closes
 
@@ -208,5 +233,7 @@ module _ {D : Type 0} (tape : D → Option Tape) (moment faults : D → ℕ)
     closed = closed;
     closes = closes;
     opened = reopened;
-    found = λ now told none_torn. found now told none_torn ∙ is;
+    now = behind.0;
+    told = behind.1;
+    found = λ none_torn. found behind.0 behind.1 none_torn ∙ is;
   }

@@ -13,8 +13,8 @@ use Rattle.durable_map.specs.Stores.{log_under, map_held}
 use Rattle.durable_map.specs.declared.part.MapPart.{MapPart}
 use Rattle.durable_map.specs.declared.store.DurableMap.{DurableMap}
 
--- a map was closed, and opened on the disk that came back. If this told a tape then, as whose disk
--- is read no torn record passes its CRC, the key has the value there
+-- a map was closed, and opened on the disk that came back, which told this tape then. If no torn
+-- record passes its CRC as the disk is read, the key has the value there
 pub record FindsSet {D : Type 0} (tape : D → Option Tape) (moment faults : D → ℕ) (setup : Setup)
     (key value : List ℕ) (again : DurableMap D) : Type 0 where
   pub map : DurableMap D
@@ -22,7 +22,9 @@ pub record FindsSet {D : Type 0} (tape : D → Option Tape) (moment faults : D �
   pub closed : Closed D
   pub closes : ClosesLog tape moment faults (log_under map) last.pass closed
   pub opened : OpensMap tape moment faults setup closed.disk again
-  pub found : (now : Tape) → tape closed.disk ≡ Some now
-      → NoTornPass setup.seg_size (pages_in setup.seg_size (image_as_read (state_now now)))
+  pub now : Tape
+  pub told : tape closed.disk ≡ Some now
+  pub found :
+      NoTornPass setup.seg_size (pages_in setup.seg_size (image_as_read (state_now now)))
       (order_of tape moment faults (log_under map) last.pass closed closes)
       → map_held again key ≡ Some value
