@@ -10,7 +10,7 @@ use Rattle.waldump_text.specs.Put.{joined}
 use Rattle.waldump_text.specs.declared.putting.SinkFault.{SinkFault}
 use Rattle.cluster_listing.specs.Form.{record_text}
 use Rattle.cluster_listing.specs.Listing.{PutAll, PutFront}
-use Rattle.cluster_listing.specs.Tail.{IsTail, PutsKept, kept_cut, kept_hidden, kept_put, is_shown, last_of, tail_text, texts_of}
+use Rattle.cluster_listing.specs.Tail.{IsTail, PutsKept, kept_cut, kept_hidden, kept_put, is_shown, last_so_many, tail_text, texts_of}
 use Rattle.cluster_listing.specs.Walk.{HasWalkCause, IsWalk}
 use Rattle.cluster_listing.specs.declared.form.Form.{Form}
 use Rattle.cluster_listing.specs.declared.taking.TakeErr.{TakeErr}
@@ -21,18 +21,18 @@ use Rattle.cluster_listing.specs.declared.walking.Walked.{Walked}
 
 module _ {X : Type 0} where
   -- no more than so many are all kept
-  pub last_of-few : (n : ℕ) (xs : List X) → length xs ≤ n → last_of n xs ≡ xs
-  last_of-few n xs few = let none : length xs - n ≡ 0 = omega arith in ap (λ k. drop k xs) none
+  pub last_so_many-few : (n : ℕ) (xs : List X) → length xs ≤ n → last_so_many n xs ≡ xs
+  last_so_many-few n xs few = let none : length xs - n ≡ 0 = omega arith in ap (λ k. drop k xs) none
 
   -- of more than so many the first may go
-  pub last_of-shorter : (n : ℕ) (xs : List X) → n < length xs → last_of n (drop 1 xs) ≡ last_of n xs
-  last_of-shorter n xs more =
+  pub last_so_many-shorter : (n : ℕ) (xs : List X) → n < length xs → last_so_many n (drop 1 xs) ≡ last_so_many n xs
+  last_so_many-shorter n xs more =
       let count : 1 + (length (drop 1 xs) - n) ≡ length xs - n = omega (arith, length-drop 1 xs) in
       drop-drop (length (drop 1 xs) - n) 1 xs ∙ ap (λ k. drop k xs) count
 
   -- the last of the last and more is the last of all
-  pub last_of-more : (n : ℕ) (xs ys : List X) → last_of n (last_of n xs ++ ys) ≡ last_of n (xs ++ ys)
-  last_of-more n xs ys =
+  pub last_so_many-more : (n : ℕ) (xs ys : List X) → last_so_many n (last_so_many n xs ++ ys) ≡ last_so_many n (xs ++ ys)
+  last_so_many-more n xs ys =
       let k : ℕ = length xs - n in
       let both : drop k xs ++ ys ≡ drop k (xs ++ ys) = sym (drop-append-le k xs ys (omega arith)) in
       let size : length (drop k xs ++ ys) ≡ (length xs - k) + length ys = length-append (drop k xs) ys ∙ ap (λ m. m + length ys) (length-drop k xs) in
@@ -41,31 +41,31 @@ module _ {X : Type 0} where
       ∙ drop-drop (length (drop k xs ++ ys) - n) k (xs ++ ys)
       ∙ ap (λ m. drop m (xs ++ ys)) count
 
-pub last_of-none : {X : Type 0} (n : ℕ) → last_of {X = X} n [] ≡ []
-last_of-none n = drop_of_length-le [] (omega arith)
+pub last_so_many-none : {X : Type 0} (n : ℕ) → last_so_many {X = X} n [] ≡ []
+last_so_many-none n = drop_of_length-le [] (omega arith)
 
 -- what was kept from nothing on
-pub kept_from_none : (form : Form) (most : ℕ) (first lines : List (List ℕ)) (records : List Listed) → first ≡ [] → lines ≡ last_of most (first ++ texts_of form records) → joined lines ≡ tail_text form most records
-kept_from_none form most first lines records none is = ap joined (is ∙ ap (λ (fs : List (List ℕ)). last_of most (fs ++ texts_of form records)) none)
+pub kept_from_none : (form : Form) (most : ℕ) (first lines : List (List ℕ)) (records : List Listed) → first ≡ [] → lines ≡ last_so_many most (first ++ texts_of form records) → joined lines ≡ tail_text form most records
+kept_from_none form most first lines records none is = ap joined (is ∙ ap (λ (fs : List (List ℕ)). last_so_many most (fs ++ texts_of form records)) none)
 
 -- and at first it is nothing
-pub kept_at_first : (form : Form) (most : ℕ) (first : List (List ℕ)) → first ≡ [] → first ≡ last_of most (first ++ texts_of form [])
-kept_at_first form most first none = none ∙ sym (last_of-none most) ∙ ap (λ (fs : List (List ℕ)). last_of most (fs ++ [])) (sym none)
+pub kept_at_first : (form : Form) (most : ℕ) (first : List (List ℕ)) → first ≡ [] → first ≡ last_so_many most (first ++ texts_of form [])
+kept_at_first form most first none = none ∙ sym (last_so_many-none most) ∙ ap (λ (fs : List (List ℕ)). last_so_many most (fs ++ [])) (sym none)
 
-pub last_of-map : {X Y : Type 0} (f : X → Y) (n : ℕ) (xs : List X) → map f (last_of n xs) ≡ last_of n (map f xs)
-last_of-map f n xs =
+pub last_so_many-map : {X Y : Type 0} (f : X → Y) (n : ℕ) (xs : List X) → map f (last_so_many n xs) ≡ last_so_many n (map f xs)
+last_so_many-map f n xs =
     sym (drop-map f (length xs - n) xs) ∙ ap (λ k. drop (k - n) (map f xs)) (sym (length-map xs f))
 
 -- one more text, and the last are kept
-pub kept_more : {L : Type 0} (text_of : L → List ℕ) (form : Form) (most : ℕ) (first old new : List L) (line : L) (before : List Listed) (r : Listed) → new ≡ last_of most (old ++ line ∷ []) → text_of line ≡ record_text form r
-    → map text_of old ≡ last_of most (map text_of first ++ texts_of form before) → map text_of new ≡ last_of most (map text_of first ++ texts_of form (before ++ r ∷ []))
+pub kept_more : {L : Type 0} (text_of : L → List ℕ) (form : Form) (most : ℕ) (first old new : List L) (line : L) (before : List Listed) (r : Listed) → new ≡ last_so_many most (old ++ line ∷ []) → text_of line ≡ record_text form r
+    → map text_of old ≡ last_so_many most (map text_of first ++ texts_of form before) → map text_of new ≡ last_so_many most (map text_of first ++ texts_of form (before ++ r ∷ []))
 kept_more text_of form most first old new line before r is text was =
     let past = map text_of first ++ texts_of form before in
     ap (map text_of) is
-    ∙ last_of-map text_of most (old ++ line ∷ [])
-    ∙ ap (last_of most) (map-append text_of old (line ∷ []) ∙ ap (λ (ts : List (List ℕ)). ts ++ text_of line ∷ []) was ∙ ap (λ (t : List ℕ). last_of most past ++ t ∷ []) text)
-    ∙ last_of-more most past (record_text form r ∷ [])
-    ∙ ap (last_of most) (append_assoc (map text_of first) (texts_of form before) (record_text form r ∷ []) ∙ ap (λ (ts : List (List ℕ)). map text_of first ++ ts) (sym (map-append (record_text form) before (r ∷ []))))
+    ∙ last_so_many-map text_of most (old ++ line ∷ [])
+    ∙ ap (last_so_many most) (map-append text_of old (line ∷ []) ∙ ap (λ (ts : List (List ℕ)). ts ++ text_of line ∷ []) was ∙ ap (λ (t : List ℕ). last_so_many most past ++ t ∷ []) text)
+    ∙ last_so_many-more most past (record_text form r ∷ [])
+    ∙ ap (last_so_many most) (append_assoc (map text_of first) (texts_of form before) (record_text form r ∷ []) ∙ ap (λ (ts : List (List ℕ)). map text_of first ++ ts) (sym (map-append (record_text form) before (r ∷ []))))
 
 module _ (size : ℕ) (by : Filter) (form : Form) (most : ℕ) (t : Tape) (old new : Option (List ℕ)) (before after : ℕ) (text : List ℕ) (Took : List Listed → Type 0) (Cut : TakeErr → List Listed → Type 0)
     (kept : (records : List Listed) → Took records → text ≡ tail_text form most records) (cut : (e : TakeErr) (records : List Listed) → Cut e records → e ≡ taking.Memory) where

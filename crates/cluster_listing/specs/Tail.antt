@@ -17,8 +17,8 @@ use Rattle.cluster_listing.specs.declared.walking.ListErr.TheVariants.{Read, Tak
 use Rattle.cluster_listing.specs.declared.walking.Walked.{Walked}
 
 -- the last n of a list
-abbrev pub last_of : {X : Type 0} → ℕ → List X → List X
-last_of n xs = drop (length xs - n) xs
+abbrev pub last_so_many : {X : Type 0} → ℕ → List X → List X
+last_so_many n xs = drop (length xs - n) xs
 
 -- the texts of records, one for each
 abbrev pub texts_of : Form → List Listed → List (List ℕ)
@@ -30,11 +30,12 @@ pub record KeepsLast (first now : Tail) (records : List Listed) : Type 0 where
   pub most : now.most ≡ first.most
   pub lines :
       map (λ l. l.items) now.lines.items
-      ≡ last_of first.most (map (λ l. l.items) first.lines.items ++ texts_of first.form records)
+      ≡ last_so_many first.most
+      (map (λ l. l.items) first.lines.items ++ texts_of first.form records)
 
 -- the texts of the last of records
 abbrev pub tail_text : Form → ℕ → List Listed → List ℕ
-tail_text form most records = joined (last_of most (texts_of form records))
+tail_text form most records = joined (last_so_many most (texts_of form records))
 
 -- whether what was kept is put where a walk ended so
 abbrev pub is_shown : Result Walked ListErr → Bool

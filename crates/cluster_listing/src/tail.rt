@@ -3,7 +3,7 @@
 ghost use Rattle.std.specs.Prelude.{◌≡◌, IfSome, map};
 ghost use Rattle.segment_disk.specs.Tape.{IsUncalled};
 ghost use Rattle.waldump_text.specs.Put.{Puts, joined};
-ghost use Rattle.cluster_listing.specs.Tail.{IsTail, PutsKept, is_shown, last_of};
+ghost use Rattle.cluster_listing.specs.Tail.{IsTail, PutsKept, is_shown, last_so_many};
 ghost use Rattle.cluster_listing.specs.Walk.{HasWalkCause};
 
 use crate::form::Form;
@@ -48,7 +48,7 @@ impl TakesRecords for Tail {
 
 // Keeps the last lines alone.
 fn keep_last(lines: &mut VecDeque<Vec<u8>>, most: usize)
-    ensures { lines.new.items ≡ last_of most lines.old.items }
+    ensures { lines.new.items ≡ last_so_many most lines.old.items }
 {
     while lines.len() > most {
         lines.pop_front();

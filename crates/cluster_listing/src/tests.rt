@@ -93,8 +93,8 @@ fn an_update_has_its_texts(rt: HostRuntime) -> Result<(), Fail> {
           {\"rmgr\":\"Heap\",\"rec_len\":62,\"total_len\":66,\"xid\":700,\"lsn\":\"0/01000028\",\
           \"prev\":\"0/00FFFFD8\",\"desc\":\"HOT_UPDATE\",\"main_len\":3,\"main\":\"030303\",\
           \"blocks\":[{\"id\":0,\"spc\":1663,\"db\":5,\"rel\":16384,\"fork\":\"vm\",\"blk\":7,\
-          \"data_len\":2,\"image\":{\"apply\":true,\"hole_offset\":100,\"hole_len\":8188,\"len\":4}}\
-          ]}\n"
+          \"data_len\":2,\"image\":{\"apply\":true,\"hole_offset\":100,\"hole_len\":8188,\
+          \"len\":4}}]}\n"
             .as_slice()
     );
     Ok(())
