@@ -22,7 +22,7 @@ use std::alloc::AllocError;
 use std::env;
 use std::process::ExitCode;
 use timeline_files::TimelineFiles;
-use wal_types::Lsn;
+use wal_types::{Lsn, Xid};
 use waldump_filter::Filter;
 use words::{ListingAsked, words_ask};
 
@@ -115,6 +115,9 @@ fn filter_of(asked: &ListingAsked<'_>, timeline: &Timeline, geometry: Geometry) 
     if let Some(end) = asked.end {
         filter.end = Some(end.behind(geometry)?);
     }
+    filter.rmid = asked.rmid;
+    filter.xid = asked.xid.map(Xid);
+    filter.fullpage = asked.fullpage;
     filter.limit = asked.limit;
     Some(filter)
 }

@@ -4,6 +4,7 @@ use crate::bound::Bound;
 use clap::error::ErrorKind;
 use clap::{Arg, ArgAction, ArgMatches, Command, Error, value_parser};
 use std::alloc::{AllocError, Global};
+use waldump_filter::own_manager;
 
 // What is expected of a word for a place.
 const PLACES: &str = "an address as 0/1000028, or a segment as 000000010000000000000001";
@@ -17,6 +18,11 @@ pub struct ListingAsked<'a> {
     pub timeline: Option<u32>,
     pub start: Option<Bound>,
     pub end: Option<Bound>,
+    /// The resource manager, if not all are listed.
+    pub rmid: Option<u8>,
+    pub xid: Option<u32>,
+    /// Whether only records with a page's image are listed.
+    pub fullpage: bool,
     /// How many records are listed at most.
     pub limit: Option<u64>,
     /// How many of the last records are printed, if not all are.
@@ -42,6 +48,7 @@ fn declared<'a>(alloc: Global) -> Result<Command<'a>, AllocError> {
     let command = command.arg(timeline.help("The timeline (the highest there is)"))?;
     let limit = valued(alloc, "limit", 'n', "N").value_parser(value_parser!(u64));
     let command = command.arg(limit.help("How many records to list"))?;
+    let command = with_filters(alloc, command)?;
     let tail = valued(alloc, "tail", 'l', "N").value_parser(value_parser!(u32));
     let command = command.arg(tail.help("How many of the last records to print"))?;
     let quiet = switch(alloc, "quiet", 'q').help("List no record, and tell how the log ends");
@@ -49,6 +56,15 @@ fn declared<'a>(alloc: Global) -> Result<Command<'a>, AllocError> {
     let json = switch(alloc, "json", 'j').help("Print each record as a JSON object on a line");
     let command = command.arg(json)?;
     command.arg(switch(alloc, "data", 'd').help("Print all main data, and not its first 64 bytes"))
+}
+
+// The options that say which records are listed.
+fn with_filters<'a>(alloc: Global, command: Command<'a>) -> Result<Command<'a>, AllocError> {
+    let rmgr = valued(alloc, "rmgr", 'r', "RMGR").help("Only records of this resource manager");
+    let command = command.arg(rmgr)?;
+    let xid = valued(alloc, "xid", 'x', "XID").value_parser(value_parser!(u32));
+    let command = command.arg(xid.help("Only records of this transaction"))?;
+    command.arg(switch(alloc, "fullpage", 'w').help("Only records with a page's image"))
 }
 
 // An option without a value.
@@ -76,6 +92,9 @@ pub fn words_ask<'a>(alloc: Global, words: &'a [String]) -> Result<ListingAsked<
         timeline: matches.get_one::<u32>("timeline"),
         start: bound(alloc, &matches, "start")?,
         end: bound(alloc, &matches, "end")?,
+        rmid: manager(alloc, &matches)?,
+        xid: matches.get_one::<u32>("xid"),
+        fullpage: matches.get_flag("fullpage"),
         limit: matches.get_one::<u64>("limit"),
         tail: matches.get_one::<u32>("tail"),
         quiet: matches.get_flag("quiet"),
@@ -90,13 +109,21 @@ fn bound(alloc: Global, matches: &ArgMatches<'_>, option: &str) -> Result<Option
     };
     match Bound::of_word(word) {
         Some(bound) => Ok(Some(bound)),
-        None => Err(no_bound(alloc, option, word)?),
+        None => Err(bad_word(alloc, option, word, PLACES)?),
     }
 }
 
-fn no_bound(alloc: Global, option: &str, word: &str) -> Result<Error, AllocError> {
-    let text = format!(in alloc;
-        "invalid value '{word}' for '--{option} <LSN>': expected {PLACES}"
-    )?;
+fn manager(alloc: Global, matches: &ArgMatches<'_>) -> Result<Option<u8>, Error> {
+    let Some(word) = matches.get_str("rmgr") else {
+        return Ok(None);
+    };
+    match own_manager(word) {
+        Some(rmid) => Ok(Some(rmid)),
+        None => Err(bad_word(alloc, "rmgr", word, "a resource manager as Heap2")?),
+    }
+}
+
+fn bad_word(alloc: Global, option: &str, word: &str, expected: &str) -> Result<Error, AllocError> {
+    let text = format!(in alloc; "invalid value '{word}' for '--{option}': expected {expected}")?;
     declared(alloc)?.error(ErrorKind::ValueValidation, text.as_str())
 }
