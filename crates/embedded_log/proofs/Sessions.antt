@@ -1,18 +1,21 @@
 -- A session stays open, and a record that it appends stays so, from call to call.
 use Rattle.std.specs.Prelude.{Ok, Err}
-use Rattle.std.proofs.Common.{◌≡◌, refl, sym, subst}
+use Rattle.std.proofs.Common.{◌≡◌, ℕ, inl, refl, sym, subst}
 use Rattle.wal_spelling.specs.Spelling.{Assembled}
 use Rattle.wal_page.specs.Order.{Entry}
 use Rattle.wal_types.specs.declared.answers.Receipt.{Receipt}
-use Rattle.hosted_disk.specs.Hosted.{HasNoCalls, hosted_faults, hosted_moment, hosted_tape}
+use Rattle.hosted_disk.specs.Hosted.{HasBothEnds, HasNoCalls, hosted_faults, hosted_moment, hosted_tape}
+use Rattle.hosted_disk.specs.declared.calls.HostCalls.{HostCalls}
 use Rattle.hosted_disk.specs.declared.disk.HostedDisk.{HostedDisk}
 use Rattle.machine_state.specs.declared.setup.Setup.{Setup}
 use Rattle.wal_rule.specs.declared.pass.Pass.{Pass}
+use Rattle.wal_rule.specs.Downs.{KnowsDown}
 use Rattle.wal_rule.specs.Passes.{view_of_pass}
 use Rattle.wal_log.specs.declared.beginning.TryErr.{TryErr}
 use Rattle.wal_log.specs.declared.in_flight.Inflight.{Inflight}
 use Rattle.wal_log.specs.declared.wal.Wal.{Wal}
 use Rattle.wal_log.specs.Beginning.{TellsBeginTry}
+use Rattle.wal_log.specs.Downs.{MeetsDown}
 use Rattle.wal_log.specs.Flights.{AnswersTryBegin, Finishes, IsInFlightOf, KeepsLog, view_of_flight}
 use Rattle.wal_log.specs.Inserting.{HasReserved}
 use Rattle.wal_log.specs.Logs.{IsPassOfLog}
@@ -23,7 +26,7 @@ use Rattle.wal_log.proofs.Keeping.{further_pass, same_pass}
 use Rattle.wal_log_laws.specs.Growing.{GrowsTo}
 use Rattle.wal_log_laws.proofs.Grown.{begin_grows, grows_itself}
 use Rattle.embedded_log.specs.Appended.{IsAppended, IsBegunBy, IsGoing, wal_of_appending}
-use Rattle.embedded_log.specs.Opened.{IsFirstOn, OpensSession}
+use Rattle.embedded_log.specs.Opened.{IsFirstOn, OpensWithHost}
 use Rattle.embedded_log.specs.Sessions.{GoesOnOpen, IsOpenSession, setup_of_session, view_of_helper, view_of_session, wal_of_session}
 use Rattle.embedded_log.specs.declared.appending.Appending.{Appending}
 use Rattle.embedded_log.specs.declared.session.LogSession.{LogSession}
@@ -167,32 +170,38 @@ module _ {H : Type 0} where
 
       pub given_up_session : (pass : Pass) → IsPassOfLog (wal_of_appending a) pass
           → KeepsLog (view_of_flight a.flight) (view_of_pass pass)
+          → (faults : ℕ) → MeetsDown faults (view_of_flight a.flight) (view_of_pass pass)
           → ((e : Entry) × HasReserved (setup_of_session old) body (view_of_session old)
-          (view_of_pass pass) e) × GoesOnOpen old (ended_by pass)
-      given_up_session pass pass_is keeps = (
+          (view_of_pass pass) e) × ((faults : ℕ) × KnowsDown faults (view_of_pass pass))
+          × GoesOnOpen old (ended_by pass)
+      given_up_session pass pass_is keeps faults down = (
         given_up (setup_of_session old) body (view_of_session old) a.flight (view_of_pass pass)
             going.begun keeps,
+        (faults, (down.some, inl down.met)),
         ended_session pass pass_is keeps,
       )
 
   -- ---- a log is opened
 
   pub opens : (setup : Setup) (disk : HostedDisk) (wal : Wal HostedDisk) (first : Pass)
-      (session : LogSession H) → HasNoCalls disk
+      (session : LogSession H) (calls : HostCalls H) → HasNoCalls disk
       → IsOpened hosted_tape hosted_moment hosted_faults setup disk wal first
-      → IsFirstOn wal first session
-      → OpensSession setup session
-  opens setup disk wal first session untouched opened begins = record {
-    disk = disk;
-    untouched = untouched;
-    first = first;
-    opened = subst (λ (w : Wal HostedDisk).
-        IsOpened hosted_tape hosted_moment hosted_faults setup disk w first) (sym begins.log)
-        opened;
-    begins = record {
-      log = refl;
-      pass = begins.pass;
-      helper = begins.helper;
-      kept = begins.kept;
+      → IsFirstOn wal first session → HasBothEnds disk calls
+      → OpensWithHost setup session calls
+  opens setup disk wal first session calls untouched opened begins ends = record {
+    opens = record {
+      disk = disk;
+      untouched = untouched;
+      first = first;
+      opened = subst (λ (w : Wal HostedDisk).
+          IsOpened hosted_tape hosted_moment hosted_faults setup disk w first) (sym begins.log)
+          opened;
+      begins = record {
+        log = refl;
+        pass = begins.pass;
+        helper = begins.helper;
+        kept = begins.kept;
+      };
     };
+    ends = ends;
   }

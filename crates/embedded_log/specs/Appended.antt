@@ -1,5 +1,5 @@
 -- What an append comes to, and a record in flight between two calls.
-use Rattle.std.specs.Prelude.{◌≡◌, IfSome}
+use Rattle.std.specs.Prelude.{◌≡◌, ℕ, IfSome}
 use mathlib.Core.Option.{some}
 use Rattle.hosted_disk.specs.declared.disk.HostedDisk.{HostedDisk}
 use Rattle.wal_spelling.specs.Spelling.{Assembled}
@@ -7,6 +7,7 @@ use Rattle.wal_page.specs.Order.{Entry, finish_of, start_of}
 use Rattle.wal_types.specs.declared.answers.Receipt.{Receipt}
 use Rattle.machine_state.specs.declared.setup.Setup.{Setup}
 use Rattle.machine_state.specs.Views.{View}
+use Rattle.wal_rule.specs.Downs.{KnowsDown}
 use Rattle.wal_rule.specs.Passes.{view_of_pass}
 use Rattle.wal_log.specs.declared.in_flight.Inflight.{Inflight}
 use Rattle.wal_log.specs.declared.wal.Wal.{Wal}
@@ -73,4 +74,5 @@ module _ {H : Type 0} where
       × GoesOnOpen old new
   AnswersAppend body old (Down new) =
       ((e : Entry) × HasReserved (setup_of_session old) body (view_of_session old)
-      (view_of_session new) e) × GoesOnOpen old new
+      (view_of_session new) e)
+      × ((faults : ℕ) × KnowsDown faults (view_of_session new)) × GoesOnOpen old new

@@ -1,6 +1,7 @@
 -- How a log begins and ends, by its first session and its last one.
 use Rattle.std.specs.Prelude.{◌≡◌, ◌<◌}
-use Rattle.hosted_disk.specs.Hosted.{HasNoCalls, hosted_faults, hosted_moment, hosted_tape}
+use Rattle.hosted_disk.specs.Hosted.{HasBothEnds, HasNoCalls, hosted_faults, hosted_moment, hosted_tape}
+use Rattle.hosted_disk.specs.declared.calls.HostCalls.{HostCalls}
 use Rattle.hosted_disk.specs.declared.disk.HostedDisk.{HostedDisk}
 use Rattle.machine_state.specs.Moves.{after_join, after_split, split_off}
 use Rattle.machine_state.specs.declared.setup.Setup.{Setup}
@@ -37,6 +38,12 @@ module _ {H : Type 0} where
     pub opened : IsOpened hosted_tape hosted_moment hosted_faults setup disk
         (wal_of_session session) first
     pub begins : IsFirstOn (wal_of_session session) first session
+
+  -- .. and what the host has of it: the other end of that disk's queue
+  pub record OpensWithHost (setup : Setup) (session : LogSession H) (calls : HostCalls H) : Type 0
+    where
+      pub opens : OpensSession setup session
+      pub ends : HasBothEnds opens.disk calls
 
   -- the log was closed by a pass that took the session's own and its helper in
   pub record ClosesSession (session : LogSession H) (closed : Closed HostedDisk) : Type 0 where

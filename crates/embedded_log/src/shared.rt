@@ -82,7 +82,7 @@ impl<H: Rule> SharedLog<H> {
         answer
     }
 
-    // The same where nobody else is at a flush.
+    // One try of a flush, while nobody else is at one.
     fn flush_alone(&self, pass: &mut Pass, upto: Lsn) -> Result<Hard, FlushStop>
         requires { IsPassOfLog self.now.wal pass.old }
         ensures tries { TriesToFlush upto.0 (view_of_pass pass.old) result

@@ -34,7 +34,7 @@ impl<H: Rule> HostProgress<H> {
         self.words.failed.load(Ordering::SeqCst) != 0
     }
 
-    /// The same for somebody else.
+    /// Another one, for somebody else.
     pub fn share(&self) -> Result<HostProgress<H>, Memory> {
         Ok(HostProgress {
             made: Arc::try_clone(&self.made)?,

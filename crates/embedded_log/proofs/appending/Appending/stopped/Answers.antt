@@ -7,6 +7,7 @@ pub returns-in-Ok : goal.returns-in-Ok
 returns-in-Ok g c = λ body old going.
     let up = rw c.deref.ensures at c.in-Ok.ensures.gives_up in
     given_up_session body old c.args.self going c.in-Ok.pass up.pass_is up.keeps
+    up.faults up.down
 
 pub returns-in-Err : goal.returns-in-Err
 returns-in-Err g c = λ body old going.
