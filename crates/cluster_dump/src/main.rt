@@ -83,12 +83,13 @@ fn list_folder(rt: HostRuntime, asked: &ListingAsked<'_>) -> Result<u8, FolderEr
     let Listing { walked, mut out } = listing;
     let mut ending = Ending::of(walked);
     if let Ending::Clean { at } = ending {
-        if misses(&mut disk, &timeline, geometry, at)? {
+        let is_asked = filter.end.is_some_and(|end| end.0 <= at.0);
+        if !is_asked && misses(&mut disk, &timeline, geometry, at)? {
             ending = Ending::NoSegment { at };
         }
     }
     // What is kept back is written now.
-    if out.flush().is_err() && ending.status() == 0 {
+    if out.flush().is_err() {
         ending = Ending::SinkFault;
     }
     let mut err = StandardSink::new(alloc, rt.stderr())?;

@@ -58,7 +58,7 @@ fn update(alloc: Global) -> Result<Listed, AllocError>
         content: Bytes::of(vec![in alloc; 1; 2]?),
         image: Some(Image {
             apply: true,
-            hole_offset: 100,
+            hole_offset: 4,
             hole_len: 8188,
             bytes: Bytes::of(vec![in alloc; 0; 4]?),
         }),
@@ -66,7 +66,7 @@ fn update(alloc: Global) -> Result<Listed, AllocError>
     Ok(Listed {
         start: Lsn(0x100_0028),
         prev: Lsn(0xFF_FFD8),
-        total: 66,
+        total: 60,
         value: Record {
             xid: Xid(700),
             rmid: 10,
@@ -88,12 +88,12 @@ fn an_update_has_its_texts(rt: HostRuntime) -> Result<(), Fail> {
     push_record(&mut text, Form::Json { whole: false }, &r)?;
     assert_eq!(rt;
         text.as_slice(),
-        b"rmgr: Heap        len (rec/tot):     62/    66, tx:        700, lsn: 0/01000028, prev \
+        b"rmgr: Heap        len (rec/tot):     56/    60, tx:        700, lsn: 0/01000028, prev \
           0/00FFFFD8, desc: HOT_UPDATE data 030303, blkref #0: rel 1663/5/16384 fork vm blk 7 FPW\n\
-          {\"rmgr\":\"Heap\",\"rec_len\":62,\"total_len\":66,\"xid\":700,\"lsn\":\"0/01000028\",\
+          {\"rmgr\":\"Heap\",\"rec_len\":56,\"total_len\":60,\"xid\":700,\"lsn\":\"0/01000028\",\
           \"prev\":\"0/00FFFFD8\",\"desc\":\"HOT_UPDATE\",\"main_len\":3,\"main\":\"030303\",\
           \"blocks\":[{\"id\":0,\"spc\":1663,\"db\":5,\"rel\":16384,\"fork\":\"vm\",\"blk\":7,\
-          \"data_len\":2,\"image\":{\"apply\":true,\"hole_offset\":100,\"hole_len\":8188,\
+          \"data_len\":2,\"image\":{\"apply\":true,\"hole_offset\":4,\"hole_len\":8188,\
           \"len\":4}}]}\n"
             .as_slice()
     );
