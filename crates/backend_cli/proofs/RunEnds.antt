@@ -3,7 +3,7 @@ use Rattle.std.proofs.Common.{◌≡◌, ℕ, Bool, true, false, List, ◌++◌,
 use Rattle.std.specs.Prelude.{is_ok, not}
 use mathlib.Core.Option.{Option as Maybe, none, some}
 use Rattle.segment_disk.specs.Cause.{Rose, RoseByOne}
-use Rattle.wal_rule.specs.Slotted.{as_machine_has}
+use Rattle.flush_core.specs.Calls.{maybe}
 use Rattle.waldump_text.specs.Put.{Puts}
 use Rattle.waldump_text.specs.declared.putting.SinkFault.{SinkFault}
 use Rattle.run_laws.specs.Told.{IsFullAnswer, IsRefused, SomeTold}
@@ -58,7 +58,7 @@ pub record CountsFaults (before after : ℕ) (lists : List (List Told)) (fault :
 
 pub ends_opened : (outside : Outside) (lists : List (List Told)) (down : Option ℕ) (failed : Bool)
     (outcome : Outcome) → Concludes down lists failed outcome
-    → CountsFaults outside.disk_before outside.disk_after lists (as_machine_has down)
+    → CountsFaults outside.disk_before outside.disk_after lists (maybe down)
     → (failed ≡ false → outside.sink_after ≡ outside.sink_before)
     → (failed ≡ true → Rose outside.sink_before outside.sink_after)
     → EndsOpened outside lists outcome

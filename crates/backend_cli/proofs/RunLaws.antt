@@ -10,7 +10,8 @@ use Rattle.machine_state.specs.Words.{Opening, found_end, found_position}
 use Rattle.machine_laws.specs.WholeOrders.{LiesBehind}
 use Rattle.wal_rule.specs.Closing.{ClosesWith}
 use Rattle.wal_rule.specs.Passes.{view_of_pass}
-use Rattle.wal_rule.specs.Slotted.{as_machine_has, slot_disk}
+use Rattle.wal_rule.specs.Slotted.{slot_disk}
+use Rattle.flush_core.specs.Calls.{maybe}
 use Rattle.wal_rule.specs.Tables.{began_of_table}
 use Rattle.wal_log.specs.Logs.{opening_of_log, table_of}
 use Rattle.wal_log.specs.declared.closing.Closed.{Closed}
@@ -165,13 +166,13 @@ module _ {D : Type 0} (tape : D → Option Tape) (moment faults : D → ℕ) (wa
       suited front lies)
 
   faults_counted : CountsFaults opening.faults (faults closed.disk) lists
-      (as_machine_has closed.down)
+      (maybe closed.down)
   faults_counted =
       let writer = (played.closes).writer in
       let position = (played.closes).position in
       let v = view_of_pass played.pass in
       subst (λ (d : D). CountsFaults opening.faults (faults d) (lists_of backends)
-      (as_machine_has closed.down)) (played.closes).disk_is
+      (maybe closed.down)) (played.closes).disk_is
       (subst (CountsFaults opening.faults (faults (slot_disk writer)) (lists_of backends))
       (sym (played.closes).down_is)
       (record {
@@ -197,7 +198,7 @@ module _ {D : Type 0} (tape : D → Option Tape) (moment faults : D → ℕ) (wa
     holds_since goes_on outcome from used list text concluded =
         let all = text ++ printed_text list backends concluded.summary in
         let counts = subst (λ (n : ℕ). CountsFaults n (faults closed.disk) (lists_of backends)
-        (as_machine_has closed.down)) faults_then faults_counted in
+        (maybe closed.down)) faults_then faults_counted in
         record {
           machine = assured.machine;
           told = assured.told;

@@ -56,10 +56,10 @@ fn machine_line(line: Line<'static>) -> MachineLine
     ensures { result ≡ machine_line_of line.entry.action }
 {
     match line.action {
-        Action::Insert(body) => MachineLine::Insert(body),
-        Action::Commit(body) => MachineLine::Commit(body),
+        Action::Insert(body) => MachineLine::Insert(body.into_body()),
+        Action::Commit(body) => MachineLine::Commit(body.into_body()),
         Action::Flush => MachineLine::Flush,
-        Action::CommitAsync(body) => MachineLine::Commit(body),
+        Action::CommitAsync(body) => MachineLine::Commit(body.into_body()),
         Action::WriteBehind => MachineLine::Flush,
         Action::Switch(_) => MachineLine::Flush,
     }

@@ -19,3 +19,4 @@ pub mod SettledTapes
 pub mod SettleEnds
 pub mod SettledLogs
 pub mod PlanLaws
+pub mod NextCalls

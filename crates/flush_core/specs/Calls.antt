@@ -1,8 +1,10 @@
 -- The calls that a writer makes of its disk.
-use Rattle.std.specs.Prelude.{◌≡◌, ℕ, zero, suc, ◌+◌, ◌-◌, ◌*◌, ◌/◌, ◌%◌, max, min, Bool, false, not, ◌&&◌, List, [], ◌∷◌, ◌++◌, length, Option, ◌==◌, nat_lt, if◌then◌else◌}
+use Rattle.std.specs.Prelude.{◌≡◌, ℕ, zero, suc, ◌+◌, ◌-◌, ◌*◌, ◌/◌, ◌%◌, max, min, Bool, true, false, not, ◌&&◌, List, [], ◌∷◌, ◌++◌, length, Option, Some, None, ◌==◌, nat_lt, if◌then◌else◌}
 use mathlib.Core.Option.{none, some}
 use Rattle.byte_position.specs.Geometry.{pages_of}
 use Rattle.segment_disk.specs.declared.disk.Call.{Call}
+use Rattle.flush_core.specs.declared.protocol.NextCall.{NextCall}
+use Rattle.flush_core.specs.declared.protocol.NextCall.TheVariants.{Sync, Create, Write}
 use Rattle.segment_disk.specs.Tape.{Tape, Fails, create_call, sync_call, with_call, write_call}
 
 -- ---- of one page
@@ -37,18 +39,44 @@ abbrev pub harden_calls : ℕ → ℕ → Bool → List Call
 harden_calls size written unsynced =
     waiting_calls size (if unsynced then some (written / size) else none)
 
+-- a value that may be there, as contracts and as the machine have it
+abbrev pub maybe : Option ℕ → mathlib.Core.Option.Option ℕ
+maybe None = none
+maybe (Some n) = some n
+
 -- ---- of all pages, by a writer that does not know which segment waits when it begins
 
--- what waits is this segment, and it is made
-abbrev pub is_under_way : ℕ → mathlib.Core.Option.Option ℕ → ℕ → Bool
-is_under_way made none segment = false
-is_under_way made (some other) segment = (other == segment) && not (nat_lt made segment)
+abbrev pub is_create : NextCall → Bool
+is_create (Sync segment) = false
+is_create Create = true
+is_create Write = false
 
--- the calls before anything of a segment is made or written: what waits is synced, unless it is of
--- that segment, which is there
+abbrev pub to_sync : NextCall → Option ℕ
+to_sync (Sync segment) = Some segment
+to_sync Create = None
+to_sync Write = None
+
+-- what is called next on the way to a page of a segment, where the segments up to one are made:
+-- what waits is synced, unless it is of that segment, which is there; then the segment is made
+-- where it is new
+abbrev pub next_call : (made : ℕ) → mathlib.Core.Option.Option ℕ → (segment : ℕ) → NextCall
+next_call made none segment = if nat_lt made segment then Create else Write
+next_call made (some other) segment =
+    if (other == segment) && not (nat_lt made segment) then Write else Sync other
+
+-- what is called next behind a page that was written up to an address: its segment is synced where
+-- that ends there
+abbrev pub next_behind : (size page upto : ℕ) → NextCall
+next_behind size page upto = if upto % size == 0 then Sync (page / pages_of size) else Write
+
+-- the calls before anything of a segment is made or written
 abbrev pub calls_before : ℕ → ℕ → mathlib.Core.Option.Option ℕ → ℕ → List Call
 calls_before size made waiting segment =
-    if is_under_way made waiting segment then [] else waiting_calls size waiting
+    waiting_calls size (maybe (to_sync (next_call made waiting segment)))
+
+-- the calls behind a page that was written up to an address
+abbrev pub calls_behind : (size page upto : ℕ) → List Call
+calls_behind size page upto = waiting_calls size (maybe (to_sync (next_behind size page upto)))
 
 -- the calls that put a page behind that
 abbrev pub page_calls : ℕ → ℕ → mathlib.Core.Option.Option ℕ → ℕ → ℕ → List ℕ → List Call

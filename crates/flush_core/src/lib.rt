@@ -6,6 +6,7 @@
 
 mod laws;
 mod planning;
+mod protocol;
 mod settling;
 mod store;
 mod writer;
@@ -15,5 +16,6 @@ pub use laws::{
     synced_images_hold_what_was_put,
 };
 pub use planning::{SettlePlan, count_segments};
+pub use protocol::{NextCall, next_behind, next_call};
 pub use settling::{SettleFault, settle, sync_first};
 pub use writer::{DiskFault, Writer};

@@ -10,6 +10,7 @@ ghost use Rattle.flush_core.specs.Pages.{HoldsNothing, PutPages, no_pages};
 ghost use Rattle.flush_core.specs.Puts.{HasHardened, HasNotPut, HasPutPage, IsAsWritten, IsUnderWay, Keeps, KeepsBehindPut};
 ghost use Rattle.flush_core.specs.Writer.{HoldsLogPages, HoldsOnly, IsKept, IsMadeAsWritten, IsWriter, TellsFault, calls_to_harden, disk_of, last_made, writer_fault, is_unsynced, writer_segment_size, written_of};
 
+use crate::protocol::{next_behind, next_call};
 use crate::store::{place_of, store_page};
 use byte_position::{Geometry, Page};
 use segment_disk::Disk;
@@ -153,9 +154,10 @@ impl<D: Disk> Writer<D> {
         self.check()?;
         let geometry = self.geometry;
         let place = place_of(geometry, page);
-        let is_new = self.made < place.segment;
+        // What waits is of the page's own segment, so no sync comes before.
+        let is_new = next_call(self.made, None, place.segment).creates();
         let made = self.made.max(place.segment);
-        let is_full = upto.0 % geometry.segment_size() == 0;
+        let is_full = next_behind(geometry, page, upto.0).to_sync().is_some();
         match store_page(&mut self.disk, geometry, place, is_new, is_full, bytes) {
             Ok(()) => {
                 self.written = upto;

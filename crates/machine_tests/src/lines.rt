@@ -12,7 +12,7 @@ use std::alloc::{AllocError, Global};
 use std::test::Fail;
 use wal_core::{Line, Script};
 use wal_reader::{ReadErr, Reader, Step};
-use wal_spelling::{Body, KeptBody};
+use wal_spelling::Body;
 use wal_types::{BlockList, Bytes, Lsn, Record, Xid};
 
 #[derive(Clone, Copy)]
@@ -48,13 +48,6 @@ impl Planned {
         Ok(Body::assemble(alloc, &record)?)
     }
 
-    fn kept_body(self, alloc: Global) -> Result<KeptBody<'static>, Fail>
-        ensures { IfOk result (λ body. is_assembled_switch body ≡ false) }
-    {
-        let body = self.body(alloc)?;
-        Ok(KeptBody::boxed(alloc, body)?)
-    }
-
     /// Whether it asks that the backend's records be durable.
     pub fn flushes(self) -> bool {
         matches!(self.ask, Ask::Commit | Ask::Flush)
@@ -64,8 +57,8 @@ impl Planned {
         ensures { IfOk result InsertsNoSwitch }
     {
         match self.ask {
-            Ask::Insert => Ok(Line::Insert(self.kept_body(alloc)?)),
-            Ask::Commit => Ok(Line::Commit(self.kept_body(alloc)?)),
+            Ask::Insert => Ok(Line::Insert(self.body(alloc)?)),
+            Ask::Commit => Ok(Line::Commit(self.body(alloc)?)),
             Ask::Flush => Ok(Line::Flush),
         }
     }

@@ -8,6 +8,7 @@ use Rattle.segment_disk.specs.First.{first_state}
 use Rattle.segment_disk.specs.MemDisk.{disk_state_of, faults_of, has_segment, limits_of, moment_of, segment_count}
 use Rattle.segment_disk.specs.Tape.{DiskState, create_call, empty_state, sync_call, write_call}
 use Rattle.segment_disk.specs.declared.memory.disk.MemDisk.{MemDisk}
+use Rattle.flush_core.specs.Calls.{maybe}
 use Rattle.machine_turns.specs.declared.writer.MachineWriter.{MachineWriter}
 use Rattle.machine_state.specs.Views.{Plain}
 use Rattle.machine_state.specs.Moves.{CallOutcome, after_create, after_sync, after_write}
@@ -24,11 +25,6 @@ pub record WriterState : Type 0 where
   pub end : ℕ
   pub room : ℕ
   pub page : List ℕ
-
--- a number that may be missing, as the machine writes it
-abbrev pub maybe : Option ℕ → mathlib.Core.Option.Option ℕ
-maybe None = none
-maybe (Some n) = some n
 
 -- ---- the calls
 

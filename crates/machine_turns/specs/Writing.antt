@@ -44,6 +44,11 @@ page_or_end Line known w = if nat_lt (w.plain).written known then LoadsPage Line
 page_or_end (Page lock end) known w = if nat_lt (w.plain).written known
     then LoadsPage (Page lock end) 0 else StoresWritten (Page lock end)
 
+-- with the page loaded: its segment is made where it is new, and else the page is written
+abbrev pub on_the_way : PlainPurpose → WriterState → PlainDoing
+on_the_way purpose w =
+    if nat_lt (w.plain).made (segment_at w) then Creates purpose else Writes purpose
+
 module _ (setup : Setup) (words : List ℕ) (view : PlainView) (writer : WriterState) where
   abbrev written : ℕ
   written = (writer.plain).written
@@ -70,8 +75,7 @@ module _ (setup : Setup) (words : List ℕ) (view : PlainView) (writer : WriterS
   abbrev pub at_loads_page : PlainPurpose → ℕ → Left
   at_loads_page purpose loaded = left_going_on (LoadRingWord (number_to_load loaded)) view words
       (if loaded + 1 == 1024
-      then (if nat_lt (writer.plain).made (segment_at writer) then Creates purpose
-      else Writes purpose)
+      then on_the_way purpose writer
       else LoadsPage purpose (loaded + 1))
 
   abbrev pub writer_at_loads_page : ℕ → WriterState

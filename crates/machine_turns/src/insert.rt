@@ -270,7 +270,7 @@ impl PlainFlight {
             return 0;
         };
         match line.body() {
-            Some(body) => self.word_of(shape, &body),
+            Some(body) => self.word_of(shape, body),
             None => 0,
         }
     }

@@ -1,31 +1,31 @@
 //! What backends are to do. All records are assembled before the first turn, so that no turn takes
 //! memory or finds a record that cannot be written.
 
-ghost use Rattle.std.specs.Prelude.{◌≡◌, ◌≤◌};
+ghost use Rattle.std.specs.Prelude.{◌≡◌, ◌≤◌, option_map};
 ghost use Rattle.machine_turns.specs.Lanes.{is_commit};
 ghost use Rattle.machine_turns.specs.Scripts.{InsertsLogRecord, body_of, room_of_line};
 
 use std::marker::Model;
-use wal_spelling::{Body, KeptBody};
+use wal_spelling::Body;
 
 /// What a line asks for, with its record assembled.
 #[derive(Debug, Drop)]
 pub enum PlainLine {
     /// Insert this record.
-    Insert(KeptBody<'static>),
+    Insert(Body<'static>),
     /// Insert this commit's record, then flush to its end.
-    Commit(KeptBody<'static>),
+    Commit(Body<'static>),
     /// Flush to the end of the backend's last record, or to the log's start where it has none.
     Flush,
 }
 
 impl PlainLine {
     /// The record that it inserts.
-    pub(crate) fn body(&self) -> Option<Body<'_>>
-        ensures { result ≡ body_of self.now }
+    pub(crate) fn body(&self) -> Option<&Body<'static>>
+        ensures { option_map (λ body. body.now) result ≡ body_of self.now }
     {
         match self {
-            PlainLine::Insert(body) | PlainLine::Commit(body) => Some(body.as_body()),
+            PlainLine::Insert(body) | PlainLine::Commit(body) => Some(body),
             PlainLine::Flush => None,
         }
     }
@@ -45,7 +45,7 @@ impl PlainLine {
         ensures known { InsertsLogRecord self.now }
     {
         match self {
-            PlainLine::Insert(body) | PlainLine::Commit(body) => u64::from(body.as_body().room()),
+            PlainLine::Insert(body) | PlainLine::Commit(body) => u64::from(body.room()),
             PlainLine::Flush => 0,
         }
     }

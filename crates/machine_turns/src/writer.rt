@@ -13,7 +13,8 @@ ghost use Rattle.segment_disk.specs.DiskImage.{LeftAt};
 ghost use Rattle.segment_disk.specs.Picks.{IsPicked, choice_of};
 ghost use Rattle.segment_disk.specs.Tape.{state_at};
 ghost use Rattle.machine_state.specs.Suited.{tape_from};
-ghost use Rattle.machine_turns.specs.Writer.{IsCreateDue, IsFreshWriter, KeepsDisk, IsSyncDue, IsWriteDue, calls_for, created, maybe, page_at, page_written, segment_at, state_of, succeeds, synced, with_word};
+ghost use Rattle.machine_turns.specs.Writer.{IsCreateDue, IsFreshWriter, KeepsDisk, IsSyncDue, IsWriteDue, calls_for, created, page_at, page_written, segment_at, state_of, succeeds, synced, with_word};
+ghost use Rattle.flush_core.specs.Calls.{maybe};
 ghost use Rattle.machine_turns.specs.Writing.{segment_waiting};
 
 use byte_position::{Geometry, PAGE_SIZE, Page};

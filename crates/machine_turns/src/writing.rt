@@ -9,7 +9,7 @@
 ghost use Rattle.std.specs.Prelude.{◌≡◌, ◌<◌, if◌then◌else◌};
 ghost use Rattle.machine_turns.specs.Left.{Leaves};
 ghost use Rattle.machine_turns.specs.Writer.{IsCreateDue, KeepsDisk, IsSyncDue, IsWriteDue, created, page_written, state_of, synced};
-ghost use Rattle.machine_turns.specs.Writing.{at_creates, at_loads_page, at_sets_down, at_stores_flushed, at_stores_moment, at_stores_written, at_syncs_full, at_syncs_last, at_takes_out, at_writes, known_in, page_or_end, segment_waiting, upto_next, writer_at_loads_page};
+ghost use Rattle.machine_turns.specs.Writing.{at_creates, at_loads_page, at_sets_down, at_stores_flushed, at_stores_moment, at_stores_written, at_syncs_full, at_syncs_last, at_takes_out, at_writes, known_in, on_the_way, page_or_end, segment_waiting, upto_next, writer_at_loads_page};
 
 use crate::doing::{Made, PlainDoing, PlainPurpose};
 use crate::event::Event;
@@ -17,6 +17,7 @@ use crate::insert::ring_place;
 use crate::view::{PlainHold, PlainView};
 use crate::writer::MachineWriter;
 use byte_position::{PAGE_SIZE, PAGE_WORDS};
+use flush_core::{next_behind, next_call};
 use machine_state::layout::LOCKS;
 use machine_state::{LogShape, MachineWords, Word};
 use wal_types::Lsn;
@@ -83,10 +84,8 @@ impl PlainView {
                 purpose,
                 loaded: loaded + 1,
             }
-        } else if writer.made() < writer.segment() {
-            PlainDoing::Creates { purpose }
         } else {
-            PlainDoing::Writes { purpose }
+            on_the_way(purpose, writer)
         };
         Made::then(Event::LoadRingWord { number }, next)
     }
@@ -137,10 +136,9 @@ impl PlainView {
         let page = writer.page();
         let upto = known.min(page * PAGE_SIZE + PAGE_SIZE);
         let done = writer.write_page(upto);
-        let next = if upto % shape.geometry().segment_size() == 0 {
-            PlainDoing::SyncsFull { purpose }
-        } else {
-            page_or_end(purpose, known, writer)
+        let next = match next_behind(shape.geometry(), page, upto).to_sync() {
+            Some(_) => PlainDoing::SyncsFull { purpose },
+            None => page_or_end(purpose, known, writer),
         };
         let event = Event::Write {
             segment,
@@ -275,6 +273,18 @@ impl PlainView {
             failed: true,
         };
         Made::then(Event::SetDown, next)
+    }
+}
+
+// With the page loaded: what waited was synced behind the last page of its segment, so either the
+// page's own is made or the page is written.
+fn on_the_way(purpose: PlainPurpose, writer: &MachineWriter) -> PlainDoing
+    ensures { result ≡ on_the_way purpose (state_of writer.now) }
+{
+    if next_call(writer.made(), None, writer.segment()).creates() {
+        PlainDoing::Creates { purpose }
+    } else {
+        PlainDoing::Writes { purpose }
     }
 }
 

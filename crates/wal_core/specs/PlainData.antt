@@ -27,7 +27,7 @@ use Rattle.machine_turns.specs.declared.view.PlainView.{PlainView}
 use Rattle.machine_turns.specs.declared.view.PlainStage.{PlainStage}
 use Rattle.machine_turns.specs.declared.view.PlainStage.TheVariants as stages
 use Rattle.machine_turns.specs.declared.view.PlainWatching.{PlainWatching}
-use Rattle.machine_turns.specs.Writer.{maybe}
+use Rattle.flush_core.specs.Calls.{maybe}
 
 -- ---- a view
 

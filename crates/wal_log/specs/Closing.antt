@@ -6,7 +6,8 @@ use Rattle.wal_rule.specs.declared.pass.Pass.{Pass}
 use Rattle.wal_rule.specs.declared.writer.LogWriter.{LogWriter}
 use Rattle.wal_rule.specs.Closing.{ClosesWith}
 use Rattle.wal_rule.specs.Passes.{view_of_pass}
-use Rattle.wal_rule.specs.Slotted.{as_machine_has, slot_disk, slot_plain}
+use Rattle.wal_rule.specs.Slotted.{slot_disk, slot_plain}
+use Rattle.flush_core.specs.Calls.{maybe}
 use Rattle.wal_rule.specs.Tables.{began_of_table}
 use Rattle.wal_log.specs.declared.closing.Closed.{Closed}
 use Rattle.wal_log.specs.declared.wal.Wal.{Wal}
@@ -22,4 +23,4 @@ pub record ClosesLog {D : Type 0} (tape : D → Option Tape) (moment faults : D 
   pub closes : ClosesWith tape moment faults (began_of_table tape (table_of wal))
       (opening_of_log wal) (view_of_pass pass) writer position
   pub end_is : closed.end.0 ≡ end_form (setup_of_log wal) position
-  pub down_is : as_machine_has closed.down ≡ (slot_plain tape moment writer).fault
+  pub down_is : maybe closed.down ≡ (slot_plain tape moment writer).fault

@@ -9,7 +9,8 @@ use Rattle.machine_state.specs.Views.{Plain}
 use Rattle.machine_state.specs.Suited.{tape_from}
 use Rattle.machine_state.specs.Moves.{Failed, CallOutcome, with_outcome}
 use Rattle.wal_rule.specs.declared.writer.LogWriter.{LogWriter}
-use Rattle.wal_rule.specs.Slotted.{CallEnds, as_machine_has, calls_of, first_on, slot_plain}
+use Rattle.wal_rule.specs.Slotted.{CallEnds, calls_of, first_on, slot_plain}
+use Rattle.flush_core.specs.Calls.{maybe}
 use Rattle.wal_rule.proofs.SlotTapes.{calls_of_more, own_tape, tape_of_call}
 
 rises : (old new : ℕ) → RoseByOne old new → old ≤ new
@@ -48,9 +49,9 @@ module _ {D : Type 0} (tape : D → Rattle.std.specs.Prelude.Option Tape) (momen
   pub call_failed : (f : CallOutcome → Plain → Plain) (waiting : Rattle.std.specs.Prelude.Option ℕ)
       → (told : DiskFault)
       → ((made : Bool) → moment disk ≡ moment old.disk + 1
-      → LeavesWaiting f (as_machine_has waiting) told.faults (some made))
+      → LeavesWaiting f (maybe waiting) told.faults (some made))
       → (moment disk ≡ moment old.disk
-      → LeavesWaiting f (as_machine_has waiting) told.faults none)
+      → LeavesWaiting f (maybe waiting) told.faults none)
       → Fails (tape old.disk) (tape disk) (moment old.disk) (moment disk) call
       → RoseByOne (faults old.disk) (faults disk)
       → (new : LogWriter D) → new ≡ down waiting told.faults → told.faults ≡ faults disk
@@ -65,7 +66,7 @@ module _ {D : Type 0} (tape : D → Rattle.std.specs.Prelude.Option Tape) (momen
             (ap calls_of (made.1).tape ∙ calls_of_more (tape old.disk) (failed_call made.0 call))
             ∙ ap (λ (n : ℕ). record
             (with_outcome call (Failed told.faults (some made.0)) (slot_plain tape moment old))
-            { moment = n; waiting = as_machine_has waiting }) (made.1).moment
+            { moment = n; waiting = maybe waiting }) (made.1).moment
             ∙ sym (counted made.0 (made.1).moment);
         tape_is = tape_made (tape old.disk) (tape disk) (failed_call made.0 call) (made.1).tape;
         same_size = refl;
@@ -84,7 +85,7 @@ module _ {D : Type 0} (tape : D → Rattle.std.specs.Prelude.Option Tape) (momen
             (ap calls_of same.same_tape)
             ∙ ap (λ (n : ℕ). record
             (with_outcome call (Failed told.faults none) (slot_plain tape moment old))
-            { moment = n; waiting = as_machine_has waiting }) same.same_moment
+            { moment = n; waiting = maybe waiting }) same.same_moment
             ∙ sym (not_counted same.same_moment);
         tape_is = tape_same (tape old.disk) (tape disk) same.same_tape;
         same_size = refl;

@@ -4,17 +4,13 @@ use mathlib.Core.Option.{Option, none, some}
 use Rattle.segment_disk.specs.declared.disk.Call.{Call}
 use Rattle.segment_disk.specs.Cause.{Rose}
 use Rattle.segment_disk.specs.Tape.{DiskState, Tape, empty_state}
+use Rattle.flush_core.specs.Calls.{maybe}
 use Rattle.flush_core.specs.declared.writer.DiskFault.{DiskFault}
 use Rattle.machine_state.specs.Words.{Opening}
 use Rattle.machine_state.specs.Suited.{tape_from}
 use Rattle.machine_state.specs.Views.{Plain}
 use Rattle.machine_state.specs.Moves.{CallOutcome, Done, Failed}
 use Rattle.wal_rule.specs.declared.writer.LogWriter.{LogWriter}
-
--- a number that may be missing, as the machine has it
-abbrev pub as_machine_has : Rattle.std.specs.Prelude.Option ℕ → Option ℕ
-as_machine_has None = none
-as_machine_has (Some n) = some n
 
 -- its disk, and the size of its segments
 abbrev pub slot_disk : {D : Type 0} → LogWriter D → D
@@ -37,8 +33,8 @@ slot_plain tape moment w = record {
   moment = moment w.disk;
   written = w.written;
   made = w.made;
-  waiting = as_machine_has w.waiting;
-  fault = as_machine_has w.fault;
+  waiting = maybe w.waiting;
+  fault = maybe w.fault;
 }
 
 -- a writer that has met no fault, and of which nothing waits for a sync: on a disk with this tape,
@@ -96,7 +92,7 @@ pub record IsOfLog {D : Type 0} (tape : D → Rattle.std.specs.Prelude.Option Ta
   pub goes_on : IfSome (tape (slot_disk w)) (GoesOnFrom began)
   pub told : IsSome began → IsSome (tape (slot_disk w))
   pub failed : opening.faults ≤ faults (slot_disk w)
-  pub up : as_machine_has w.fault ≡ none → faults (slot_disk w) ≡ opening.faults
-  pub down : (f : ℕ) → as_machine_has w.fault ≡ some f → f ≡ faults (slot_disk w)
-  pub waits_low : (segment : ℕ) → as_machine_has w.waiting ≡ some segment
+  pub up : maybe w.fault ≡ none → faults (slot_disk w) ≡ opening.faults
+  pub down : (f : ℕ) → maybe w.fault ≡ some f → f ≡ faults (slot_disk w)
+  pub waits_low : (segment : ℕ) → maybe w.waiting ≡ some segment
       → segment < 2 ^ 64 / (opening.setup).seg_size

@@ -16,7 +16,8 @@ ghost use Rattle.machine_state.specs.declared.setup.Setup.{Setup};
 ghost use Rattle.machine_state.specs.Moves.{after_create, after_sync, after_write};
 ghost use Rattle.machine_state.specs.Opened.{IsFirstWriter};
 ghost use Rattle.wal_rule.specs.Founded.{empty_log_opening};
-ghost use Rattle.wal_rule.specs.Slotted.{calls_of, CallEnds, as_machine_has, resting_plain, slot_disk, slot_plain, slot_segment_size};
+ghost use Rattle.wal_rule.specs.Slotted.{calls_of, CallEnds, resting_plain, slot_disk, slot_plain, slot_segment_size};
+ghost use Rattle.flush_core.specs.Calls.{maybe};
 
 use byte_position::{Geometry, PAGE_SIZE, Page};
 use flush_core::{DiskFault, SettlePlan};
@@ -100,14 +101,14 @@ impl<D: Disk> LogWriter<D> {
 
     /// The segment of which writes wait for a sync.
     pub fn waiting(&self) -> Option<u64>
-        ensures { as_machine_has result ≡ (slot_plain D.tape D.moment self.now).waiting }
+        ensures { maybe result ≡ (slot_plain D.tape D.moment self.now).waiting }
     {
         self.waiting
     }
 
     /// The disk's count of faults when it failed.
     pub fn fault(&self) -> Option<u64>
-        ensures { as_machine_has result ≡ (slot_plain D.tape D.moment self.now).fault }
+        ensures { maybe result ≡ (slot_plain D.tape D.moment self.now).fault }
     {
         self.fault
     }

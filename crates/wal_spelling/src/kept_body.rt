@@ -100,6 +100,16 @@ impl<'a> KeptBody<'a> {
         })
     }
 
+    /// The body itself; of one in an arena the bytes stay there.
+    pub fn into_body(self) -> Body<'a>
+        ensures { result ≡ self.entry }
+    {
+        match self.place {
+            BodyPlace::Arena(lent) => lent.as_body(),
+            BodyPlace::Own(body) => Box::into_inner(body),
+        }
+    }
+
     /// The body, with the bytes that are kept.
     #[inline(always)]
     pub fn as_body(&self) -> Body<'_>

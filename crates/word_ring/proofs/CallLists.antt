@@ -110,7 +110,7 @@ ended_on first next a b c (Err _) before ends = broken_on first next a b c befor
 -- ---- four lists of calls in a row, which are all: a writer that stands so before and behind each
 
 module _ (first second third last all : List Call)
-    (are : first ++ (second ++ (third ++ last)) ≡ all) (a b c d e : Plain) where
+    (are : first ++ (second ++ (third ++ last)) ≡ all) (a b c d : Plain) where
   pub breaks_in_first : HasBrokenOff first a b → HasBrokenOff all a b
   breaks_in_first broken = subst (λ (l : List Call). HasBrokenOff l a b) are
       (broken_before first (second ++ (third ++ last)) a b broken)
@@ -125,15 +125,3 @@ module _ (first second third last all : List Call)
   breaks_in_third one two broken = subst (λ (l : List Call). HasBrokenOff l a d) are
       (broken_on first (second ++ (third ++ last)) a b d one
       (broken_on second (third ++ last) b c d two (broken_before third last c d broken)))
-
-  pub breaks_in_last : HasCalled first a b → HasCalled second b c → HasCalled third c d
-      → HasBrokenOff last d e → HasBrokenOff all a e
-  breaks_in_last one two three broken = subst (λ (l : List Call). HasBrokenOff l a e) are
-      (broken_on first (second ++ (third ++ last)) a b e one
-      (broken_on second (third ++ last) b c e two (broken_on third last c d e three broken)))
-
-  pub all_called : HasCalled first a b → HasCalled second b c → HasCalled third c d
-      → HasCalled last d e → HasCalled all a e
-  all_called one two three four = subst (λ (l : List Call). HasCalled l a e) are
-      (called_on first (second ++ (third ++ last)) a b e one
-      (called_on second (third ++ last) b c e two (called_on third last c d e three four)))

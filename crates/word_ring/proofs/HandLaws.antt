@@ -1,14 +1,11 @@
 -- Steps of a pass that has the writer in hand, as plain updates of its view.
-use Rattle.std.specs.Prelude.{Result, Err, Ok, MatchResult, None, Some, ◌&&◌, nat_lt, not}
-use Rattle.std.specs.Option.{option_eq}
-use Rattle.std.proofs.Math.Dec.{eqb}
-use Rattle.std.proofs.lemmas.Bool.{eqb-true}
-use Rattle.std.proofs.Common.{◌≡◌, ℕ, Bool, true, List, [], ◌∷◌, ◌++◌, refl, sym, ap, ◌∙◌, subst, arith}
+use Rattle.std.specs.Prelude.{Result, Err, Ok, MatchResult, None, Some}
+use Rattle.std.proofs.Common.{◌≡◌, ℕ, Bool, List, [], ◌∷◌, ◌++◌, refl, sym, ap, ◌∙◌, subst, arith}
 use mathlib.Core.Option.{Option, none, some}
 use Rattle.atomic_table.specs.declared.shared.Seat.{Seat}
 use Rattle.segment_disk.specs.declared.disk.Call.{Call}
 use Rattle.segment_disk.specs.Tape.{Tape, create_call, sync_call, write_call}
-use Rattle.flush_core.specs.Calls.{is_under_way}
+use Rattle.flush_core.specs.Calls.{maybe, next_call}
 use Rattle.flush_core.specs.declared.writer.DiskFault.{DiskFault}
 use Rattle.machine_state.specs.Views.{Hold, Lent, Out, Plain, View}
 use Rattle.machine_state.specs.Moves.{CallOutcome, Done, Failed, with_hold}
@@ -19,9 +16,10 @@ use Rattle.wal_rule.specs.declared.writer.LogWriter.{LogWriter}
 use Rattle.wal_rule.specs.Called.{DeviceCall, DeviceCallEnds, creates, step_of_call, syncs, writer_behind, writes}
 use Rattle.wal_rule.specs.Ruled.{HasInHand}
 use Rattle.wal_rule.specs.SeatedPasses.{HasView, Steps, began_of, hand_of, opening_of, setup_of, view_of}
-use Rattle.wal_rule.specs.Slotted.{EndsAs, as_machine_has}
+use Rattle.wal_rule.specs.Slotted.{EndsAs}
 use Rattle.wal_rule.specs.Tables.{began_of_table, opening_of_table, setup_of_table}
-use Rattle.word_ring.specs.InHand.{CallsEnd, ChangesHand, HasHand, IsReady, IsSame, Loads, hand_view, lent_in, writer_in}
+use Rattle.word_ring.specs.InHand.{CallsEnd, ChangesHand, HasHand, IsReadOff, IsReady, IsSame, Loads, hand_view, lent_in, writer_in}
+use Rattle.word_ring.specs.declared.reading.WriterNow.{WriterNow}
 use Rattle.word_ring.specs.MadeCalls.{EndCalls, HasBrokenOff, HasCalled}
 use Rattle.word_ring.proofs.CallLists.{called_none, counted_failed, ended_on, not_counted, one_more_is}
 
@@ -353,15 +351,11 @@ module _ {D : Type 0} (tape : D → Rattle.std.specs.Prelude.Option Tape) (momen
         (λ so. law (subst (λ (w : Plain). Q w (writer_in (view_of new)))
         (same_in_hand old mid same) so)) ends)
 
--- ---- what waits
+-- ---- what comes next
 
-pub waits_for : (waiting : Rattle.std.specs.Prelude.Option ℕ) (segment : ℕ)
-    → option_eq eqb waiting (Some segment) ≡ true → as_machine_has waiting ≡ some segment
-waits_for None segment same = absurd (cc)
-waits_for (Some x) segment same = ap (λ (n : ℕ). some n) (eqb-true x segment same)
-
-pub under_way : (made segment : ℕ) (waiting : Rattle.std.specs.Prelude.Option ℕ)
-    → is_under_way made (as_machine_has waiting) segment
-    ≡ (option_eq eqb waiting (Some segment) && not (nat_lt made segment))
-under_way made segment None = refl
-under_way made segment (Some x) = refl
+-- what comes next of a writer's numbers that were read
+pub next_read : (w : Plain) (now : WriterNow) (segment : ℕ) → IsReadOff w now
+    → next_call now.made (maybe now.waiting) segment ≡ next_call w.made w.waiting segment
+next_read w now segment read =
+    ap (λ (n : ℕ). next_call n (maybe now.waiting) segment) read.made
+    ∙ ap (λ (o : Option ℕ). next_call w.made o segment) read.waiting

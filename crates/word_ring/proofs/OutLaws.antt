@@ -1,52 +1,25 @@
 -- A page is written out.
-use Rattle.std.proofs.Common.{◌≡◌, ℕ, ◌*◌, ◌/◌, ◌%◌, ◌<◌, ◌≤◌, Bool, inl, inr, max, refl, sym, ap, ◌∙◌, subst, arith, if◌then◌else◌}
-use Rattle.std.proofs.lemmas.Bool.{eq-eqb, ne_eqb}
-use mathlib.Core.Option.{none, some}
+use Rattle.std.proofs.Common.{◌≡◌, ℕ, ◌/◌, ◌<◌, ◌≤◌, inl, inr, max, refl, sym, ap, ◌∙◌, subst, arith}
+use mathlib.Core.Option.{none}
 use Rattle.byte_position.specs.Geometry.{pages_of}
 use Rattle.flush_core.specs.Calls.{page_upto, waiting_behind}
 use Rattle.machine_state.specs.Views.{Plain}
-use Rattle.word_ring.specs.Written.{WaitsForNoOther, IsPageWritten, IsPagePut, IsSegmentMade, IsSegmentSynced, IsSegmentThere, LeavesAlone}
-use Rattle.word_ring.proofs.PageNumbers.{segment_at}
+use Rattle.word_ring.specs.Written.{WaitsForNoOther, IsPageWritten, IsPagePut, IsSegmentMade, IsSegmentSynced, IsSegmentThere, IsSettledBehind, LeavesAlone}
 
--- a page is put, and the segment synced where it ends
-module _ (size known page count upto : ℕ) (old mid new : Plain)
-    (many : count ≡ pages_of size) (whole : 8192 * count ≡ size) (any : 0 < count)
-    (here : page ≡ old.written / 8192) (left : old.written < known)
-    (is : upto ≡ page_upto known page) (there : IsSegmentThere (page / count) old mid)
-    (put : IsPagePut (page / count) upto mid new)
-  where
-    written_is : new.written ≡ page_upto known (old.written / 8192)
-    written_is = put.written ∙ is ∙ ap (λ (p : ℕ). page_upto known p) here
-
-    made_is : new.made ≡ max old.made (old.written / 8192 / pages_of size)
-    made_is = put.made ∙ there.made
-        ∙ ap (λ (n : ℕ). max old.made (page / n)) many
-        ∙ ap (λ (p : ℕ). max old.made (p / pages_of size)) here
-
-    pub within : (upto % size ≡ 0 → ⊥) → IsPageWritten size known old new
-    within inside = record {
-      up = put.up;
-      written = written_is;
-      made = made_is;
-      waiting = put.waiting
-          ∙ ap (λ (n : ℕ). some n) (segment_at size count page upto whole any
-          (omega (arith, is, here, left)) (omega (arith, is)) inside)
-          ∙ sym (ap (λ (b : Bool). if b then none else some (upto / size))
-          (ne_eqb (upto % size) 0 inside))
-          ∙ ap (λ (n : ℕ). waiting_behind size n) (sym put.written);
-    }
-
-    pub to_end : upto % size ≡ 0 → (last : Plain) → IsSegmentSynced new last
-        → IsPageWritten size known old last
-    to_end ends last synced = record {
-      up = synced.up;
-      written = synced.written ∙ written_is;
-      made = synced.made ∙ made_is;
-      waiting = synced.waiting
-          ∙ sym (ap (λ (b : Bool). if b then none else some (upto / size))
-          (eq-eqb (upto % size) 0 ends))
-          ∙ ap (λ (n : ℕ). waiting_behind size n) (sym put.written ∙ sym synced.written);
-    }
+-- a page is put, and what comes behind it is done
+pub behind_put : (size known page count upto : ℕ) (old mid put new : Plain)
+    → count ≡ pages_of size → page ≡ old.written / 8192 → upto ≡ page_upto known page
+    → IsSegmentThere (page / count) old mid → IsPagePut (page / count) upto mid put
+    → IsSettledBehind size upto put new → IsPageWritten size known old new
+behind_put size known page count upto old mid put new many here is there wrote behind = record {
+  up = behind.up;
+  written = behind.written ∙ wrote.written ∙ is ∙ ap (λ (p : ℕ). page_upto known p) here;
+  made = behind.made ∙ wrote.made ∙ there.made
+      ∙ ap (λ (n : ℕ). max old.made (page / n)) many
+      ∙ ap (λ (p : ℕ). max old.made (p / pages_of size)) here;
+  waiting = behind.waiting
+      ∙ ap (λ (n : ℕ). waiting_behind size n) (sym wrote.written ∙ sym behind.written);
+}
 
 -- ---- a segment is there
 

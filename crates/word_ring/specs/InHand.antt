@@ -10,7 +10,7 @@ use Rattle.wal_rule.specs.declared.seated.SeatedPass.{SeatedPass}
 use Rattle.wal_rule.specs.declared.writer.LogWriter.{LogWriter}
 use Rattle.wal_rule.specs.Ruled.{HasInHand}
 use Rattle.wal_rule.specs.SeatedPasses.{HasView, began_of, opening_of, view_of}
-use Rattle.wal_rule.specs.Slotted.{as_machine_has}
+use Rattle.flush_core.specs.Calls.{maybe}
 use Rattle.word_ring.specs.MadeCalls.{EndCalls}
 use Rattle.word_ring.specs.declared.reading.WriterNow.{WriterNow}
 
@@ -48,8 +48,8 @@ known_copied v = (lent_in (v.writing).hold).known
 pub record IsReadOff (writer : Plain) (now : WriterNow) : Type 0 where
   pub written : now.written ≡ writer.written
   pub made : now.made ≡ writer.made
-  pub waiting : as_machine_has now.waiting ≡ writer.waiting
-  pub fault : as_machine_has now.fault ≡ writer.fault
+  pub waiting : maybe now.waiting ≡ writer.waiting
+  pub fault : maybe now.fault ≡ writer.fault
   pub moment : now.moment ≡ writer.moment
 
 -- a pass is as it was

@@ -46,6 +46,14 @@ pub record IsPagePut (segment upto : ℕ) (old new : Plain) : Type 0 where
   pub made : new.made ≡ old.made
   pub waiting : new.waiting ≡ some segment
 
+-- behind a page that was written up to an address its segment is synced where it ends there: no
+-- other waits for a sync
+pub record IsSettledBehind (size upto : ℕ) (old new : Plain) : Type 0 where
+  pub up : new.fault ≡ none
+  pub written : new.written ≡ old.written
+  pub made : new.made ≡ old.made
+  pub waiting : new.waiting ≡ waiting_behind size upto
+
 -- as much is written as before, and no write waits for a sync
 pub record IsSegmentSynced (old new : Plain) : Type 0 where
   pub up : new.fault ≡ none

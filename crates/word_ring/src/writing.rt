@@ -3,19 +3,22 @@
 // the next byte to be written on, the last one as it stands; so one address tells all that is
 // written. For each page in this order: writes to another segment are synced, its own segment is
 // made unless it is there, its words are loaded, it is written, and behind a segment's last page
-// that segment is synced. So at most one segment waits for a sync. A call that fails is the last.
+// that segment is synced (`next_call` of flush_core). So at most one segment waits for a sync. A
+// call that fails is the last.
 ghost use Rattle.std.specs.Prelude.{◌≡◌, ◌+◌, ◌*◌, ◌/◌, ◌<◌, ◌≤◌, nat_lt};
-ghost use Rattle.flush_core.specs.Calls.{make_calls, calls_before, waiting_calls};
+ghost use mathlib.Core.Option.{some};
+ghost use Rattle.byte_position.specs.Geometry.{pages_of};
+ghost use Rattle.flush_core.specs.Calls.{make_calls, calls_before, calls_behind, waiting_calls};
 ghost use Rattle.word_ring.specs.InHand.{CallsEnd, IsReady, known_copied, writer_in};
 ghost use Rattle.word_ring.specs.MadeCalls.{calls_to_put_page};
-ghost use Rattle.word_ring.specs.Written.{WaitsForNoOther, IsPageWritten, IsSegmentThere, LeavesAlone, IsSegmentSynced};
+ghost use Rattle.word_ring.specs.Written.{WaitsForNoOther, IsPageWritten, IsSegmentThere, IsSettledBehind, LeavesAlone, IsSegmentSynced};
 ghost use Rattle.wal_rule.specs.SeatedPasses.{setup_of, view_of};
 
 use crate::calling::{create_segment, put_page, sync_segment};
 use crate::loading::load_page;
 use crate::reading::writer_now;
 use byte_position::{PAGE_SIZE, Page};
-use flush_core::DiskFault;
+use flush_core::{DiskFault, next_behind, next_call};
 use segment_disk::Disk;
 use wal_rule::SeatedPass;
 
@@ -44,30 +47,49 @@ pub fn write_next<'p, D: Disk>(
     let shape = seated.shape();
     let pages = u64::from(shape.geometry().pages());
     let segment = page / pages;
-    settle(seated, segment)?;
+    settle_before(seated, segment)?;
     make_segment(seated, segment)?;
     load_page(seated, page, bytes);
     let upto = known.min((page + 1) * PAGE_SIZE);
     put_page(seated, segment, (page % pages) as u32, upto, bytes)?;
-    if upto % shape.geometry().segment_size() == 0 {
-        sync_segment(seated, segment)?;
-    }
-    Ok(())
+    settle_behind(seated, page, upto)
 }
 
 // Syncs what waits, unless it is this segment, which is there. Behind it no write to another one
 // waits.
-fn settle<'p, D: Disk>(seated: &mut SeatedPass<'p, D>, segment: u64) -> Result<(), DiskFault>
+fn settle_before<'p, D: Disk>(seated: &mut SeatedPass<'p, D>, segment: u64) -> Result<(), DiskFault>
     requires ready { IsReady D.tape D.moment D.faults seated.old }
     ensures ends { CallsEnd D.tape D.moment D.faults (LeavesAlone segment)
         (calls_before (setup_of seated.old).seg_size (writer_in (view_of seated.old)).made
         (writer_in (view_of seated.old)).waiting segment) result seated.old seated.new }
 {
     let now = writer_now(seated);
-    if now.waiting == Some(segment) && segment <= now.made {
-        return Ok(());
+    match next_call(now.made, now.waiting, segment).to_sync() {
+        Some(other) => sync_segment(seated, other),
+        None => Ok(()),
     }
-    sync_written(seated)
+}
+
+// Syncs the segment of a page that was written up to an address, where it ends there.
+fn settle_behind<'p, D: Disk>(
+    seated: &mut SeatedPass<'p, D>,
+    page: u64,
+    upto: u64,
+) -> Result<(), DiskFault>
+    requires ready { IsReady D.tape D.moment D.faults seated.old }
+    requires waits { (writer_in (view_of seated.old)).waiting
+        ≡ some (page / pages_of (setup_of seated.old).seg_size) }
+    requires begun { page * 8192 < upto }
+    requires within { upto ≤ (page + 1) * 8192 }
+    ensures ends { CallsEnd D.tape D.moment D.faults
+        (IsSettledBehind (setup_of seated.old).seg_size upto)
+        (calls_behind (setup_of seated.old).seg_size page upto) result seated.old seated.new }
+{
+    let geometry = seated.shape().geometry();
+    match next_behind(geometry, page, upto).to_sync() {
+        Some(segment) => sync_segment(seated, segment),
+        None => Ok(()),
+    }
 }
 
 // Makes the segment where the next byte is to be written, unless it is there. It is at most the one
@@ -83,7 +105,8 @@ fn make_segment<'p, D: Disk>(seated: &mut SeatedPass<'p, D>, segment: u64) -> Re
         (make_calls (setup_of seated.old).seg_size segment
         (nat_lt (writer_in (view_of seated.old)).made segment)) result seated.old seated.new }
 {
-    if segment <= writer_now(seated).made {
+    let now = writer_now(seated);
+    if !next_call(now.made, now.waiting, segment).creates() {
         return Ok(());
     }
     create_segment(seated, segment)

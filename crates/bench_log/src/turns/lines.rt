@@ -6,7 +6,7 @@ ghost use Rattle.wal_core.specs.Lines.{InsertsNoSwitch};
 
 use std::alloc::Global;
 use wal_core::{Line, Script};
-use wal_spelling::{Body, BodyErr, KeptBody};
+use wal_spelling::{Body, BodyErr};
 use wal_types::{BlockList, Bytes, Record, Xid};
 
 pub const BACKENDS: u32 = 8;
@@ -44,7 +44,7 @@ fn line(alloc: Global, number: u32) -> Result<Line, BodyErr>
     }
 }
 
-fn body(alloc: Global, rmid: u8, len: usize) -> Result<KeptBody<'static>, BodyErr>
+fn body(alloc: Global, rmid: u8, len: usize) -> Result<Body<'static>, BodyErr>
     ensures { IfOk result (λ body. is_assembled_switch body ≡ false) }
 {
     let record = Record {
@@ -56,6 +56,5 @@ fn body(alloc: Global, rmid: u8, len: usize) -> Result<KeptBody<'static>, BodyEr
         blocks: BlockList::of(Vec::new(alloc)),
         main: Bytes::of(vec![in alloc; 0x5a; len]?),
     };
-    let body = Body::assemble(alloc, &record)?;
-    Ok(KeptBody::boxed(alloc, body)?)
+    Body::assemble(alloc, &record)
 }

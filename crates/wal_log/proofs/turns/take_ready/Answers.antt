@@ -7,7 +7,8 @@ use Rattle.machine_state.specs.Views.{Watching, Turned, Idle, Plain, View}
 use Rattle.wal_rule.specs.declared.seated.SeatedPass.{SeatedPass}
 use Rattle.wal_rule.specs.Downs.{KnowsDown}
 use Rattle.wal_rule.specs.SeatedPasses.{Steps, hand_of, view_of}
-use Rattle.wal_rule.specs.Slotted.{as_machine_has, slot_plain}
+use Rattle.wal_rule.specs.Slotted.{slot_plain}
+use Rattle.flush_core.specs.Calls.{maybe}
 use Rattle.wal_rule.specs.Stepping.{Meets}
 use Rattle.word_ring.specs.InHand.{HasHand, known_copied, writer_in}
 use Rattle.word_ring.proofs.HandLaws.{same_hand}
@@ -168,7 +169,7 @@ module _ (g : Over) (c : After-writer_now g) where
       ≡ after_slot_out (slot_plain g.D.Disk.tape g.D.Disk.moment c.slot_out.ensures.out.1)
       (view_of c.load_down-faults.new.self)
       → (slot_plain g.D.Disk.tape g.D.Disk.moment c.slot_out.ensures.out.1).fault
-      ≡ as_machine_has c.writer_now.result.fault
+      ≡ maybe c.writer_now.result.fault
   read_fault view = ap (λ (v : View). (writer_in v).fault) (sym view)
       ∙ sym c.writer_now.ensures.read.fault
 
@@ -186,11 +187,11 @@ returns-in-None-clause-ready g c =
         hand = read_hand g at (hand g out);
         up = ap (λ (v : View). (writer_in v).fault) (read_view g at)
             ∙ sym c.writer_now.ensures.read.fault
-            ∙ ap (λ (f : Rattle.std.specs.Prelude.Option ℕ). as_machine_has f) c.in-None.is;
+            ∙ ap (λ (f : Rattle.std.specs.Prelude.Option ℕ). maybe f) c.in-None.is;
       },
       ap (λ (v : View). known_copied v) (read_view g at) ∙ known g out,
       read_up g at (up g out (read_fault g at (view g out)
-          ∙ ap (λ (f : Rattle.std.specs.Prelude.Option ℕ). as_machine_has f) c.in-None.is)),
+          ∙ ap (λ (f : Rattle.std.specs.Prelude.Option ℕ). maybe f) c.in-None.is)),
     )
 
 pub returns-in-None-clause-adds_nothing : goal.returns-in-None-clause-adds_nothing
@@ -203,8 +204,8 @@ returns-in-None-clause-adds_nothing g c =
 
 module _ (g : Over) (c : After-writer_now g) (faults : ℕ)
     (is : c.writer_now.result.fault ≡ Some faults) where
-  read : as_machine_has c.writer_now.result.fault ≡ some faults
-  read = ap (λ (f : Rattle.std.specs.Prelude.Option ℕ). as_machine_has f) is
+  read : maybe c.writer_now.result.fault ≡ some faults
+  read = ap (λ (f : Rattle.std.specs.Prelude.Option ℕ). maybe f) is
 
   some_failed : HasHand g.D.Disk.tape g.D.Disk.moment g.D.Disk.faults c.slot_out.new.self
       → faults ≢ 0

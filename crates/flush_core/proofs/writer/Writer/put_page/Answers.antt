@@ -1,16 +1,18 @@
 -- A page is put by the calls of its place.
+use Rattle.std.specs.Option.{is_some}
 use Rattle.std.proofs.Common.{rules, ◌≡◌, ◌+◌, ◌*◌, ◌/◌, ◌%◌, ◌==◌, ◌≤◌, ◌∙◌, ℕ, max, nat_lt, Option, Some, IfSome, List, ap, subst, sym, arith}
 use Rattle.byte_position.specs.Geometry.{IsSegmentSize, pages_of}
 use Rattle.segment_disk.specs.declared.disk.Call.{Call}
 use Rattle.segment_disk.specs.Tape.{Tape}
 use Rattle.flush_core.specs.declared.writer.Writer.{Writer}
-use Rattle.flush_core.specs.Calls.{store_calls, put_calls, with_calls, BreaksOff}
+use Rattle.flush_core.specs.Calls.{is_create, to_sync, store_calls, put_calls, with_calls, BreaksOff}
 use Rattle.flush_core.specs.Pages.{PutPages}
 use Rattle.flush_core.specs.Left.{PutHistory, with_put, IsKeptWord, SameBelow}
 use Rattle.segment_disk.specs.Assured.{IsMadeUpto, TapeAssures}
 use Rattle.flush_core.specs.Left.{IsWordPut}
 use Rattle.segment_disk.specs.Assured.{IsNowhere}
 use Rattle.flush_core.specs.Writer.{IsReached}
+use Rattle.flush_core.proofs.NextCalls.{creates_if, syncs_if}
 use Rattle.flush_core.proofs.PutLaws.{page_reaches}
 use Rattle.flush_core.proofs.LeftLaws.{AllFit, TapeAssures-with_calls, TapeAssures-broken}
 use Rattle.flush_core.proofs.LeftPuts.{put_keeps, put_adds, HoldsOnly-more}
@@ -22,26 +24,34 @@ use Rattle.flush_core.proofs.writer.Writer.put_page.Goals as goal
 module _ (g : Over) (c : After-store_page g) where
   -- the calls that store the page at its place
   abbrev stored : List Call
-  stored = store_calls c.args.self.now.geometry c.place_of-place.result.segment c.place_of-place.result.page (nat_lt c.args.self.now.made c.place_of-place.result.segment) (c.args.upto.0 % c.segment_size.result == 0) c.args.bytes.now
+  stored = store_calls c.args.self.now.geometry c.place_of-place.result.segment c.place_of-place.result.page c.creates-is_new.result c.is_some-is_full.result c.args.bytes.now
+
+  fresh : c.creates-is_new.result ≡ nat_lt c.args.self.now.made c.place_of-place.result.segment
+  fresh = c.creates-is_new.ensures ∙ ap is_create c.next_call.ensures ∙ creates_if c.args.self.now.made c.place_of-place.result.segment
+
+  full : c.is_some-is_full.result ≡ (c.args.upto.0 % c.args.self.now.geometry == 0)
+  full = c.is_some-is_full.ensures
+      ∙ ap is_some (c.to_sync.ensures ∙ ap to_sync c.next_behind.ensures.next)
+      ∙ syncs_if (c.args.upto.0 % c.args.self.now.geometry == 0) (c.args.page / pages_of c.args.self.now.geometry)
 
   stored_are : stored ≡ put_calls c.args.self.now.geometry c.args.self.now.made c.args.page c.args.upto.0 c.args.bytes.now
   stored_are =
-      put_calls_are c.args.self.now.geometry c.args.self.now.made c.args.page c.args.upto.0 c.place_of-place.result.segment c.place_of-place.result.page c.segment_size.result c.args.bytes.now
-      c.place_of-place.ensures.segment c.place_of-place.ensures.page c.segment_size.ensures.value
+      put_calls_are c.args.self.now.geometry c.args.self.now.made c.args.page c.args.upto.0 c.place_of-place.result.segment c.place_of-place.result.page c.creates-is_new.result c.is_some-is_full.result c.args.bytes.now
+      c.place_of-place.ensures.segment c.place_of-place.ensures.page fresh full
 
   makes : c.max-made.result ≡ max c.args.self.now.made (c.args.page / pages_of c.args.self.now.geometry)
   makes = c.max-made.ensures ∙ ap (max c.args.self.now.made) c.place_of-place.ensures.segment
 
   valid : IsSegmentSize c.args.self.now.geometry
-  valid = subst IsSegmentSize c.segment_size.ensures.value c.segment_size.ensures.valid
+  valid = c.next_behind.ensures.valid
 
 pub returns-in-Ok-clause-done : goal.returns-in-Ok-clause-done
 returns-in-Ok-clause-done g c =
     let before = (goal.at.returns-in-Ok-clause-done g c).After-store_page in
     record {
       put =
-          IsWriter-put g.row.D.Denot g.D.Disk.tape c.args.self.now c.store_page.new.disk c.args.page c.args.upto c.args.bytes.now c.segment_size.result c.max-made.result (stored g before) (valid g before) c.requires.number c.requires.rises c.requires.begun c.requires.within (omega arith)
-          c.in-Ok.ensures.ok.tape (stored_are g before) c.segment_size.ensures.value (makes g before);
+          IsWriter-put g.row.D.Denot g.D.Disk.tape c.args.self.now c.store_page.new.disk c.args.page c.args.upto c.args.bytes.now c.is_some-is_full.result c.max-made.result (stored g before) (valid g before) c.requires.number c.requires.rises c.requires.begun c.requires.within (omega arith)
+          c.in-Ok.ensures.ok.tape (stored_are g before) (full g before) (makes g before);
       calls = search rules;
       moment_rises = search rules;
       written = search rules;

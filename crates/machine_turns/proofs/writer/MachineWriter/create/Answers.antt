@@ -4,7 +4,8 @@ use Rattle.segment_disk.specs.Cause.{RoseByOne}
 use Rattle.segment_disk.specs.MemDisk.{can_create, count_behind_create, counts_next, disk_state_of, faults_of, limits_of, moment_of, tape_of}
 use Rattle.segment_disk.specs.Tape.{IsMade, create_call, failed_call}
 use Rattle.machine_state.specs.Moves.{after_create}
-use Rattle.machine_turns.specs.Writer.{maybe, state_of}
+use Rattle.machine_turns.specs.Writer.{state_of}
+use Rattle.flush_core.specs.Calls.{maybe}
 use Rattle.machine_turns.proofs.Keeping.{can_make, counts_now, done_by, err_fact, fails_counted, kept_create, listed_by, made_ok, rose_from_none, unmade_kind, writer_failed}
 use Rattle.machine_turns.proofs.writer.MachineWriter.create.Goals as goal
 

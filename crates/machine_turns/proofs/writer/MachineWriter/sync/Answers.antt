@@ -4,7 +4,8 @@ use Rattle.segment_disk.specs.Cause.{RoseByOne}
 use Rattle.segment_disk.specs.MemDisk.{counts_next, faults_of, has_segment, limits_of, moment_of}
 use Rattle.segment_disk.specs.Tape.{sync_call}
 use Rattle.machine_state.specs.Moves.{after_sync}
-use Rattle.machine_turns.specs.Writer.{maybe, state_of}
+use Rattle.machine_turns.specs.Writer.{state_of}
+use Rattle.flush_core.specs.Calls.{maybe}
 use Rattle.machine_turns.proofs.Keeping.{counts_now, done_by, fails_counted, kept_call, listed_by, made_ok, rose_from_none, none_is_not_some, writer_failed}
 use Rattle.machine_turns.proofs.writer.MachineWriter.sync.Goals as goal
 
