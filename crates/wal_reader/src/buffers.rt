@@ -3,6 +3,7 @@
 //! again.
 
 ghost use Rattle.std.specs.Prelude.{◌≡◌, [], None, Some, IfOk, IfSome, IsTrue, OnOk, is_some};
+ghost use Rattle.byte_position.specs.Geometry.{IsSegmentSize};
 ghost use Rattle.wal_reader.specs.Buffers.{AreFor, HoldsPageOf, page_in, room_in};
 ghost use Rattle.wal_reader.specs.Pages.{Pages};
 
@@ -27,6 +28,7 @@ pub(crate) fn set_up(
     alloc: Global,
     geometry: Geometry,
 ) -> Result<(), AllocError>
+    requires valid { IsSegmentSize geometry }
     // At Ok there are buffers; what the reader held before it holds still.
     ensures ready { OnOk result (IsTrue (is_some buffers.new)) }
     ensures fit { AreFor geometry buffers.old → AreFor geometry buffers.new }
@@ -53,6 +55,7 @@ impl Buffers {
     // No page is held yet.
     #[inline(never)]
     fn new(alloc: Global, geometry: Geometry) -> Result<Buffers, AllocError>
+        requires { IsSegmentSize geometry }
         ensures { IfOk result (λ buffers. (buffers.cache.geometry ≡ geometry) ×
             (buffers.cache.number ≡ None) × (buffers.room.items ≡ [])) }
     {

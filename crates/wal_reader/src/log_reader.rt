@@ -5,8 +5,10 @@
 //! for good, and reads nothing more.
 
 ghost use Rattle.std.specs.Prelude.{◌≡◌};
+ghost use Rattle.byte_position.specs.Geometry.{IsSegmentSize};
 ghost use Rattle.wal_reader.specs.Buffers.{AreFor, AreFor-prop};
 ghost use Rattle.wal_reader.specs.Ready.{IsReadyIn, IsReadyIn-prop};
+ghost use Rattle.wal_reader.specs.SegmentSizes.{IsSegmentSize-prop};
 ghost use Rattle.wal_reader.specs.Standings.{IsOnWay, IsOnWay-prop};
 
 use crate::buffers::{Buffers, set_up};
@@ -31,6 +33,7 @@ pub struct Reader {
     buffers: Option<Buffers>,
     /// Where the next record stands, while that is known.
     ready: Option<PageCursor>,
+    ghost valid: { IsSegmentSize geometry } by { IsSegmentSize-prop geometry },
     ghost on_way: { IsOnWay standing } by { IsOnWay-prop standing },
     ghost fit: { AreFor geometry buffers } by { AreFor-prop geometry buffers },
     ghost ahead: { IsReadyIn standing buffers ready } by { IsReadyIn-prop standing buffers ready },
@@ -38,7 +41,6 @@ pub struct Reader {
 
 impl Reader {
     ghost use Rattle.std.specs.Prelude.{IfOk, option_map};
-    ghost use Rattle.byte_position.specs.Geometry.{IsSegmentSize};
     ghost use Rattle.segment_disk.specs.Tape.{IsUncalled};
     ghost use Rattle.wal_reader.specs.declared.standing.Standing.TheVariants.{NotBegun};
     ghost use Rattle.wal_reader.specs.Pages.{Pages};

@@ -33,10 +33,9 @@ impl PageCache {
 
     /// Nothing is held yet.
     pub(crate) fn new(alloc: Global, geometry: Geometry) -> Result<PageCache, AllocError>
+        requires { IsSegmentSize geometry }
         ensures { IfOk result (λ cache. (cache.geometry ≡ geometry) × (cache.number ≡ None)) }
     {
-        // That the size is valid rests on its own call.
-        let _size = geometry.segment_size();
         Ok(PageCache {
             geometry,
             number: None,

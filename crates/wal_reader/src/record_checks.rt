@@ -4,6 +4,7 @@
 
 ghost use Rattle.std.specs.Prelude.{◌≡◌, ◌^◌, ◌<◌, ◌≤◌, ◌++◌, length, take, drop, option_map, IfOk};
 ghost use Rattle.std.specs.Int.{w64};
+ghost use Rattle.byte_position.specs.Geometry.{IsSegmentSize};
 ghost use Rattle.byte_position.specs.Position.{address_of, end_address_of};
 ghost use Rattle.wal_types.specs.declared.record.Record.{Record};
 ghost use Rattle.wal_crc32c.specs.Crc32c.{crc32c};
@@ -77,11 +78,11 @@ pub(crate) fn found<K: KeepsRecord>(
     bytes: &[u8],
     heads: &mut Vec<BlockHead>,
 ) -> Result<Result<(RecordHead, RecordPlace), Answer>, AllocError>
-    // The bytes are as many as the record claims, and whatever they say, the next record starts low
-    // enough to have an address.
+    // The size is valid, the bytes are as many as the record claims, and whatever they say, the
+    // next record starts low enough to have an address.
     requires at { extent.at.position < 2 ^ 60 }
     requires start { start.0 ≡ address_of geometry extent.at.position }
-    requires low { start.0 < 2 ^ 60 }
+    requires low { IsSegmentSize geometry × (start.0 < 2 ^ 60) }
     requires len { (24 ≤ length bytes.now) × (length bytes.now ≡ extent.total) }
     requires end { (value : Record)
         → next_position geometry extent.at.position extent.total value < 2 ^ 60 }

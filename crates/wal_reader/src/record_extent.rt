@@ -2,6 +2,7 @@
 //! its segment, whatever stands there.
 
 ghost use Rattle.std.specs.Prelude.{◌≡◌, ◌^◌, ◌<◌, ◌≤◌, length, Ok};
+ghost use Rattle.byte_position.specs.Geometry.{IsSegmentSize};
 ghost use Rattle.byte_position.specs.Position.{address_of, end_address_of};
 ghost use Rattle.wal_types.specs.declared.record.Record.{Record};
 ghost use Rattle.wal_record.specs.Reading.{reading_of};
@@ -51,13 +52,12 @@ impl RecordExtent {
     /// The end form of the byte position behind it. On the page that it starts on, this is as far
     /// behind its first byte's address as the position is behind its own.
     pub(crate) fn end(self, geometry: Geometry, start: Lsn, next: u64) -> Lsn
+        requires valid { IsSegmentSize geometry }
         requires start { start.0 ≡ address_of geometry self.at.position }
         requires low { start.0 < 2 ^ 60 }
         requires next { next < 2 ^ 60 }
         ensures { result.0 ≡ end_address_of geometry next }
     {
-        // That addresses rise with positions rests on a valid size.
-        let _size = geometry.segment_size();
         let position = self.at.position;
         if position < next && next - position <= PAGE_SIZE - start.0 % PAGE_SIZE {
             return Lsn(start.0 + (next - position));
