@@ -13,6 +13,7 @@ pub mod PagesPassed
 pub mod ReadsOn
 pub mod Gathering
 pub mod Ready
+pub mod Opening
 pub mod RecordRead
 pub mod Beginning
 pub mod Steps

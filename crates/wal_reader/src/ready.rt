@@ -2,16 +2,16 @@
 //! that has the last one's end, no address is made of a byte position, and the page's header is
 //! looked at once.
 
-ghost use Rattle.std.specs.Prelude.{◌≡◌, ◌↔◌, ◌+◌, ◌/◌, ◌%◌, ◌<◌, ◌≤◌, ◌^◌, IfOk, IsTrue, Some, None, is_some, option_map};
+ghost use Rattle.std.specs.Prelude.{◌≡◌, ◌↔◌, ◌+◌, ◌/◌, ◌%◌, ◌<◌, ◌≤◌, ◌^◌, IsTrue, Some, None, is_some, option_map};
 ghost use Rattle.byte_position.specs.Position.{address_of};
 ghost use Rattle.wal_reader.specs.Decodes.{is_at_end, opening_fault};
 ghost use Rattle.wal_reader.specs.Gathering.{IsGathering, IsOpened};
-ghost use Rattle.wal_reader.specs.PageCursor.{HasGathered, HasPassed, IsOn, Sees};
-ghost use Rattle.wal_reader.specs.Pages.{Pages};
+ghost use Rattle.wal_reader.specs.Opening.{OpensPage};
+ghost use Rattle.wal_reader.specs.PageCursor.{HasPassed};
 ghost use Rattle.wal_reader.specs.Ready.{IsReadyAt};
 ghost use Rattle.wal_reader.specs.ReadsOn.{ReadsOn};
 ghost use Rattle.wal_reader.specs.RecordPlace.{IsOutOfReach, IsReachable};
-ghost use Rattle.wal_reader.specs.ReadFailures.{HasFailureCause, Settles};
+ghost use Rattle.wal_reader.specs.ReadFailures.{HasFailureCause};
 
 use crate::answers::is_out_of_reach;
 use crate::gathering::Gathering;
@@ -125,20 +125,7 @@ pub(crate) fn open_ready<D: Disk>(
 ) -> Result<PageCursor, ReadFailure>
     requires reachable { IsReachable at }
     requires ready { IsReadyAt cache.old at ready }
-    // At Ok the page is held that has the record's first byte, and the cursor stands at that byte.
-    // All checks before the record's first word hold then; else it tells the first that fails. A
-    // page that is held is not read again.
-    ensures cursor { IfOk result (λ cursor. IsOn cache.new cursor
-        × HasGathered cache.old.geometry at.position 0 cursor) }
-    ensures place { IfOk result (λ cursor. (cursor.page
-        ≡ address_of cache.old.geometry at.position / 8192) × (cursor.offset + 8 ≤ 8192)) }
-    ensures opens { IfOk result (λ _. opening_fault cache.old.geometry at
-        (Some cache.new.bytes.value) ≡ None) }
-    ensures unread { cache.old.number ≡ Some (address_of cache.old.geometry at.position / 8192)
-        → (disk.new ≡ disk.old) × (cache.new ≡ cache.old) }
-    ensures checks { (pages : Pages) → Sees (D.tape disk.old) cache.old pages
-        → Settles (opening_fault cache.old.geometry at
-        (pages (address_of cache.old.geometry at.position / 8192))) result }
+    ensures opens { OpensPage D.tape disk.old disk.new cache.old cache.new at result }
 
     ensures reads_on { ReadsOn D.tape D.moment disk.old disk.new cache.old cache.new }
     ensures cause { HasFailureCause (D.faults disk.old) (D.faults disk.new) result }

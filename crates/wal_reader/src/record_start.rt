@@ -4,15 +4,14 @@
 
 ghost use Rattle.std.specs.Prelude.{◌≡◌, ℕ, ◌+◌, ◌*◌, ◌/◌, ◌%◌, ◌^◌, ◌<◌, ◌≤◌, ◌==◌, length, option_map, Some, IfOk};
 ghost use Rattle.std.specs.Int.{w32, w64};
-ghost use Rattle.byte_position.specs.Position.{address_of};
 ghost use Rattle.wal_page.specs.Page.{first_fault};
 ghost use Rattle.wal_spelling.specs.Numbers.{number_at};
-ghost use Rattle.wal_reader.specs.PageCursor.{HasGathered, IsOn, Sees};
-ghost use Rattle.wal_reader.specs.Pages.{IsPage, Pages};
-ghost use Rattle.wal_reader.specs.Decodes.{opening_fault, size_rows};
+ghost use Rattle.wal_reader.specs.Opening.{OpensPage};
+ghost use Rattle.wal_reader.specs.Pages.{IsPage};
+ghost use Rattle.wal_reader.specs.Decodes.{size_rows};
 ghost use Rattle.wal_reader.specs.RecordPlace.{IsReachable};
 ghost use Rattle.wal_reader.specs.ReadsOn.{ReadsOn};
-ghost use Rattle.wal_reader.specs.ReadFailures.{HasFailureCause, Passes, Settles};
+ghost use Rattle.wal_reader.specs.ReadFailures.{HasFailureCause, Passes};
 
 use crate::answers::{damaged, end_of_log, reaches_end};
 use crate::found::{Answer, DamageKind};
@@ -37,21 +36,7 @@ pub(crate) fn open_page<D: Disk>(
     at: RecordPlace,
 ) -> Result<PageCursor, ReadFailure>
     requires reachable { IsReachable at }
-    // At Ok the page is held that has the record's first byte, and the cursor stands at that byte.
-    ensures cursor { IfOk result (λ cursor. IsOn cache.new cursor
-        × HasGathered cache.old.geometry at.position 0 cursor) }
-    ensures place { IfOk result (λ cursor. (cursor.page
-        ≡ address_of cache.old.geometry at.position / 8192) × (cursor.offset + 8 ≤ 8192)) }
-    ensures opens { IfOk result (λ _. opening_fault cache.old.geometry at
-        (Some cache.new.bytes.value) ≡ None) }
-    // A page that is held is not read again.
-    ensures unread { cache.old.number ≡ Some (address_of cache.old.geometry at.position / 8192)
-        → (disk.new ≡ disk.old) × (cache.new ≡ cache.old) }
-    // It goes on where all checks before the record's first word hold, and tells the first that
-    // fails else.
-    ensures checks { (pages : Pages) → Sees (D.tape disk.old) cache.old pages
-        → Settles (opening_fault cache.old.geometry at
-        (pages (address_of cache.old.geometry at.position / 8192))) result }
+    ensures opens { OpensPage D.tape disk.old disk.new cache.old cache.new at result }
 
     ensures reads_on { ReadsOn D.tape D.moment disk.old disk.new cache.old cache.new }
     ensures cause { HasFailureCause (D.faults disk.old) (D.faults disk.new) result }

@@ -42,14 +42,14 @@ returns-in_err-cursor-clause-reads g c = λ pages sees.
     let stop = err_from_is_err_and c.from_residual.result c.from_residual.ensures.1 in
     let before = is_before_end c.args.buffers.now.cache.geometry (option_map (λ (l : Lsn). l.0) c.args.end) c.args.at.position c.is_beyond.result c.is_beyond.ensures c.if-is_beyond.false in
     record {
-      reads = rw (stop.1, stop.2) (stop_tells c.args.buffers.now.cache.geometry pages c.args.at _ _ (read_at-not_opened c.args.buffers.now.cache.geometry pages (option_map (λ (l : Lsn). l.0) c.args.end) c.args.at before) _ (c.in_err-cursor.ensures.checks pages sees));
+      reads = rw (stop.1, stop.2) (stop_tells c.args.buffers.now.cache.geometry pages c.args.at _ _ (read_at-not_opened c.args.buffers.now.cache.geometry pages (option_map (λ (l : Lsn). l.0) c.args.end) c.args.at before) _ (c.in_err-cursor.ensures.opens.checks pages sees));
       spelled = rw stop.1 tt;
       room = inl refl;
     }
 
 -- the page in which the record starts
 here : (g : _) (c : After-claimed g) (pages : Pages) → Sees (g.D.Disk.tape c.args.disk.now) c.args.buffers.now.cache pages → pages c.in_ok-cursor.cursor.page ≡ Some c.open_ready.new.cache.bytes.value
-here g c pages sees = held_page (g.D.Disk.tape c.open_ready.new.disk) c.open_ready.new.cache pages c.in_ok-cursor.cursor.page (c.in_ok-cursor.ensures.reads_on.sees pages sees) c.in_ok-cursor.ensures.cursor.0.0
+here g c pages sees = held_page (g.D.Disk.tape c.open_ready.new.disk) c.open_ready.new.cache pages c.in_ok-cursor.cursor.page (c.in_ok-cursor.ensures.reads_on.sees pages sees) c.in_ok-cursor.ensures.opens.cursor.0.0
 
 pub returns-in_err-extent-clause-reads : goal.returns-in_err-extent-clause-reads
 returns-in_err-extent-clause-reads g c = λ pages sees.
@@ -57,10 +57,10 @@ returns-in_err-extent-clause-reads g c = λ pages sees.
     let stop = err_from_is_err_and c.from_residual-in_err-extent.result c.from_residual-in_err-extent.ensures.1 in
     let opened = c.in_ok-cursor.ensures in
     let before = is_before_end c.args.buffers.now.cache.geometry (option_map (λ (l : Lsn). l.0) c.args.end) c.args.at.position c.is_beyond.result c.is_beyond.ensures c.if-is_beyond.false in
-    let there = ap pages (sym opened.place.0) ∙ here g at pages sees in
+    let there = ap pages (sym opened.opens.place.0) ∙ here g at pages sees in
     let told = rw opened.reads_on.geometry at c.in_err-extent.ensures.checks in
     record {
-      reads = rw (stop.1, stop.2) (read_at-no_size c.args.buffers.now.cache.geometry pages (option_map (λ (l : Lsn). l.0) c.args.end) c.args.at before _ there (opened.checks pages sees) c.in_ok-cursor.cursor opened.place.0 opened.cursor.1 c.in_err-extent.ensures.whole opened.place.1 _ told);
+      reads = rw (stop.1, stop.2) (read_at-no_size c.args.buffers.now.cache.geometry pages (option_map (λ (l : Lsn). l.0) c.args.end) c.args.at before _ there (opened.opens.checks pages sees) c.in_ok-cursor.cursor opened.opens.place.0 opened.opens.cursor.1 c.in_err-extent.ensures.whole opened.opens.place.1 _ told);
       spelled = rw stop.1 tt;
       room = inl refl;
     }
@@ -72,11 +72,11 @@ returns-in_err-whole-clause-reads g c = λ pages sees.
     let size = c.args.buffers.now.cache.geometry in
     let opened = c.in_ok-cursor.ensures in
     let before = is_before_end c.args.buffers.now.cache.geometry (option_map (λ (l : Lsn). l.0) c.args.end) c.args.at.position c.is_beyond.result c.is_beyond.ensures c.if-is_beyond.false in
-    let there = ap pages (sym opened.place.0) ∙ here g at pages sees in
+    let there = ap pages (sym opened.opens.place.0) ∙ here g at pages sees in
     let extent = c.in_ok-extent.ensures.extent in
     let total : c.in_ok-extent.extent.total ≡ number_at w32 c.open_ready.new.cache.bytes.value c.in_ok-cursor.cursor.offset = ap (λ (e : RecordExtent). e.total) extent.0 in
     let passes = rw opened.reads_on.geometry at c.in_ok-extent.ensures.checks in
-    let rest = read_at-rest size pages (option_map (λ (l : Lsn). l.0) c.args.end) c.args.at before _ there (opened.checks pages sees) c.in_ok-cursor.cursor opened.place.0 opened.cursor.1 c.in_ok-extent.ensures.whole opened.place.1 c.in_ok-extent.extent.total total extent.1 passes in
+    let rest = read_at-rest size pages (option_map (λ (l : Lsn). l.0) c.args.end) c.args.at before _ there (opened.opens.checks pages sees) c.in_ok-cursor.cursor opened.opens.place.0 opened.opens.cursor.1 c.in_ok-extent.ensures.whole opened.opens.place.1 c.in_ok-extent.extent.total total extent.1 passes in
     let reads = read_as size pages c.args.at c.in_ok-extent.extent _ (Err c.in_err-whole.field-0.0) (ap (λ (e : RecordExtent). e.at) extent.0) rest (rw opened.reads_on.geometry at (c.in_err-whole.ensures.reads pages (here g at pages sees))) in
     record {
       reads = rw (stop.1, stop.2) reads;
@@ -90,15 +90,15 @@ returns-in_ok-whole-clause-reads g c = λ pages sees.
     let size = c.args.buffers.now.cache.geometry in
     let opened = c.in_ok-cursor.ensures in
     let before = is_before_end c.args.buffers.now.cache.geometry (option_map (λ (l : Lsn). l.0) c.args.end) c.args.at.position c.is_beyond.result c.is_beyond.ensures c.if-is_beyond.false in
-    let there = ap pages (sym opened.place.0) ∙ here g at pages sees in
+    let there = ap pages (sym opened.opens.place.0) ∙ here g at pages sees in
     let extent = c.in_ok-extent.ensures.extent in
     let total : c.in_ok-extent.extent.total ≡ number_at w32 c.open_ready.new.cache.bytes.value c.in_ok-cursor.cursor.offset = ap (λ (e : RecordExtent). e.total) extent.0 in
     let passes = rw opened.reads_on.geometry at c.in_ok-extent.ensures.checks in
-    let rest = read_at-rest size pages (option_map (λ (l : Lsn). l.0) c.args.end) c.args.at before _ there (opened.checks pages sees) c.in_ok-cursor.cursor opened.place.0 opened.cursor.1 c.in_ok-extent.ensures.whole opened.place.1 c.in_ok-extent.extent.total total extent.1 passes in
+    let rest = read_at-rest size pages (option_map (λ (l : Lsn). l.0) c.args.end) c.args.at before _ there (opened.opens.checks pages sees) c.in_ok-cursor.cursor opened.opens.place.0 opened.opens.cursor.1 c.in_ok-extent.ensures.whole opened.opens.place.1 c.in_ok-extent.extent.total total extent.1 passes in
     let reads = read_as size pages c.args.at c.in_ok-extent.extent _ (read_with (g.K.KeepsRecord.kept c.read_in_page.new.value) (Ok c.in_ok-whole.whole)) (ap (λ (e : RecordExtent). e.at) extent.0) rest (rw opened.reads_on.geometry at (c.in_ok-whole.ensures.reads pages (here g at pages sees))) in
     record {
       reads = reads;
-      spelled = read_is_spelled size pages (option_map (λ (l : Lsn). l.0) c.args.end) c.args.at opened.cursor.1.stands.valid (read_with (g.K.KeepsRecord.kept c.read_in_page.new.value) (Ok c.in_ok-whole.whole)) reads;
+      spelled = read_is_spelled size pages (option_map (λ (l : Lsn). l.0) c.args.end) c.args.at opened.opens.cursor.1.stands.valid (read_with (g.K.KeepsRecord.kept c.read_in_page.new.value) (Ok c.in_ok-whole.whole)) reads;
       room = inl refl;
     }
 
@@ -109,17 +109,17 @@ returns-in_err-read-clause-reads g c = λ pages sees.
     let size = c.args.buffers.now.cache.geometry in
     let opened = c.in_ok-cursor.ensures in
     let before = is_before_end c.args.buffers.now.cache.geometry (option_map (λ (l : Lsn). l.0) c.args.end) c.args.at.position c.is_beyond.result c.is_beyond.ensures c.if-is_beyond.false in
-    let there = ap pages (sym opened.place.0) ∙ here g at pages sees in
+    let there = ap pages (sym opened.opens.place.0) ∙ here g at pages sees in
     let extent = c.in_ok-extent.ensures.extent in
     let total : c.in_ok-extent.extent.total ≡ number_at w32 c.open_ready.new.cache.bytes.value c.in_ok-cursor.cursor.offset = ap (λ (e : RecordExtent). e.total) extent.0 in
     let passes = rw opened.reads_on.geometry at c.in_ok-extent.ensures.checks in
-    let rest = read_at-rest size pages (option_map (λ (l : Lsn). l.0) c.args.end) c.args.at before _ there (opened.checks pages sees) c.in_ok-cursor.cursor opened.place.0 opened.cursor.1 c.in_ok-extent.ensures.whole opened.place.1 c.in_ok-extent.extent.total total extent.1 passes in
+    let rest = read_at-rest size pages (option_map (λ (l : Lsn). l.0) c.args.end) c.args.at before _ there (opened.opens.checks pages sees) c.in_ok-cursor.cursor opened.opens.place.0 opened.opens.cursor.1 c.in_ok-extent.ensures.whole opened.opens.place.1 c.in_ok-extent.extent.total total extent.1 passes in
     let reads = read_as size pages c.args.at c.in_ok-extent.extent _ (Err c.in_err-read.field-0.0) (ap (λ (e : RecordExtent). e.at) extent.0) rest (rw opened.reads_on.geometry at (c.in_err-read.ensures.reads pages (opened.reads_on.sees pages sees))) in
-    let claimed = size_in_page size pages (option_map (λ (l : Lsn). l.0) c.args.end) c.args.at before _ there (opened.checks pages sees) c.in_ok-cursor.cursor opened.place.0 opened.cursor.1 c.in_ok-extent.ensures.whole opened.place.1 in
+    let claimed = size_in_page size pages (option_map (λ (l : Lsn). l.0) c.args.end) c.args.at before _ there (opened.opens.checks pages sees) c.in_ok-cursor.cursor opened.opens.place.0 opened.opens.cursor.1 c.in_ok-extent.ensures.whole opened.opens.place.1 in
     record {
       reads = rw (stop.1, stop.2) reads;
       spelled = rw stop.1 tt;
-      room = inr (opened.checks pages sees, room_as size pages c.args.at c.in_ok-extent.extent _ _ (ap (λ (e : RecordExtent). e.at) extent.0) (ap (λ (e : RecordExtent). e.total) extent.0 ∙ sym claimed) (rw opened.reads_on.geometry at (c.in_err-read.ensures.room pages (opened.reads_on.sees pages sees))));
+      room = inr (opened.opens.checks pages sees, room_as size pages c.args.at c.in_ok-extent.extent _ _ (ap (λ (e : RecordExtent). e.at) extent.0) (ap (λ (e : RecordExtent). e.total) extent.0 ∙ sym claimed) (rw opened.reads_on.geometry at (c.in_err-read.ensures.room pages (opened.reads_on.sees pages sees))));
     }
 
 pub returns-in_ok-read-clause-reads_on : goal.returns-in_ok-read-clause-reads_on
@@ -131,17 +131,17 @@ returns-in_ok-read-clause-reads g c = λ pages sees.
     let size = c.args.buffers.now.cache.geometry in
     let opened = c.in_ok-cursor.ensures in
     let before = is_before_end c.args.buffers.now.cache.geometry (option_map (λ (l : Lsn). l.0) c.args.end) c.args.at.position c.is_beyond.result c.is_beyond.ensures c.if-is_beyond.false in
-    let there = ap pages (sym opened.place.0) ∙ here g at pages sees in
+    let there = ap pages (sym opened.opens.place.0) ∙ here g at pages sees in
     let extent = c.in_ok-extent.ensures.extent in
     let total : c.in_ok-extent.extent.total ≡ number_at w32 c.open_ready.new.cache.bytes.value c.in_ok-cursor.cursor.offset = ap (λ (e : RecordExtent). e.total) extent.0 in
     let passes = rw opened.reads_on.geometry at c.in_ok-extent.ensures.checks in
-    let rest = read_at-rest size pages (option_map (λ (l : Lsn). l.0) c.args.end) c.args.at before _ there (opened.checks pages sees) c.in_ok-cursor.cursor opened.place.0 opened.cursor.1 c.in_ok-extent.ensures.whole opened.place.1 c.in_ok-extent.extent.total total extent.1 passes in
+    let rest = read_at-rest size pages (option_map (λ (l : Lsn). l.0) c.args.end) c.args.at before _ there (opened.opens.checks pages sees) c.in_ok-cursor.cursor opened.opens.place.0 opened.opens.cursor.1 c.in_ok-extent.ensures.whole opened.opens.place.1 c.in_ok-extent.extent.total total extent.1 passes in
     let reads = read_as size pages c.args.at c.in_ok-extent.extent _ (read_with (g.K.KeepsRecord.kept c.read_over_pages.new.value) (Ok c.in_ok-read.read)) (ap (λ (e : RecordExtent). e.at) extent.0) rest (rw opened.reads_on.geometry at (c.in_ok-read.ensures.reads pages (opened.reads_on.sees pages sees))) in
-    let claimed = size_in_page size pages (option_map (λ (l : Lsn). l.0) c.args.end) c.args.at before _ there (opened.checks pages sees) c.in_ok-cursor.cursor opened.place.0 opened.cursor.1 c.in_ok-extent.ensures.whole opened.place.1 in
+    let claimed = size_in_page size pages (option_map (λ (l : Lsn). l.0) c.args.end) c.args.at before _ there (opened.opens.checks pages sees) c.in_ok-cursor.cursor opened.opens.place.0 opened.opens.cursor.1 c.in_ok-extent.ensures.whole opened.opens.place.1 in
     record {
       reads = reads;
-      spelled = read_is_spelled size pages (option_map (λ (l : Lsn). l.0) c.args.end) c.args.at opened.cursor.1.stands.valid (read_with (g.K.KeepsRecord.kept c.read_over_pages.new.value) (Ok c.in_ok-read.read)) reads;
-      room = inr (opened.checks pages sees, room_as size pages c.args.at c.in_ok-extent.extent _ _ (ap (λ (e : RecordExtent). e.at) extent.0) (ap (λ (e : RecordExtent). e.total) extent.0 ∙ sym claimed) (rw opened.reads_on.geometry at (c.in_ok-read.ensures.room pages (opened.reads_on.sees pages sees))));
+      spelled = read_is_spelled size pages (option_map (λ (l : Lsn). l.0) c.args.end) c.args.at opened.opens.cursor.1.stands.valid (read_with (g.K.KeepsRecord.kept c.read_over_pages.new.value) (Ok c.in_ok-read.read)) reads;
+      room = inr (opened.opens.checks pages sees, room_as size pages c.args.at c.in_ok-extent.extent _ _ (ap (λ (e : RecordExtent). e.at) extent.0) (ap (λ (e : RecordExtent). e.total) extent.0 ∙ sym claimed) (rw opened.reads_on.geometry at (c.in_ok-read.ensures.room pages (opened.reads_on.sees pages sees))));
     }
 
 -- the address rises with the position
@@ -152,23 +152,23 @@ rises_behind size held valid from at read same answered =
 
 pub returns-in_ok-whole-clause-rises : goal.returns-in_ok-whole-clause-rises
 returns-in_ok-whole-clause-rises g c =
-    rises_behind c.args.buffers.now.cache.geometry _ c.in_ok-cursor.ensures.cursor.1.stands.valid c.in_ok-extent.extent.at c.args.at (read_with (g.K.KeepsRecord.kept c.read_in_page.new.value) (Ok c.in_ok-whole.whole)) (ap (λ (e : RecordExtent). e.at) c.in_ok-extent.ensures.extent.0) c.in_ok-whole.ensures.answered
+    rises_behind c.args.buffers.now.cache.geometry _ c.in_ok-cursor.ensures.opens.cursor.1.stands.valid c.in_ok-extent.extent.at c.args.at (read_with (g.K.KeepsRecord.kept c.read_in_page.new.value) (Ok c.in_ok-whole.whole)) (ap (λ (e : RecordExtent). e.at) c.in_ok-extent.ensures.extent.0) c.in_ok-whole.ensures.answered
 
 pub ready_behind-requires-clause-opens : goal.ready_behind-requires-clause-opens
 ready_behind-requires-clause-opens g c =
     let bytes = c.open_ready.new.cache.bytes.value in
     let same = ap (λ (e : RecordExtent). e.at) c.in_ok-extent.ensures.extent.0 in
-    let sized = subst (λ (n : ℕ). opening_fault n c.args.at (Some bytes) ≡ None) (sym c.in_ok-cursor.ensures.reads_on.geometry) c.in_ok-cursor.ensures.opens in
+    let sized = subst (λ (n : ℕ). opening_fault n c.args.at (Some bytes) ≡ None) (sym c.in_ok-cursor.ensures.reads_on.geometry) c.in_ok-cursor.ensures.opens.passes in
     subst (λ (at : RecordPlace). opening_fault c.open_ready.new.cache.geometry at (Some bytes) ≡ None) (sym same) sized
 
 pub returns-in_ok-read-clause-rises : goal.returns-in_ok-read-clause-rises
 returns-in_ok-read-clause-rises g c =
-    rises_behind c.args.buffers.now.cache.geometry _ c.in_ok-cursor.ensures.cursor.1.stands.valid c.in_ok-extent.extent.at c.args.at (read_with (g.K.KeepsRecord.kept c.read_over_pages.new.value) (Ok c.in_ok-read.read)) (ap (λ (e : RecordExtent). e.at) c.in_ok-extent.ensures.extent.0) c.in_ok-read.ensures.answered
+    rises_behind c.args.buffers.now.cache.geometry _ c.in_ok-cursor.ensures.opens.cursor.1.stands.valid c.in_ok-extent.extent.at c.args.at (read_with (g.K.KeepsRecord.kept c.read_over_pages.new.value) (Ok c.in_ok-read.read)) (ap (λ (e : RecordExtent). e.at) c.in_ok-extent.ensures.extent.0) c.in_ok-read.ensures.answered
 
 pub read_over_pages-requires-clause-passed : goal.read_over_pages-requires-clause-passed
 read_over_pages-requires-clause-passed g c =
     let opened = c.in_ok-cursor.ensures in
     let cache = c.open_ready.new.cache in
-    let page = rw (← opened.reads_on.geometry) at opened.place.0 in
-    let opens = subst (λ (n : ℕ). opening_fault n c.args.at (Some cache.bytes.value) ≡ None) (sym opened.reads_on.geometry) opened.opens in
+    let page = rw (← opened.reads_on.geometry) at opened.opens.place.0 in
+    let opens = subst (λ (n : ℕ). opening_fault n c.args.at (Some cache.bytes.value) ≡ None) (sym opened.reads_on.geometry) opened.opens.passes in
     opening_passed cache c.args.at c.in_ok-cursor.cursor.page page opens

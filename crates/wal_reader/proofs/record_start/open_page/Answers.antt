@@ -47,23 +47,39 @@ fails : (g : _) (c : After-check_held g) (pages : Pages) → Sees (g.D.Disk.tape
 unfolding checks_of
 fails g c pages sees answer told = rw (← c.in_ok-load.ensures.reads_on.geometry) (opening_page_fails c.load.new.self.geometry c.args.at _ _ (there g c pages sees) (marked g c) answer told)
 
-pub returns-in_err-info-clause-checks : goal.returns-in_err-info-clause-checks
-returns-in_err-info-clause-checks g c = λ pages sees.
-    let before = (goal.at.returns-in_err-info-clause-checks g c).After-check_held in
+-- a page that is held is not read again, as `load` says it
+unread : (g : _) (c : After-check_held g) → c.args.cache.now.number ≡ Some (address_of c.args.cache.now.geometry c.args.at.position / 8192) → (c.load.new.disk ≡ c.args.disk.now) × (c.load.new.self ≡ c.args.cache.now)
+unread g c held = c.in_ok-load.ensures.unread (held ∙ ap (λ (a : ℕ). Some (a / 8192)) (sym c.to_lsn-start.ensures))
+
+pub returns-in_err-info-clause-opens : goal.returns-in_err-info-clause-opens
+returns-in_err-info-clause-opens g c =
+    let before = (goal.at.returns-in_err-info-clause-opens g c).After-check_held in
     let stop = err_from_is_err_and c.from_residual-in_err-info.result c.from_residual-in_err-info.ensures.1 in
-    rw (stop.1, stop.2) (fails g before pages sees c.in_err-info.field-0.0 (checks_at g before (Some c.in_err-info.field-0.0) c.in_err-info.ensures.checks))
+    record {
+      cursor = rw stop.1 tt;
+      place = rw stop.1 tt;
+      passes = rw stop.1 tt;
+      unread = unread g before;
+      checks = λ pages sees. rw (stop.1, stop.2) (fails g before pages sees c.in_err-info.field-0.0 (checks_at g before (Some c.in_err-info.field-0.0) c.in_err-info.ensures.checks));
+    }
 
 claims : (g : _) (c : After-check_held g) (pages : Pages) → Sees (g.D.Disk.tape c.args.disk.now) c.args.cache.now pages → checks_of g c None → opens_page c.load.new.self.geometry c.args.at.position ≡ true → is_continued c.load.new.self.bytes.value ≡ true
     → opening_fault c.args.cache.now.geometry c.args.at (pages (address_of c.args.cache.now.geometry c.args.at.position / 8192)) ≡ Some (damaged c.to_lsn-start.result.0 kinds.Claims)
 unfolding checks_of
 claims g c pages sees told first continued = rw (c.to_lsn-start.ensures, ← c.in_ok-load.ensures.reads_on.geometry) (opening_claims c.load.new.self.geometry c.args.at _ _ (there g c pages sees) (marked g c) told first continued)
 
-pub returns-then-is_continued-clause-checks : goal.returns-then-is_continued-clause-checks
-returns-then-is_continued-clause-checks g c = λ pages sees.
-    let before = (goal.at.returns-then-is_continued-clause-checks g c).After-check_held in
+pub returns-then-is_continued-clause-opens : goal.returns-then-is_continued-clause-opens
+returns-then-is_continued-clause-opens g c =
+    let before = (goal.at.returns-then-is_continued-clause-opens g c).After-check_held in
     let first = opens g before ∙ eq-eqb _ _ c.if-opens-2.true in
     let continued = sym c.in_ok-info.ensures.continued ∙ sym c.is_continued.ensures ∙ c.if-is_continued.true in
-    rw c.damaged.ensures (claims g before pages sees (checks_at g before None c.in_ok-info.ensures.checks) first continued)
+    record {
+      cursor = tt;
+      place = tt;
+      passes = tt;
+      unread = unread g before;
+      checks = λ pages sees. rw c.damaged.ensures (claims g before pages sees (checks_at g before None c.in_ok-info.ensures.checks) first continued);
+    }
 
 passes : (g : _) (c : After-check_held g) (pages : Pages) → Sees (g.D.Disk.tape c.args.disk.now) c.args.cache.now pages → checks_of g c None → (opens_page c.load.new.self.geometry c.args.at.position && is_continued c.load.new.self.bytes.value) ≡ false
     → opening_fault c.args.cache.now.geometry c.args.at (pages (address_of c.args.cache.now.geometry c.args.at.position / 8192)) ≡ None
@@ -82,29 +98,17 @@ returns-clause-opens g c =
       | else-opens-2-via-then-opens-2+else-is_continued w ↦ and_right _ _ (sym c.in_ok-info.ensures.continued ∙ sym w.is_continued.ensures ∙ w.if-is_continued.false)
       | else-opens-2-via-else-opens-2 w ↦ rw (opens g before, ne_eqb _ _ w.if-opens-2.false) refl
     ] in
-    opens_here g before (checks_at g before None c.in_ok-info.ensures.checks) last
-
-pub returns-clause-checks : goal.returns-clause-checks
-returns-clause-checks g c = λ pages sees.
-    let before = (goal.at.returns-clause-checks g c).After-check_held in
-    let last : (opens_page c.load.new.self.geometry c.args.at.position && is_continued c.load.new.self.bytes.value) ≡ false =
-    elim c.else-opens-2.branch [
-      | else-opens-2-via-then-opens-2+else-is_continued w ↦ and_right _ _ (sym c.in_ok-info.ensures.continued ∙ sym w.is_continued.ensures ∙ w.if-is_continued.false)
-      | else-opens-2-via-else-opens-2 w ↦ rw (opens g before, ne_eqb _ _ w.if-opens-2.false) refl
-    ] in
-    passes g before pages sees (checks_at g before None c.in_ok-info.ensures.checks) last
-
-pub returns-clause-cursor : goal.returns-clause-cursor
-returns-clause-cursor g c =
     let size = c.args.cache.now.geometry in
     let valid = rw c.in_ok-load.ensures.reads_on.geometry at c.header_len.ensures.valid in
     let cursor : PageCursor = record { page = c.to_lsn-start.result.0 / 8192; offset = c.to_lsn-start.result.0 % 8192; timeline = c.in_ok-info.info.timeline } in
     let held = rw c.if-not-branch.false at c.in_ok-load.ensures.held in
     let reach = rw c.if-not-branch.false at c.in_ok-load.ensures.reach in
-    ((held refl, sym c.in_ok-info.ensures.info.0), gathers_none size c.args.at.position cursor valid (ap (λ (a : ℕ). a / 8192) c.to_lsn-start.ensures) (ap (λ (a : ℕ). a % 8192) c.to_lsn-start.ensures) (reach refl))
-
-pub returns-clause-place : goal.returns-clause-place
-returns-clause-place g c =
-    let valid = rw c.in_ok-load.ensures.reads_on.geometry at c.header_len.ensures.valid in
+    let page = ap (λ (a : ℕ). a / 8192) c.to_lsn-start.ensures in
     let word = address_of-mod_word c.args.cache.now.geometry valid c.args.at.position c.requires.reachable.aligned in
-    (ap (λ (a : ℕ). a / 8192) c.to_lsn-start.ensures, omega (arith, c.to_lsn-start.ensures))
+    record {
+      cursor = ((held refl, sym c.in_ok-info.ensures.info.0), gathers_none size c.args.at.position cursor valid page (ap (λ (a : ℕ). a % 8192) c.to_lsn-start.ensures) (reach refl));
+      place = (page, omega (arith, c.to_lsn-start.ensures));
+      passes = opens_here g before (checks_at g before None c.in_ok-info.ensures.checks) last;
+      unread = unread g before;
+      checks = λ pages sees. passes g before pages sees (checks_at g before None c.in_ok-info.ensures.checks) last;
+    }
