@@ -5,6 +5,7 @@
 // With the bit set the position is this pass's to store, and so is the last start (places.rt). The
 // address there is made before: nothing but steps is done while the position is locked.
 ghost use Rattle.std.specs.Prelude.{◌≡◌, ◌<◌, ◌^◌, IfErr, IfOk};
+ghost use Rattle.byte_position.specs.Geometry.{IsSegmentSize};
 ghost use Rattle.byte_position.specs.Position.{address_of, end_address_of};
 ghost use Rattle.machine_state.specs.Views.{Free};
 ghost use Rattle.wal_rule.specs.SeatedPasses.{StaysSeated, setup_of, view_of};
@@ -37,6 +38,7 @@ pub(crate) fn lock_seen<'p, D: Disk>(
     ensures behind { IfOk result (λ l. l.behind.0 ≡ end_address_of geometry l.at) }
     ensures start { IfOk result (λ l. l.start.0 ≡ address_of geometry l.at) }
     ensures low { IfOk result (λ l. l.at < 2 ^ 60) }
+    ensures valid { IfOk result (λ _. IsSegmentSize geometry) }
     // It is not locked by this pass, which has seen reserved what it loaded, and knows no more.
     ensures busy { IfErr result (λ seen. IsPositionBusy seen (view_of seated.old)
         (view_of seated.new)) }

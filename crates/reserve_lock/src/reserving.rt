@@ -5,6 +5,7 @@
 // for good, whatever fails later: its words are the pass's to copy, and the next record names its
 // start as prev. Nobody else reserves those bytes.
 ghost use Rattle.std.specs.Prelude.{◌≡◌, ℕ, ◌-◌, ◌<◌, [], ◌∷◌, false, IfErr, IfOk};
+ghost use Rattle.byte_position.specs.Geometry.{IsSegmentSize};
 ghost use Rattle.byte_position.specs.Position.{address_of};
 ghost use Rattle.wal_spelling.specs.Spelling.{RecordOf, is_assembled_switch};
 ghost use Rattle.machine_state.specs.Views.{Free, Landed};
@@ -119,6 +120,7 @@ pub(crate) fn reserve_locked<'a, 'p, D: Disk>(
     room: u64,
 ) -> Result<Reserved<'a>, u64>
     requires known { RecordOf body.now }
+    requires valid { IsSegmentSize geometry }
     requires locked { IsLockedAt (setup_of seated.old) geometry locked.at locked.behind.0
         locked.start.0 (view_of seated.old) }
     requires room { room
