@@ -79,8 +79,7 @@ fn image_len(image: Option<ImageHead>) -> u16
 impl<B: ByFilter> KeepsRecord for Weighed<B> {
     ghost kept = { λ weighed. weighed.unkept.spelled };
 
-    // A call of its own, so that the decoder is compiled into the reader's loop.
-    #[inline(never)]
+    #[inline(always)]
     fn keep(
         &mut self,
         alloc: Global,
