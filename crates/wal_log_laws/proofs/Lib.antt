@@ -9,3 +9,4 @@ pub mod Closes
 pub mod Survivors
 pub mod LoneCalls
 pub mod LoneOrders
+pub mod SharedOrders

@@ -1,5 +1,6 @@
 -- How the log of a pass grows, and who has it once its pass was taken in.
-use Rattle.std.specs.Prelude.{◌≡◌, ◌⊎◌, Contains, List, ◌++◌, Result, Ok, Err}
+use Rattle.std.specs.Prelude.{◌≡◌, ◌⊎◌, ℕ, Contains, List, [], ◌∷◌, ◌++◌, map, Result, Ok, Err}
+pub use Rattle.machine_state.specs.Moves.{after_join, after_split, split_off}
 use Rattle.machine_state.specs.PassLogs.{log_of_joined}
 use Rattle.machine_state.specs.Views.{Joined, View}
 use Rattle.wal_rule.specs.declared.pass.Pass.{Pass}
@@ -32,3 +33,26 @@ HasLog l v = (l ≡ log_of_pass v)
 -- a pass has a log that grew from this one
 abbrev pub HasGrown : PassLog → View → Type 0
 HasGrown l v = (grown : PassLog) × GrowsTo l grown × HasLog grown v
+
+-- ---- passes by their numbers
+
+-- a pass's number and its log
+pub record NumberedLog : Type 0 where
+  pub number : ℕ
+  pub log : PassLog
+
+-- of a pass, by its view
+abbrev pub numbered_log : View → NumberedLog
+numbered_log v = record { number = (v.reserving).number; log = log_of_pass v }
+
+abbrev pub numbered_joined : Joined → NumberedLog
+numbered_joined j = record { number = j.number; log = log_of_joined j }
+
+-- all logs that a pass has: its own, and behind it those of the passes that it took in
+abbrev pub logs_of_pass : View → List NumberedLog
+logs_of_pass v = numbered_log v ∷ map numbered_joined (v.reserving).joined
+
+-- a pass has reserved nothing, and took no other one in
+pub record IsNewPass (v : View) : Type 0 where
+  pub none : (log_of_pass v).entries ≡ []
+  pub alone : (v.reserving).joined ≡ []

@@ -1,7 +1,7 @@
 -- One theorem over all lives of a log that a program embeds: a record that was promised to be
 -- durable is in the log for ever, through any number of openings, crashes, kills, failed disks and
 -- reopenings.
-use Rattle.std.specs.Prelude.{◌≡◌, ℕ, ◌+◌, ◌^◌, ◌<◌, ◌≤◌, All, List, [], ◌∷◌, ◌++◌, length, Option, IsSome, Some}
+use Rattle.std.specs.Prelude.{◌≡◌, ℕ, ◌+◌, ◌^◌, ◌<◌, ◌≤◌, ◌≢◌, All, List, [], ◌∷◌, ◌++◌, length, Option, IsSome, Some}
 use Rattle.byte_position.specs.Geometry.{IsSegmentSize}
 use Rattle.wal_spelling.specs.Spelling.{Assembled, assembled}
 use Rattle.wal_types.specs.declared.answers.Sealed.{Sealed}
@@ -18,6 +18,7 @@ use Rattle.written_log_laws.specs.Torn.{NoTornPass}
 use Rattle.written_log_laws.specs.Written.{found_of}
 use Rattle.machine_state.specs.declared.setup.Setup.{Setup}
 use Rattle.machine_state.specs.Views.{View}
+pub use Rattle.machine_state.specs.Ordered.{entries_under, is_pass}
 use Rattle.machine_laws.specs.WholeOrders.{IsWholeOrder, LiesBehind}
 use Rattle.wal_rule.specs.declared.pass.Pass.{Pass}
 use Rattle.wal_rule.specs.Passes.{view_of_pass}
@@ -30,10 +31,17 @@ use Rattle.wal_log.specs.Committing.{IsSealed}
 use Rattle.wal_log.specs.Logs.{opening_of_log, setup_of_log}
 use Rattle.wal_log.specs.PassLogs.{log_of_pass}
 use Rattle.wal_log.specs.Reopening.{IsReopened, TellsReopenFault}
-use Rattle.wal_log_laws.specs.Growing.{HasGrown}
+use Rattle.wal_log_laws.specs.Growing.{HasGrown, NumberedLog, logs_of_pass}
 use Rattle.reopened_log_laws.specs.FoundFirst.{AreFoundEntries}
 use Rattle.reopened_log_laws.specs.Lives.{IsFrontWith}
 use Rattle.wal_log_laws.specs.History.{BeginsWal, ContinuesWal, WalHistory, IsHandedIn, IsPromisedDurable, order_of}
+
+-- an order is made by passes: each entry is of a pass, each log has its pass's entries in their
+-- order, and no other pass has any
+pub record IsMadeBy (order : List Entry) (logs : List NumberedLog) : Type 0 where
+  pub named : All (λ e. IsSome e.pass) order
+  pub own : All (λ l. l.log.entries ≡ entries_under l.number order) logs
+  pub no_other : (number : ℕ) → All (λ l. number ≢ l.number) logs → entries_under number order ≡ []
 
 -- the first record starts at an address or behind it, and each other one behind the one before it
 abbrev pub StartsRise : ℕ → List FoundRecord → Type 0
@@ -105,6 +113,14 @@ module _ {D : Type 0} (tape : D → Option Tape) (moment faults : D → ℕ) whe
       → ((view_of_pass pass).reserving).joined ≡ []
       → order_of tape moment faults wal pass closed c
       ≡ (log_of_pass (view_of_pass pass)).entries
+
+  -- and else they are its own and those of the passes that it took in, of each in its order
+  abbrev pub PassesMakeTheOrder : Type 0
+  PassesMakeTheOrder =
+      (wal : Wal D) (pass : Pass) (closed : Closed D)
+      (c : ClosesLog tape moment faults wal pass closed)
+      → IsMadeBy (order_of tape moment faults wal pass closed c)
+      (logs_of_pass (view_of_pass pass))
 
   -- so three lives of a log have all that was promised in any of them, each of which may have been
   -- killed or ended by a crash

@@ -1,4 +1,4 @@
-ghost use Rattle.wal_log_laws.specs.Lives.{CommitsArePromised, LonePassesMakeTheOrder, PromisedRecordsStay, ThreeLivesKeepPromised};
+ghost use Rattle.wal_log_laws.specs.Lives.{CommitsArePromised, LonePassesMakeTheOrder, PassesMakeTheOrder, PromisedRecordsStay, ThreeLivesKeepPromised};
 
 use segment_disk::Disk;
 
@@ -19,6 +19,12 @@ pub fn commits_are_promised<D: Disk>()
 /// opening.
 pub fn lone_passes_make_the_order<D: Disk>()
     ensures { LonePassesMakeTheOrder D.tape D.moment D.faults }
+{}
+
+/// A law: what was reserved since the opening are the entries of the closing pass and of those that
+/// it took in, of each in its order.
+pub fn passes_make_the_order<D: Disk>()
+    ensures { PassesMakeTheOrder D.tape D.moment D.faults }
 {}
 
 /// A caller of the law who has nothing but clauses of `Wal`, for three lives.

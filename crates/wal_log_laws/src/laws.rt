@@ -1,6 +1,6 @@
 //! What users of a log that passes share may count on, proved by functions that do nothing.
 
-ghost use Rattle.std.specs.Prelude.{◌≡◌, ◌⊎◌, ℕ, ◌^◌, ◌<◌, Contains, List, Result, Some};
+ghost use Rattle.std.specs.Prelude.{◌≡◌, ◌⊎◌, ℕ, ◌^◌, ◌<◌, ◌++◌, All, Contains, List, Result, Some};
 ghost use Rattle.wal_spelling.specs.Spelling.{Assembled};
 ghost use Rattle.segment_disk.specs.Tape.{Tape};
 ghost use Rattle.flush_core.specs.Pages.{HoldsNothing};
@@ -14,7 +14,7 @@ ghost use Rattle.machine_state.specs.Views.{FlushPromise, View};
 ghost use Rattle.machine_state.specs.Words.{Opening};
 ghost use Rattle.wal_rule.specs.declared.pass.Pass.{Pass};
 ghost use Rattle.wal_rule.specs.Passes.{view_of_pass};
-ghost use Rattle.machine_state.specs.Moves.{after_join, after_split};
+ghost use Rattle.machine_state.specs.Moves.{after_join, after_split, split_off};
 ghost use Rattle.run_laws.specs.Closed.{WasPromised};
 ghost use Rattle.wal_log.specs.Behind.{AnswersBehind, AnswersBehindTry};
 ghost use Rattle.wal_log.specs.Committing.{AnswersCommit, IsSealed};
@@ -34,7 +34,7 @@ ghost use Rattle.wal_log.specs.declared.in_flight.Inflight.{Inflight};
 ghost use Rattle.wal_log.specs.declared.inserting.InsertErr.{InsertErr};
 ghost use Rattle.wal_log.specs.declared.switching.Switch.{Switch};
 ghost use Rattle.wal_log.specs.declared.wal.Wal.{Wal};
-ghost use Rattle.wal_log_laws.specs.Growing.{GrowsTo, HasGrown, HasLog, view_behind_try};
+ghost use Rattle.wal_log_laws.specs.Growing.{GrowsTo, HasGrown, HasLog, IsNewPass, logs_of_pass, view_behind_try};
 ghost use Rattle.wal_log_laws.specs.Keeping.{IsClosedFrom, KeepsPromises, LeavesOrder};
 ghost use Rattle.wal_log_laws.specs.Surviving.{Survives};
 ghost use Rattle.wal_log_laws.specs.Told.{HasEntry, HasPromise, Promises, promise_to};
@@ -86,6 +86,16 @@ pub fn logs_are_never_lost()
         → HasGrown l (after_split v) }
     ensures join { (l : PassLog) (v w : View) → HasGrown l v ⊎ HasGrown l w
         → HasGrown l (after_join v w) }
+{}
+
+/// The logs that a pass has are its own and those of the passes that it took in: one that took
+/// another one in has the logs of both, in this order; and one that was split off has reserved
+/// nothing, and took none in.
+pub fn passes_hand_on_their_logs()
+    ensures has { (v : View) → All (λ l. HasLog l.log v) (logs_of_pass v) }
+    ensures join { (v w : View)
+        → logs_of_pass (after_join v w) ≡ logs_of_pass v ++ logs_of_pass w }
+    ensures split { (v : View) → IsNewPass (split_off v) }
 {}
 
 /// A record that was reserved stands in its pass's log. What a flush or a commit tells is a promise

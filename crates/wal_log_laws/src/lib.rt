@@ -10,7 +10,7 @@ mod one_reopening;
 pub mod unhindered;
 
 pub use histories::{
-    commits_are_promised, lone_passes_make_the_order, promised_records_stay,
+    commits_are_promised, lone_passes_make_the_order, passes_make_the_order, promised_records_stay,
     three_lives_keep_promised,
 };
 pub use one_commit::commit_one;
