@@ -1,5 +1,5 @@
 -- What the calls of a map's part add to the log of its pass.
-use Rattle.std.proofs.Common.{◌≡◌, ℕ, ◌≤◌, List, [], ◌∷◌, ◌++◌, append_assoc, Some, None, Result, Ok, Err, inl, refl, sym, ap, subst, ◌∙◌}
+use Rattle.std.proofs.Common.{◌≡◌, ℕ, ◌≤◌, List, [], ◌∷◌, ◌++◌, append_assoc, Some, None, Result, Ok, Err, refl, sym, ap, subst, ◌∙◌}
 use Rattle.std.proofs.lemmas.List.{append-nil}
 use Rattle.wal_spelling.specs.Spelling.{Assembled, assembled}
 use Rattle.wal_types.specs.declared.answers.Refused.{Refused}
@@ -14,9 +14,9 @@ use Rattle.wal_log.specs.Committing.{AnswersCommit, IsSealed, refused_of_insert}
 use Rattle.wal_log.specs.Inserting.{IsOwnEntry, IsStarted, RefusesInsert}
 use Rattle.wal_log.specs.Logs.{setup_of_log}
 use Rattle.wal_log.specs.PassLogs.{PassLog, log_of_pass}
-use Rattle.wal_log_laws.specs.Growing.{GrowsTo, HasGrown}
+use Rattle.wal_log_laws.specs.Growing.{GrowsTo}
 use Rattle.durable_map.specs.Changes.{MapChange}
-use Rattle.durable_map.specs.History.{ChangeCall, LeadTo, WasAnswered, begun_at, begun_by, begun_in}
+use Rattle.durable_map.specs.Calls.{ChangeCall, LeadTo, begun_at, begun_by, begun_in}
 use Rattle.durable_map.specs.Records.{IsLoggable, SaysChange, change_record}
 use Rattle.durable_map.specs.Stores.{AnswersCall, AnswersChange, view_of_part}
 use Rattle.durable_map.specs.declared.fault.ChangeErr.{ChangeErr}
@@ -150,7 +150,7 @@ module _ {D : Type 0} (wal : Wal D) where
     pub sealed : Sealed
     pub by : sealed.moment ≤ at
     pub told : IsSealed (setup_of_log wal) body old new sealed
-    pub grown : HasGrown (log_of_pass new) (view_of_part last)
+    pub grown : GrowsTo (log_of_pass new) (log_of_pass (view_of_part last))
     pub more : List Entry
     pub rest : List Entry
     pub entries : entries_of (view_of_part last)
@@ -189,32 +189,28 @@ module _ {D : Type 0} (wal : Wal D) where
         (one_grows call.change first called.0 call.answer (called.1).answers)
         (all_grow calls called.0 last called.2)
 
-    pub committed : (calls : List ChangeCall) (first last : MapPart) (at : ℕ)
-        (found upto : List MapChange) → LeadTo wal calls first last
-        → (a : WasAnswered at found calls upto)
-        → IsCommitted first last at (begun_in a.before ++ a.change ∷ [])
-    committed calls first last at found upto called a =
-        let call : ChangeCall = record { change = a.change; answer = Ok a.sealed } in
-        let parts = split_calls a.before call a.others first last
-        (subst (λ (cs : List ChangeCall). LeadTo wal cs first last) a.are called) in
+    pub committed : (calls before : List ChangeCall) (change : MapChange) (sealed : Sealed)
+        (others : List ChangeCall) (first last : MapPart) (at : ℕ) → LeadTo wal calls first last
+        → calls ≡ before ++ (record { change = change; answer = Ok sealed }) ∷ others
+        → sealed.moment ≤ at → IsCommitted first last at (begun_in before ++ change ∷ [])
+    committed calls before change sealed others first last at called are by =
+        let call : ChangeCall = record { change = change; answer = Ok sealed } in
+        let parts = split_calls before call others first last
+        (subst (λ (cs : List ChangeCall). LeadTo wal cs first last) are called) in
         let old = view_of_part parts.0 in
         let new = view_of_part parts.1 in
         let answers = (parts.3).answers in
         let e = (answers.told).entry in
-        let added = all_added a.before first parts.0 parts.2 in
-        let behind = all_added a.others parts.1 last parts.4 in
+        let added = all_added before first parts.0 parts.2 in
+        let behind = all_added others parts.1 last parts.4 in
         record {
-          body = assembled (change_record a.change);
+          body = assembled (change_record change);
           old = old;
           new = new;
-          sealed = a.sealed;
-          by = a.by;
+          sealed = sealed;
+          by = by;
           told = answers.told;
-          grown = (
-            log_of_pass (view_of_part last),
-            all_grow a.others parts.1 last parts.4,
-            inl refl,
-          );
+          grown = all_grow others parts.1 last parts.4;
           more = added.0;
           rest = behind.0;
           entries = behind.1
@@ -222,8 +218,8 @@ module _ {D : Type 0} (wal : Wal D) where
               ∙ append_assoc (entries_of old) (e ∷ []) behind.0
               ∙ ap (λ (es : List Entry). es ++ (e ∷ behind.0)) added.1
               ∙ append_assoc (entries_of (view_of_part first)) added.0 (e ∷ behind.0);
-          said = say_each_append added.0 (e ∷ []) (begun_in a.before) (a.change ∷ []) added.2 (
-            says_entry (setup_of_log wal) a.change old e answers.loggable (answers.told).own,
+          said = say_each_append added.0 (e ∷ []) (begun_in before) (change ∷ []) added.2 (
+            says_entry (setup_of_log wal) change old e answers.loggable (answers.told).own,
             tt,
           );
         }

@@ -9,3 +9,4 @@ pub mod ReadLaws
 pub mod SetAgain
 pub mod Shared
 pub mod Spelled
+pub mod Weaving

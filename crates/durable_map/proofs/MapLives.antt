@@ -1,6 +1,6 @@
 -- Over all lives of a map what was answered Ok is kept.
-use Rattle.std.proofs.Common.{◌≡◌, ◌⊎◌, ℕ, ◌≤◌, All, Contains, List, [], ◌∷◌, ◌++◌, append_assoc, drop, length, take, Option, Some, None, Result, IfSome, inl, inr, sym, ap, subst, ◌∙◌, arith}
-use Rattle.std.proofs.lemmas.List.{take-append-drop}
+use Rattle.std.proofs.Common.{◌≡◌, ◌⊎◌, ℕ, ◌≤◌, All, Contains, List, [], ◌∷◌, ◌++◌, append_assoc, drop, length, map, take, Option, Some, None, Result, IfSome, inl, inr, refl, sym, ap, subst, ◌∙◌, arith}
+use Rattle.std.proofs.lemmas.List.{length-append, take-append-drop}
 use Rattle.std.proofs.lemmas.List.Elements.{All-append, All-cons, All-contains, All-head, All-nil, All-tail, All-weaker, Contains-append_left, Contains-append_right, Contains-push}
 use Rattle.byte_position.specs.Geometry.{IsSegmentSize}
 use Rattle.segment_disk.specs.DiskImage.{image_as_read}
@@ -17,28 +17,35 @@ use Rattle.written_log_laws.specs.Written.{found_entry, found_from, found_of}
 use Rattle.machine_state.specs.declared.setup.Setup.{Setup}
 use Rattle.machine_state.specs.Views.{View}
 use Rattle.machine_state.specs.Words.{Opening}
+use Rattle.wal_rule.specs.declared.pass.Pass.{Pass}
+use Rattle.wal_rule.specs.Passes.{view_of_pass}
 use Rattle.wal_log.specs.declared.wal.Wal.{Wal}
-use Rattle.wal_log.specs.Committing.{AnswersCommit}
+use Rattle.wal_log.specs.Committing.{AnswersCommit, IsSealed}
 use Rattle.wal_log.specs.Logs.{setup_of_log}
 use Rattle.wal_log.specs.PassLogs.{PassLog, log_of_pass}
 use Rattle.wal_log.specs.Reopening.{TellsReopenFault}
 use Rattle.wal_log.specs.declared.opening.OpenFaultKind.{OpenFaultKind}
+use Rattle.reopened_log_laws.specs.FoundFirst.{AreFoundEntries}
 use Rattle.reopened_log_laws.specs.Lives.{IsFrontWith, LifeEndsAt}
-use Rattle.wal_log_laws.specs.Growing.{GrowsTo, IsFrontOf}
+use Rattle.wal_log_laws.specs.Growing.{GrowsTo, HasGrown, HasLog, IsFrontOf, NumberedLog, logs_of_pass}
 use Rattle.wal_log_laws.specs.History.{ContinuesWal, IsHandedIn, IsLived, IsPromisedDurable, WalHistory, order_of}
 use Rattle.wal_log_laws.specs.History as wal_lives
-use Rattle.wal_log_laws.specs.Lives.{CommitsArePromised, LonePassesMakeTheOrder, PromisedRecordsStay, StartsRise}
+use Rattle.wal_log_laws.specs.Lives.{CommitsArePromised, IsMadeBy, LonePassesMakeTheOrder, PassesMakeTheOrder, PromisedRecordsStay, StartsRise, entries_under}
 use Rattle.durable_map.specs.Changes.{MapChange}
-use Rattle.durable_map.specs.History.{EndsOpening, FailsToOpen, LivesMap, MapHistory, WasAnswered, begun_in}
-use Rattle.durable_map.specs.History.{starts_empty, lives, ends_opening, fails_to_open, rests}
+use Rattle.durable_map.specs.Calls.{begun_in}
+use Rattle.durable_map.specs.History.{EndsMap, EndsOpening, FailsToOpen, LivesMap, MapHistory, SharesMap, WasAnswered}
+use Rattle.durable_map.specs.History.{starts_empty, lives, shares, ends_opening, fails_to_open, rests}
 use Rattle.durable_map.specs.Lives.{AnsweredChangesStay}
 use Rattle.durable_map.specs.Opening.{AreSaid, IsAllOfLog, OpensMap, TellsMapFault}
+use Rattle.durable_map.specs.Records.{SaysChange}
 use Rattle.durable_map.specs.Stores.{log_under, part_under, view_of_part, view_under}
+use Rattle.durable_map.specs.Weaving.{AreWoven, IsLane, PassChange, WasAnsweredInLane, changes_in, changes_under, log_of_lane, number_of_lane}
 use Rattle.durable_map.specs.declared.fault.MapFaultKind.{MapFaultKind}
 use Rattle.durable_map.specs.declared.fault.MapFaultKind.TheVariants.{Memory, Disk, NoChange, Log}
 use Rattle.durable_map.specs.declared.store.DurableMap.{DurableMap}
 use Rattle.durable_map.proofs.Begun.{IsCommitted, all_added, committed, entries_of, same_joined}
-use Rattle.durable_map.proofs.Fronts.{SayEach, are_said_append, found_from-append, front_said, reaches, said_each}
+use Rattle.durable_map.proofs.Fronts.{SayEach, are_said_append, found_from-append, front_said, reaches, said_each, say_each_append}
+use Rattle.durable_map.proofs.Weaving.{StandsAt, at_one_place, contains_map, its_lane, logged, own_first, same_long, stands_at, under_append, under_woven, woven_said}
 
 some_tape : (a b : Tape) → Some a ≡ Some b → a ≡ b
 some_tape a b same = cc
@@ -104,12 +111,14 @@ module _ {D : Type 0} (tape : D → Option Tape) (moment faults : D → ℕ)
     (stay : PromisedRecordsStay tape moment faults)
     (promised : CommitsArePromised tape moment faults)
     (lone : LonePassesMakeTheOrder tape moment faults)
+    (makes : PassesMakeTheOrder tape moment faults)
     (commits : (setup : Setup) (body : Assembled) (old new : View)
     (answer : Result Sealed Refused) → AnswersCommit setup body old answer new
     → GrowsTo (log_of_pass old) (log_of_pass new))
     (stays : (l : PassLog) → GrowsTo l l)
     (again : (one two three : PassLog) → GrowsTo one two → GrowsTo two three
     → GrowsTo one three)
+    (has_logs : (v : View) → All (λ (l : NumberedLog). HasLog l.log v) (logs_of_pass v))
     (finding : FindingIsDecoding) (settled : DecodingIsSettled) where
   -- a history of the log, whose records say the changes
   record KeepsChanges (size sysid : ℕ) (t : Tape) (order : List Entry) (begun : List MapChange)
@@ -187,10 +196,49 @@ module _ {D : Type 0} (tape : D → Option Tape) (moment faults : D → ℕ)
 
   -- ---- a life
 
+  -- a commit told by a moment that an entry of the log is durable, and the closing pass has the log
+  -- of the commit's pass; up to this entry these changes were found, and are said
+  record IsPlaced (wal : Wal D) (own : List Entry) (v : View) (at : ℕ) (found upto : List MapChange)
+      : Type 0 where
+    pub body : Assembled
+    pub old : View
+    pub new : View
+    pub sealed : Sealed
+    pub by : sealed.moment ≤ at
+    pub told : IsSealed (setup_of_log wal) body old new sealed
+    pub grown : HasGrown (log_of_pass new) v
+    pub more : List Entry
+    pub rest : List Entry
+    pub entries : own ≡ more ++ told.entry ∷ rest
+    pub changes : List MapChange
+    pub said : SayEach (more ++ told.entry ∷ []) changes
+    pub upto_is : upto ≡ found ++ changes
+
+  -- a life whose log says these changes, in its order, by one pass or several
+  record SaysChanges (size sysid : ℕ) (t next : Tape) (order : List Entry)
+      (begun : List MapChange) (answered : List (List MapChange)) : Type 0 where
+    pub setup : Setup
+    pub disk : D
+    pub map : DurableMap D
+    pub handed : IsHandedIn tape moment faults size sysid t setup disk
+    pub opened : OpensMap tape moment faults setup disk map
+    pub pass : Pass
+    pub front : List Entry
+    pub below : AreFoundEntries size t front
+    pub at : ℕ
+    pub ended : EndsMap tape moment faults size (log_under map) pass front next order at
+    pub changes : List MapChange
+    pub said : SayEach
+        (order_of tape moment faults (log_under map) pass ended.closed ended.closes) changes
+    pub begun_is : begun ≡ opened.read.changes ++ changes
+    pub placed : All (IsPlaced (log_under map)
+        (order_of tape moment faults (log_under map) pass ended.closed ended.closes)
+        (view_of_pass pass) at opened.read.changes) answered
+
   module _ (size sysid : ℕ) (t next : Tape) (before order : List Entry)
       (old begun : List MapChange) (answered more : List (List MapChange))
       (k : KeepsChanges size sysid t before old answered)
-      (life : LivesMap tape moment faults size sysid t next order begun more) where
+      (life : SaysChanges size sysid t next order begun more) where
     abbrev its_records : List FoundRecord
     its_records = life.opened.read.records
 
@@ -201,7 +249,7 @@ module _ {D : Type 0} (tape : D → Option Tape) (moment faults : D → ℕ)
     wal = log_under life.map
 
     abbrev own : List Entry
-    own = order_of tape moment faults (log_under life.map) (life.last).pass
+    own = order_of tape moment faults (log_under life.map) life.pass
         (life.ended).closed (life.ended).closes
 
     sized : (setup_of_log (log_under life.map)).seg_size ≡ size
@@ -214,20 +262,6 @@ module _ {D : Type 0} (tape : D → Option Tape) (moment faults : D → ℕ)
     front_is = found_is_read finding settled size k.valid t its_records
         (whole size sysid t before old answered k life.setup life.disk life.map life.handed
         life.opened) (found_of size life.front) (life.below).finds
-
-    none_yet : entries_of (view_under life.map) ≡ []
-    none_yet = ap entries_of life.opened.reopened.view
-
-    own_is : own ≡ entries_of (view_of_part life.last)
-    own_is = lone (log_under life.map) (life.last).pass (life.ended).closed
-        (life.ended).closes (same_joined (log_under life.map) life.calls (part_under life.map)
-        life.last life.called ∙ (life.kept).alone)
-
-    order_is : (es : List Entry) → entries_of (view_of_part life.last)
-        ≡ entries_of (view_under life.map) ++ es → order ≡ life.front ++ es
-    order_is es added = (life.ended).order_is
-        ∙ ap (λ (l : List Entry). life.front ++ l)
-        (own_is ∙ added ∙ ap (λ (l : List Entry). l ++ es) none_yet)
 
     all_said : (es : List Entry) (changes : List MapChange) → SayEach es changes
         → AreSaid (found_of size (life.front ++ es)) (life.opened.read.changes ++ changes)
@@ -242,22 +276,16 @@ module _ {D : Type 0} (tape : D → Option Tape) (moment faults : D → ℕ)
 
     order_said : AreSaid (found_of size order) begun
     order_said =
-        let added = all_added (log_under life.map) life.calls (part_under life.map) life.last
-        life.called in
         subst (λ (cs : List MapChange). AreSaid (found_of size order) cs) (sym life.begun_is)
         (subst (λ (es : List Entry).
-        AreSaid (found_of size es) (its_found ++ begun_in life.calls))
-        (sym (order_is added.0 added.1)) (all_said added.0 (begun_in life.calls) added.2))
+        AreSaid (found_of size es) (its_found ++ life.changes))
+        (sym (life.ended).order_is) (all_said own life.changes life.said))
 
     -- ---- what was answered
 
-    module _ (upto : List MapChange) (a : WasAnswered life.at life.opened.read.changes life.calls
-        upto) where
-      done : IsCommitted (log_under life.map) (part_under life.map) life.last life.at
-          (begun_in a.before ++ a.change ∷ [])
-      done = committed (log_under life.map) commits stays again life.calls (part_under life.map)
-          life.last life.at its_found upto life.called a
-
+    module _ (upto : List MapChange) (done : IsPlaced (log_under life.map)
+        (order_of tape moment faults (log_under life.map) life.pass (life.ended).closed
+        (life.ended).closes) (view_of_pass life.pass) life.at life.opened.read.changes upto) where
       abbrev e : Entry
       e = (done.told).entry
 
@@ -271,7 +299,8 @@ module _ {D : Type 0} (tape : D → Option Tape) (moment faults : D → ℕ)
       behind = found_from size (start_of size (done.told).entry) done.rest
 
       order_there : order ≡ (life.front ++ done.more) ++ (done.told).entry ∷ done.rest
-      order_there = order_is (done.more ++ e ∷ done.rest) done.entries
+      order_there = (life.ended).order_is
+          ∙ ap (λ (l : List Entry). life.front ++ l) done.entries
           ∙ sym (append_assoc life.front done.more (e ∷ done.rest))
 
       found_there : found_of size order ≡ found_of size (life.front ++ done.more)
@@ -285,17 +314,17 @@ module _ {D : Type 0} (tape : D → Option Tape) (moment faults : D → ℕ)
           upto
       upto_said =
           subst (λ (cs : List MapChange). AreSaid (found_of size below ++ mark ∷ []) cs)
-          (sym a.upto_is)
+          (sym done.upto_is)
           (subst (λ (rs : List FoundRecord).
-          AreSaid rs (its_found ++ (begun_in a.before ++ a.change ∷ [])))
+          AreSaid rs (its_found ++ done.changes))
           (ap (found_of size) (sym (append_assoc life.front done.more (e ∷ [])))
           ∙ found_from-append size 0 below (e ∷ []))
-          (all_said (done.more ++ e ∷ []) (begun_in a.before ++ a.change ∷ []) done.said))
+          (all_said (done.more ++ e ∷ []) done.changes done.said))
 
-      mark_promised : IsPromisedDurable size life.at order (view_of_part life.last)
+      mark_promised : IsPromisedDurable size life.at order (view_of_pass life.pass)
           (found_entry size (prev_of size 0 (life.front ++ done.more)) (done.told).entry)
       mark_promised =
-          let told = promised (log_under life.map) life.front (life.last).pass
+          let told = promised (log_under life.map) life.front life.pass
           (life.ended).closed (life.ended).closes done.body done.old done.new done.sealed life.at
           done.told done.grown done.by in
           let there : Contains (found_of size order) mark =
@@ -323,24 +352,29 @@ module _ {D : Type 0} (tape : D → Option Tape) (moment faults : D → ℕ)
         said = upto_said;
       }
 
+    abbrev IsOne : List MapChange → Type 0
+    IsOne = IsPlaced wal own (view_of_pass life.pass) life.at its_found
+
     all_marked : (uptos : List (List MapChange))
-        → All (WasAnswered life.at life.opened.read.changes life.calls) uptos
+        → All (IsPlaced (log_under life.map)
+        (order_of tape moment faults (log_under life.map) life.pass (life.ended).closed
+        (life.ended).closes) (view_of_pass life.pass) life.at life.opened.read.changes) uptos
         → (hard : List FoundRecord)
-        × All (IsPromisedDurable size life.at order (view_of_part life.last)) hard
+        × All (IsPromisedDurable size life.at order (view_of_pass life.pass)) hard
         × All (IsMarked size order hard) uptos
     all_marked [] told = (
       [],
-      All-nil (IsPromisedDurable size life.at order (view_of_part life.last)),
+      All-nil (IsPromisedDurable size life.at order (view_of_pass life.pass)),
       All-nil (IsMarked size order []),
     )
     all_marked (upto ∷ uptos) told =
-        let a = All-head (WasAnswered life.at its_found life.calls) upto uptos told in
+        let a = All-head IsOne upto uptos told in
         let rest = all_marked uptos
-        (All-tail (WasAnswered life.at its_found life.calls) upto uptos told) in
+        (All-tail IsOne upto uptos told) in
         let one = mark upto a in
         let all = one ∷ rest.0 in (
           all,
-          All-cons (IsPromisedDurable size life.at order (view_of_part life.last)) one rest.0
+          All-cons (IsPromisedDurable size life.at order (view_of_pass life.pass)) one rest.0
               (mark_promised upto a) rest.1,
           All-cons (IsMarked size order all) upto uptos
               (more_hard size order (one ∷ []) all
@@ -353,10 +387,10 @@ module _ {D : Type 0} (tape : D → Option Tape) (moment faults : D → ℕ)
     -- ---- the log's life
 
     module _ (hard : List FoundRecord)
-        (kept : All (IsPromisedDurable size life.at order (view_of_part life.last)) hard) where
+        (kept : All (IsPromisedDurable size life.at order (view_of_pass life.pass)) hard) where
       lived : IsLived tape moment faults size (log_under life.map) life.front next order hard
       lived = record {
-        pass = (life.last).pass;
+        pass = life.pass;
         closed = (life.ended).closed;
         closes = (life.ended).closes;
         order_is = (life.ended).order_is;
@@ -397,7 +431,7 @@ module _ {D : Type 0} (tape : D → Option Tape) (moment faults : D → ℕ)
 
     life_keeps : KeepsChanges size sysid next order begun (answered ++ more)
     life_keeps =
-        let new = all_marked more life.told in
+        let new = all_marked more life.placed in
         let all = k.hard ++ new.0 in
         record {
           valid = k.valid;
@@ -414,6 +448,201 @@ module _ {D : Type 0} (tape : D → Option Tape) (moment faults : D → ℕ)
               (more_hard size order new.0 all
               (λ r. Contains-append_right k.hard new.0 r)) more new.2);
         }
+
+  -- ---- a life with one pass
+
+  module _ (size sysid : ℕ) (t next : Tape) (order : List Entry) (begun : List MapChange)
+      (answered : List (List MapChange))
+      (life : LivesMap tape moment faults size sysid t next order begun answered) where
+    abbrev lone_wal : Wal D
+    lone_wal = log_under life.map
+
+    abbrev lone_own : List Entry
+    lone_own = order_of tape moment faults (log_under life.map) (life.last).pass
+        (life.ended).closed (life.ended).closes
+
+    none_yet : entries_of (view_under life.map) ≡ []
+    none_yet = ap entries_of life.opened.reopened.view
+
+    own_is : (es : List Entry) → entries_of (view_of_part life.last)
+        ≡ entries_of (view_under life.map) ++ es
+        → order_of tape moment faults (log_under life.map) (life.last).pass (life.ended).closed
+        (life.ended).closes ≡ es
+    own_is es added = lone lone_wal (life.last).pass (life.ended).closed (life.ended).closes
+        (same_joined lone_wal life.calls (part_under life.map) life.last life.called
+        ∙ (life.kept).alone) ∙ added ∙ ap (λ (l : List Entry). l ++ es) none_yet
+
+    lone_placed : (upto : List MapChange)
+        → WasAnswered life.at life.opened.read.changes life.calls upto
+        → IsPlaced (log_under life.map)
+        (order_of tape moment faults (log_under life.map) (life.last).pass (life.ended).closed
+        (life.ended).closes) (view_of_part life.last) life.at life.opened.read.changes upto
+    lone_placed upto a =
+        let done : IsCommitted lone_wal (part_under life.map) life.last life.at
+        (begun_in a.before ++ a.change ∷ []) =
+        committed lone_wal commits stays again life.calls a.before a.change a.sealed a.others
+        (part_under life.map) life.last life.at life.called a.are a.by in
+        record {
+          body = done.body;
+          old = done.old;
+          new = done.new;
+          sealed = done.sealed;
+          by = done.by;
+          told = done.told;
+          grown = (log_of_pass (view_of_part life.last), done.grown, inl refl);
+          more = done.more;
+          rest = done.rest;
+          entries = own_is (done.more ++ (done.told).entry ∷ done.rest) done.entries;
+          changes = begun_in a.before ++ a.change ∷ [];
+          said = done.said;
+          upto_is = a.upto_is;
+        }
+
+    lone_says : SaysChanges size sysid t next order begun answered
+    lone_says =
+        let added = all_added lone_wal life.calls (part_under life.map) life.last life.called in
+        record {
+          setup = life.setup;
+          disk = life.disk;
+          map = life.map;
+          handed = life.handed;
+          opened = life.opened;
+          pass = (life.last).pass;
+          front = life.front;
+          below = life.below;
+          at = life.at;
+          ended = life.ended;
+          changes = begun_in life.calls;
+          said = subst (λ (es : List Entry). SayEach es (begun_in life.calls))
+              (sym (own_is added.0 added.1)) added.2;
+          begun_is = life.begun_is;
+          placed = All-weaker (WasAnswered life.at life.opened.read.changes life.calls)
+              (IsPlaced lone_wal lone_own (view_of_part life.last) life.at
+              life.opened.read.changes) lone_placed answered life.told;
+        }
+
+  -- ---- a life with several lanes
+
+  module _ (size sysid : ℕ) (t next : Tape) (order : List Entry) (begun : List MapChange)
+      (answered : List (List MapChange))
+      (life : SharesMap tape moment faults size sysid t next order begun answered) where
+    abbrev shared_wal : Wal D
+    shared_wal = log_under life.map
+
+    abbrev shared_own : List Entry
+    shared_own = order_of tape moment faults (log_under life.map) life.pass (life.ended).closed
+        (life.ended).closes
+
+    its_made : IsMadeBy
+        (order_of tape moment faults (log_under life.map) life.pass (life.ended).closed
+        (life.ended).closes) (logs_of_pass (view_of_pass life.pass))
+    its_made = makes shared_wal life.pass (life.ended).closed (life.ended).closes
+
+    module _ (upto : List MapChange)
+        (a : WasAnsweredInLane life.at life.opened.read.changes life.lanes life.woven upto) where
+      abbrev its_number : ℕ
+      its_number = number_of_lane a.lane
+
+      abbrev its_change : PassChange
+      its_change = record { number = number_of_lane a.lane; change = a.change }
+
+      its_place : StandsAt
+          (order_of tape moment faults (log_under life.map) life.pass (life.ended).closed
+          (life.ended).closes) a.earlier
+          (record { number = number_of_lane a.lane; change = a.change })
+      its_place = stands_at shared_own a.earlier a.later its_change
+          (subst (AreWoven shared_own) a.there life.are)
+
+      its_lane_is : IsLane (log_under life.map) a.lane
+      its_lane_is = its_lane shared_wal life.pass life.lanes life.all shared_own its_made a.lane
+          a.one
+
+      its_commit : IsCommitted (log_under life.map) (a.lane).first (a.lane).last life.at
+          (begun_in a.before ++ a.change ∷ [])
+      its_commit = committed shared_wal commits stays again (a.lane).calls a.before a.change
+          a.sealed a.others (a.lane).first (a.lane).last life.at its_lane_is.called a.are a.by
+
+      -- the entry that the commit told of stands there
+      its_entry : its_place.entry ≡ its_commit.told.entry
+      its_entry =
+          let lane = a.lane in
+          let e = its_commit.told.entry in
+          let all = its_commit.more ++ e ∷ its_commit.rest in
+          let one = logged shared_wal life.pass life.lanes life.all shared_own its_made lane
+          a.one in
+          let at_lane = sym (ap (λ (es : List Entry). es ++ all) its_lane_is.new.none)
+          ∙ sym its_commit.entries ∙ one in
+          let at_log = ap (entries_under its_number) its_place.are
+          ∙ under_append its_number its_place.before (its_place.entry ∷ its_place.behind)
+          ∙ ap (λ (es : List Entry). entries_under its_number its_place.before ++ es)
+          (own_first its_number its_place.entry its_place.behind its_place.of_pass) in
+          let here = same_long (entries_under its_number its_place.before)
+          (changes_under its_number a.earlier)
+          (under_woven its_number its_place.before a.earlier its_place.woven) in
+          let said = same_long (its_commit.more ++ e ∷ []) (begun_in a.before ++ a.change ∷ [])
+          its_commit.said in
+          at_one_place (entries_under its_number its_place.before) its_commit.more
+          (entries_under its_number its_place.behind) its_commit.rest its_place.entry e
+          (sym at_log ∙ sym at_lane)
+          (omega (
+            arith,
+            here,
+            said,
+            ap (λ (l : List MapChange). length l) a.own,
+            length-append its_commit.more (e ∷ []),
+            length-append (begun_in a.before) (a.change ∷ []),
+          ))
+
+      shared_placed : IsPlaced (log_under life.map)
+          (order_of tape moment faults (log_under life.map) life.pass (life.ended).closed
+          (life.ended).closes) (view_of_pass life.pass) life.at life.opened.read.changes upto
+      shared_placed = record {
+        body = its_commit.body;
+        old = its_commit.old;
+        new = its_commit.new;
+        sealed = its_commit.sealed;
+        by = its_commit.by;
+        told = its_commit.told;
+        grown = (
+          log_of_pass (view_of_part (a.lane).last),
+          its_commit.grown,
+          All-contains (λ (l : NumberedLog). HasLog l.log (view_of_pass life.pass))
+              (map log_of_lane life.lanes) (log_of_lane a.lane)
+              (subst (All (λ (l : NumberedLog). HasLog l.log (view_of_pass life.pass)))
+              (life.all).all (has_logs (view_of_pass life.pass)))
+              (contains_map log_of_lane life.lanes a.lane a.one),
+        );
+        more = its_place.before;
+        rest = its_place.behind;
+        entries = its_place.are
+            ∙ ap (λ (e : Entry). its_place.before ++ e ∷ its_place.behind) its_entry;
+        changes = changes_in a.earlier ++ a.change ∷ [];
+        said = say_each_append its_place.before (its_commit.told.entry ∷ [])
+            (changes_in a.earlier) (a.change ∷ [])
+            (woven_said its_place.before a.earlier its_place.woven)
+            (subst (λ (e : Entry). SaysChange e.value a.change) its_entry its_place.says, tt);
+        upto_is = a.upto_is;
+      }
+
+    shared_says : SaysChanges size sysid t next order begun answered
+    shared_says = record {
+      setup = life.setup;
+      disk = life.disk;
+      map = life.map;
+      handed = life.handed;
+      opened = life.opened;
+      pass = life.pass;
+      front = life.front;
+      below = life.below;
+      at = life.at;
+      ended = life.ended;
+      changes = changes_in life.woven;
+      said = woven_said shared_own life.woven life.are;
+      begun_is = life.begun_is;
+      placed = All-weaker (WasAnsweredInLane life.at life.opened.read.changes life.lanes life.woven)
+          (IsPlaced shared_wal shared_own (view_of_pass life.pass) life.at
+          life.opened.read.changes) shared_placed answered life.told;
+    }
 
   -- ---- an opening that gives no map
 
@@ -511,7 +740,11 @@ module _ {D : Type 0} (tape : D → Option Tape) (moment faults : D → ℕ)
     marks = All-nil (IsMarked size [] []);
   }
   keeps {size} {sysid} (lives {t} {next} {before} {order} {old} {begun} {answered} {more} history
-      life) = life_keeps size sysid t next before order old begun answered more (keeps history) life
+      life) = life_keeps size sysid t next before order old begun answered more (keeps history)
+      (lone_says size sysid t next order begun more life)
+  keeps {size} {sysid} (shares {t} {next} {before} {order} {old} {begun} {answered} {more} history
+      life) = life_keeps size sysid t next before order old begun answered more (keeps history)
+      (shared_says size sysid t next order begun more life)
   keeps {size} {sysid} (ends_opening {t} {next} {order} {begun} {answered} history life) =
       let k = keeps history in
       record {

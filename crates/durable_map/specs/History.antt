@@ -7,12 +7,11 @@
 -- when a life begins, `next` what is left for the next life, and `order` is the log. `begun` are
 -- the changes that the last opening found, and behind them those that were begun since, in their
 -- order. `answered` has, for each change that was answered Ok in some life, all changes up to it.
-use Rattle.std.specs.Prelude.{◌≡◌, ℕ, ◌^◌, ◌<◌, ◌≤◌, All, List, [], ◌∷◌, ◌++◌, length, Option, Some, None, Result, Ok, Err}
+use Rattle.std.specs.Prelude.{◌≡◌, ℕ, ◌^◌, ◌<◌, ◌≤◌, All, List, [], ◌∷◌, ◌++◌, length, Option, Some, Ok}
 use Rattle.byte_position.specs.Geometry.{IsSegmentSize}
 use Rattle.segment_disk.specs.Tape.{Tape}
 use Rattle.flush_core.specs.Pages.{HoldsNothing}
 use Rattle.wal_types.specs.declared.answers.Sealed.{Sealed}
-use Rattle.wal_types.specs.declared.lsn.Lsn.{Lsn}
 use Rattle.wal_page.specs.Order.{Entry}
 use Rattle.machine_state.specs.declared.setup.Setup.{Setup}
 use Rattle.wal_log.specs.declared.closing.Closed.{Closed}
@@ -24,44 +23,16 @@ use Rattle.wal_log.specs.Logs.{opening_of_log, table_of}
 use Rattle.reopened_log_laws.specs.FoundFirst.{AreFoundEntries}
 use Rattle.reopened_log_laws.specs.Lives.{LifeEndsAt}
 use Rattle.wal_log_laws.specs.History.{IsHandedIn, order_of}
+pub use Rattle.durable_map.specs.Calls.{ChangeCall, LeadTo, begun_in}
 use Rattle.durable_map.specs.Changes.{MapChange}
 use Rattle.durable_map.specs.Opening.{OpensMap, TellsMapFault}
-use Rattle.durable_map.specs.Stores.{AnswersCall, IsOpenMap, log_under, part_under}
-use Rattle.durable_map.specs.declared.fault.ChangeErr.{ChangeErr}
-use Rattle.durable_map.specs.declared.fault.ChangeErr.TheVariants.{Memory, TooLong, Refused}
+use Rattle.durable_map.specs.Stores.{IsOpenMap, log_under, part_under}
+use Rattle.durable_map.specs.Weaving.{AreAllLanes, AreWoven, LaneCalls, PassChange, WasAnsweredInLane, changes_in}
 use Rattle.durable_map.specs.declared.fault.MapFault.{MapFault}
 use Rattle.durable_map.specs.declared.part.MapPart.{MapPart}
 use Rattle.durable_map.specs.declared.store.DurableMap.{DurableMap}
 
 -- ---- calls
-
--- a `set` or a `del`, and what it was answered
-pub record ChangeCall : Type 0 where
-  pub change : MapChange
-  pub answer : Result Sealed ChangeErr
-
--- calls, one behind another, lead from a part of a log's map to another one
-abbrev pub LeadTo : {D : Type 0} → Wal D → List ChangeCall → (first last : MapPart) → Type 0
-LeadTo wal [] first last = last ≡ first
-LeadTo wal (call ∷ calls) first last =
-    (next : MapPart) × AnswersCall wal call.change first next call.answer
-    × LeadTo wal calls next last
-
--- a change was begun where its record got a place in the log
-abbrev pub begun_at : MapChange → Option Lsn → List MapChange
-begun_at change None = []
-begun_at change (Some place) = change ∷ []
-
-abbrev pub begun_by : MapChange → Result Sealed ChangeErr → List MapChange
-begun_by change (Ok sealed) = change ∷ []
-begun_by change (Err Memory) = []
-begun_by change (Err TooLong) = []
-begun_by change (Err (Refused refused)) = begun_at change refused.reserved
-
--- the changes that were begun, in their order
-abbrev pub begun_in : List ChangeCall → List MapChange
-begun_in [] = []
-begun_in (call ∷ calls) = begun_by call.change call.answer ++ begun_in calls
 
 -- these are the changes up to one that was answered Ok by a moment: those that were found, those
 -- that were begun before it, and this one
@@ -109,6 +80,29 @@ module _ {D : Type 0} (tape : D → Option Tape) (moment faults : D → ℕ) whe
     pub begun_is : begun ≡ opened.read.changes ++ begun_in calls
     pub told : All (WasAnswered at opened.read.changes calls) answered
 
+  -- one whose map was shared by lanes once it was opened. `woven` are the changes that its log
+  -- says, in its order: by the law `logs_weave_lanes` there are such, of each lane just those that
+  -- were begun, in their order
+  pub record SharesMap (size sysid : ℕ) (t next : Tape) (order : List Entry)
+      (begun : List MapChange) (answered : List (List MapChange)) : Type 0 where
+    pub setup : Setup
+    pub disk : D
+    pub map : DurableMap D
+    pub handed : IsHandedIn tape moment faults size sysid t setup disk
+    pub opened : OpensMap tape moment faults setup disk map
+    pub lanes : List LaneCalls
+    pub pass : Pass
+    pub all : AreAllLanes (log_under map) pass lanes
+    pub front : List Entry
+    pub below : AreFoundEntries size t front
+    pub at : ℕ
+    pub ended : EndsMap size (log_under map) pass front next order at
+    pub woven : List PassChange
+    pub are : AreWoven
+        (order_of tape moment faults (log_under map) pass ended.closed ended.closes) woven
+    pub begun_is : begun ≡ opened.read.changes ++ changes_in woven
+    pub told : All (WasAnsweredInLane at opened.read.changes lanes woven) answered
+
   -- an opening that was cut short while the log which it had found was settled: it is as it was
   pub record EndsOpening (size sysid : ℕ) (t next : Tape) (order : List Entry) : Type 0 where
     pub setup : Setup
@@ -146,6 +140,11 @@ pub data MapHistory {D : Type 0} (tape : D → Option Tape) (moment faults : D �
       {answered more : List (List MapChange)}
       → MapHistory tape moment faults size sysid t before old answered
       → LivesMap tape moment faults size sysid t next order begun more
+      → MapHistory tape moment faults size sysid next order begun (answered ++ more)
+  shares : {t next : Tape} {before order : List Entry} {old begun : List MapChange}
+      {answered more : List (List MapChange)}
+      → MapHistory tape moment faults size sysid t before old answered
+      → SharesMap tape moment faults size sysid t next order begun more
       → MapHistory tape moment faults size sysid next order begun (answered ++ more)
   ends_opening : {t next : Tape} {order : List Entry} {begun : List MapChange}
       {answered : List (List MapChange)}

@@ -1,4 +1,5 @@
 pub mod Asked
+pub mod Calls
 pub mod Changes
 pub mod History
 pub mod Lives
@@ -8,3 +9,4 @@ pub mod Reading
 pub mod Records
 pub mod Sharing
 pub mod Stores
+pub mod Weaving

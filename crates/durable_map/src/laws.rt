@@ -8,12 +8,15 @@ ghost use Rattle.durable_map.specs.Changes.{MapChange};
 ghost use Rattle.durable_map.specs.Lives.{AnsweredChangesStay};
 ghost use Rattle.durable_map.specs.Records.{IsLoggable, SaysChange, change_record};
 ghost use Rattle.durable_map.specs.Stores.{AnswersChange, Holds, changes_behind};
+ghost use Rattle.durable_map.specs.Weaving.{LogsWeaveLanes};
 ghost use Rattle.durable_map.specs.declared.fault.ChangeErr.{ChangeErr};
 ghost use Rattle.durable_map.specs.declared.part.MapPart.{MapPart};
 
 use segment_disk::Disk;
-use wal_log_laws::laws::logs_only_grow;
-use wal_log_laws::{commits_are_promised, lone_passes_make_the_order, promised_records_stay};
+use wal_log_laws::laws::{logs_only_grow, passes_hand_on_their_logs};
+use wal_log_laws::{
+    commits_are_promised, lone_passes_make_the_order, passes_make_the_order, promised_records_stay,
+};
 use wal_reader::{decoding_is_settled, finding_is_decoding};
 
 /// Each change that can be logged is said by its record, and a record says one change at most: so
@@ -33,6 +36,14 @@ pub fn changes_grow_by_one()
         → Holds old changes → Holds new (changes_behind change changes answer) }
 {}
 
+/// Of a log that lanes shared until it was closed: what it says is woven of the changes that each
+/// lane began, in their order, and of nothing else.
+pub fn logs_weave_lanes<D: Disk>()
+    ensures { LogsWeaveLanes D.tape D.moment D.faults }
+{
+    passes_make_the_order::<D>();
+}
+
 /// The law: behind any number of openings, crashes, kills and failed disks the map that an opening
 /// gives is that of a front of all changes that were begun, in their order, and this front holds
 /// each one that was answered Ok.
@@ -42,7 +53,9 @@ pub fn answered_changes_stay<D: Disk>()
     promised_records_stay::<D>();
     commits_are_promised::<D>();
     lone_passes_make_the_order::<D>();
+    passes_make_the_order::<D>();
     logs_only_grow::<D>();
+    passes_hand_on_their_logs();
     finding_is_decoding();
     decoding_is_settled();
 }
