@@ -16,6 +16,9 @@ pub enum FolderErr {
     Folder,
     #[error("the folder has no segment of this timeline")]
     NoSegment,
+    /// A segment that is there could not be read.
+    #[error("disk fault")]
+    Disk,
     #[error("the first segment has no header that tells its size")]
     NoHeader,
 }
@@ -27,6 +30,19 @@ impl FolderErr {
             FolderErr::Memory => 1,
             FolderErr::NoSuchSegment => 2,
             FolderErr::Folder | FolderErr::NoSegment | FolderErr::NoHeader => 3,
+            FolderErr::Disk => 4,
+        }
+    }
+}
+
+impl FolderErr {
+    /// Why the first segment's header was not read: the file is too short for one, or it cannot be
+    /// read.
+    pub fn of_header(e: &io::Error) -> FolderErr {
+        match e.kind() {
+            ErrorKind::OutOfMemory => FolderErr::Memory,
+            ErrorKind::UnexpectedEof => FolderErr::NoHeader,
+            _ => FolderErr::Disk,
         }
     }
 }

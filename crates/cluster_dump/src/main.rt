@@ -19,8 +19,8 @@ use folder_err::FolderErr;
 use segment_files::StandardSink;
 use segment_name::SegmentName;
 use std::alloc::AllocError;
-use std::env;
 use std::process::ExitCode;
+use std::{env, io};
 use timeline_files::TimelineFiles;
 use wal_types::{Lsn, Xid};
 use waldump_filter::Filter;
@@ -63,7 +63,9 @@ fn list_folder(rt: HostRuntime, asked: &ListingAsked<'_>) -> Result<u8, FolderEr
     let number = timeline.first.timeline;
     let mut disk = TimelineFiles::new(rt, alloc, asked.folder, number)?;
     let mut header = [0; 40];
-    disk.read_front(timeline.first, &mut header)?;
+    if let Err(e) = disk.read_front(timeline.first, &mut header) {
+        return Err(FolderErr::of_header(&e));
+    }
     let geometry = segment_size(&header).ok_or(FolderErr::NoHeader)?;
     let filter = filter_of(asked, &timeline, geometry).ok_or(FolderErr::NoSuchSegment)?;
     let form = form_of(asked);
@@ -84,8 +86,8 @@ fn list_folder(rt: HostRuntime, asked: &ListingAsked<'_>) -> Result<u8, FolderEr
     let mut ending = Ending::of(walked);
     if let Ending::Clean { at } = ending {
         let is_asked = filter.end.is_some_and(|end| end.0 <= at.0);
-        if !is_asked && misses(&mut disk, &timeline, geometry, at)? {
-            ending = Ending::NoSegment { at };
+        if !is_asked {
+            ending = end_at(&mut disk, &timeline, geometry, at);
         }
     }
     // What is kept back is written now.
@@ -123,14 +125,23 @@ fn filter_of(asked: &ListingAsked<'_>, timeline: &Timeline, geometry: Geometry) 
     Some(filter)
 }
 
-// Whether the segment of an address is not there, though a later one is.
-fn misses(
+// How a listing ended whose log comes to an end here: whether the segment of this address is not
+// there, though a later one is.
+fn end_at(
     disk: &mut TimelineFiles<HostRuntime>,
     timeline: &Timeline,
     geometry: Geometry,
     at: Lsn,
-) -> Result<bool, FolderErr> {
+) -> Ending {
     let number = timeline.first.timeline;
     let name = SegmentName::of_segment(number, geometry, at.0 / geometry.segment_size());
-    Ok(name < timeline.last && !disk.has_segment(name)?)
+    if name >= timeline.last {
+        return Ending::Clean { at };
+    }
+    match disk.has_segment(name) {
+        Ok(true) => Ending::Clean { at },
+        Ok(false) => Ending::NoSegment { at },
+        Err(e) if e.kind() == io::ErrorKind::OutOfMemory => Ending::OutOfMemory,
+        Err(_) => Ending::DiskFault,
+    }
 }
