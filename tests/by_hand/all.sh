@@ -93,6 +93,11 @@ if [ -x "$map" ]; then
 else
   skip kill_pgmap.py "pgmap is not built: call rt run in crates/pgmap"
 fi
+if [ -r "$here/../../crates/pgwal_c/out/libpgwal_c.a" ]; then
+  try rt embedding.sh 1000 20 "$program"
+else
+  skip embedding.sh "there is no library: call rt lib in crates/pgwal_c"
+fi
 try_postgres
 prove wrong_definitions.py
 prove wrong_statuses.py

@@ -1,0 +1,399 @@
+/* A write-ahead log for programs in C11: the calls of libpgwal_c.a, forms of them that wait, and the disk of files.
+ *
+ * A log is opened anew, in a folder without segments; one that is there cannot be gone on with yet. Each thread has a
+ * session of its own. Calls named pgwal_try_ try once and never wait for another thread but for one that is in the
+ * midst of a copy; the others wait for the caller, by `pause` of the log between tries. No call prints or aborts.
+ *
+ * The caller's duties, which nothing checks:
+ *  - a session is in one call at a time. It may go from thread to thread, where that is ordered (a lock, a join);
+ *  - a handle is not used behind its end, nor in a child behind a fork, nor by a signal handler;
+ *  - pgwal_log and pgwal_session stay where they are while they are open; what they hold is not looked into;
+ *  - each session but the log's own has ended, and no call is under way, when pgwal_close is called;
+ *  - nobody else writes the folder's segments. A lock keeps other programs that take it out;
+ *  - whoever makes the disk's calls himself (pgwal_disk_call) makes each as it says, in order, and acknowledges those
+ *    alone that were made without an error: a segment is on the disk with its name, what a sync follows is there.
+ */
+#ifndef PGWAL_H
+#define PGWAL_H
+
+/* behind other headers this comes too late under -std=c11: then it is to be defined for the whole program */
+#ifndef _GNU_SOURCE
+#define _GNU_SOURCE
+#endif
+#include <dirent.h>
+#include <errno.h>
+#include <fcntl.h>
+#include <pthread.h>
+#include <sched.h>
+#include <stdbool.h>
+#include <stddef.h>
+#include <stdint.h>
+#include <stdio.h>
+#include <stdlib.h>
+#include <string.h>
+#include <sys/file.h>
+#include <sys/stat.h>
+#include <unistd.h>
+
+/* What a call answers: one table, of which pgwal_name gives the names. Those from 100 on are of this header. */
+#define PGWAL_ANSWERS(X)                                                                        \
+  X(PGWAL_DONE, 0, "done")                                                                      \
+  X(PGWAL_BUSY, 1, "something is in the way: try again")                                        \
+  X(PGWAL_BEHIND, 2, "durable once the disk's calls up to `moment` are acknowledged")           \
+  X(PGWAL_FULL, 3, "the log is full")                                                           \
+  X(PGWAL_DOWN, 4, "the disk has failed: a record on its way may be found later, or not")       \
+  X(PGWAL_MEMORY, 5, "no memory")                                                               \
+  X(PGWAL_SETUP, 6, "no log can have this setup")                                               \
+  X(PGWAL_UNRESERVED, 7, "the address is above the log's end")                                  \
+  X(PGWAL_LONG, 8, "the record has more than 1048576 bytes, or than its share of the ring")     \
+  X(PGWAL_MANAGER, 9, "no such resource manager, or a record that the log alone writes")        \
+  X(PGWAL_SESSIONS, 10, "as many sessions as the setup allows are there")                       \
+  X(PGWAL_MISUSE, 11, "the handle is spent, or what is asked has no meaning")                   \
+  X(PGWAL_NONE, 12, "no call of the disk is queued")                                            \
+  X(PGWAL_QUEUE, 13, "the queue has no room: the disk's calls have to be made first")           \
+  X(PGWAL_FOLDER, 100, "the folder cannot be made or opened")                                   \
+  X(PGWAL_LOCKED, 101, "another program has the folder")                                        \
+  X(PGWAL_THERE, 102, "the folder has a log already")
+
+#define PGWAL_ANSWER_(name, number, words) name = number,
+enum pgwal_answer { PGWAL_ANSWERS(PGWAL_ANSWER_) };
+#undef PGWAL_ANSWER_
+
+#define PGWAL_NAME_(name, number, words) \
+  case number: return #name ": " words;
+static inline const char *pgwal_name(uint32_t answer) {
+  switch (answer) { PGWAL_ANSWERS(PGWAL_NAME_) }
+  return "no answer of pgwal's";
+}
+#undef PGWAL_NAME_
+
+/* ---- the calls of the library; the forms below are made of these */
+
+/* Bytes of a segment (a power of two, 1 MiB to 1 GiB), the log's id (not 0), pages of 8192 bytes in the ring (4 to
+ * 64), segments that the log may fill (1 to 4096), sessions (the log has one itself), and disk calls that the queue
+ * has room for (at least what one flush makes is taken). */
+typedef struct {
+  uint64_t seg_size, sysid;
+  uint32_t ring_pages, cap_segments, sessions, calls;
+} pgwal_setup;
+
+typedef struct {
+  uint8_t *session, *disk;
+} pgwal_opened;
+
+enum { PGWAL_ASK_SPLIT, PGWAL_ASK_APPEND, PGWAL_ASK_FLUSH, PGWAL_ASK_END };
+
+typedef struct {
+  uint32_t asked, xid;
+  uint8_t rmid, info;
+  uint64_t upto, moment, start, end, detail;
+  uint8_t *session;
+} pgwal_asked;
+
+enum { PGWAL_ASK_TAKE, PGWAL_ASK_ACKNOWLEDGE, PGWAL_ASK_FAIL, PGWAL_ASK_LEAVE };
+enum { PGWAL_CREATE, PGWAL_WRITE, PGWAL_SYNC };
+
+typedef struct {
+  uint32_t asked, kind;
+  uint64_t count, segment, seg_size, page;
+  uint8_t bytes[8192];
+} pgwal_disk_asked;
+
+uint32_t pgwal_begin(const pgwal_setup *setup, pgwal_opened *opened);
+uint32_t pgwal_session_call(uint8_t *session, const uint8_t *data, size_t len, pgwal_asked *asked);
+uint32_t pgwal_disk_call(uint8_t *disk, pgwal_disk_asked *asked);
+
+/* ---- a log, and the disk of files that makes its calls */
+
+typedef struct {
+  int folder, file;       /* the folder, locked; the segment that was written last, or -1 */
+  uint64_t segment;       /* which it is */
+  int error;              /* errno of the call that failed */
+  void (*pause)(void *);  /* between two tries; sched_yield if it is not set */
+  void *pause_with;
+  pthread_mutex_t turn_lock;  /* whoever has the turn flushes, and makes the disk's calls: in the order in which they */
+  pthread_cond_t turn_passed; /* come, so that who waits finds done what the one before has synced */
+  uint64_t next_turn, turn;
+  uint8_t *session, *disk;
+  pthread_mutex_t idle_lock;
+  uint8_t **idle;  /* sessions that ended, for those who come */
+  uint32_t idle_count;
+  pgwal_disk_asked call;
+} pgwal_log;
+
+typedef struct {
+  pgwal_log *log;
+  uint8_t *handle;
+} pgwal_session;
+
+typedef struct {
+  uint32_t xid;          /* the transaction, 0 for none */
+  uint8_t rmid, info;    /* the resource manager, and its info bits */
+  const void *data;      /* main data */
+  size_t len;
+} pgwal_record;
+
+/* Where a record stands. */
+typedef struct {
+  uint64_t start, end;
+} pgwal_place;
+
+/* All below `upto` is durable since the disk's call `moment`. */
+typedef struct {
+  uint64_t upto, moment;
+} pgwal_hard;
+
+typedef struct {
+  uint64_t start, end, moment;
+} pgwal_sealed;
+
+static inline void pgwal_pause(pgwal_log *log) {
+  if (log->pause) log->pause(log->pause_with);
+  else sched_yield();
+}
+
+static inline void pgwal_take_turn(pgwal_log *log) {
+  pthread_mutex_lock(&log->turn_lock);
+  uint64_t mine = log->next_turn++;
+  while (log->turn != mine) pthread_cond_wait(&log->turn_passed, &log->turn_lock);
+  pthread_mutex_unlock(&log->turn_lock);
+}
+
+static inline void pgwal_pass_turn(pgwal_log *log) {
+  pthread_mutex_lock(&log->turn_lock);
+  log->turn++;
+  pthread_cond_broadcast(&log->turn_passed);
+  pthread_mutex_unlock(&log->turn_lock);
+}
+
+static inline void pgwal_segment_name(char name[25], uint64_t segment, uint64_t seg_size) {
+  uint64_t in_part = UINT64_C(0x100000000) / seg_size;
+  snprintf(name, 25, "%08X%08X%08X", 1u, (unsigned)(segment / in_part), (unsigned)(segment % in_part));
+}
+
+static inline bool pgwal_write_all(int file, const void *bytes, size_t len, off_t at) {
+  const char *rest = bytes;
+  while (len > 0) {
+    ssize_t n = pwrite(file, rest, len, at);
+    if (n < 0 && errno == EINTR) continue;
+    if (n <= 0) return false;
+    rest += n, at += n, len -= (size_t)n;
+  }
+  return true;
+}
+
+/* Makes a segment of zeros: under another name, filled and synced, then linked to its own; the folder is synced
+ * behind it. A segment that is there is left. */
+static inline bool pgwal_make_segment(pgwal_log *log, uint64_t segment, uint64_t seg_size) {
+  static const char zeros[65536];
+  char name[25], temporary[48];
+  pgwal_segment_name(name, segment, seg_size);
+  snprintf(temporary, sizeof temporary, "xlogtemp.%d.0", (int)getpid());
+  unlinkat(log->folder, temporary, 0);
+  int file = openat(log->folder, temporary, O_RDWR | O_CREAT | O_EXCL | O_CLOEXEC, 0600);
+  if (file < 0) return false;
+  bool done = true;
+  for (uint64_t at = 0; done && at < seg_size; at += sizeof zeros)
+    done = pgwal_write_all(file, zeros, sizeof zeros, (off_t)at);
+  done = done && fsync(file) == 0 && linkat(log->folder, temporary, log->folder, name, 0) == 0;
+  int error = errno;
+  bool gone = unlinkat(log->folder, temporary, 0) == 0;
+  if (done && gone && fsync(log->folder) == 0) {
+    if (log->file >= 0) close(log->file);
+    log->file = file, log->segment = segment;
+    return true;
+  }
+  if (!done) errno = error;
+  close(file);
+  return false;
+}
+
+/* Makes the call that was taken. The segment that was written stays open until another one is: the system tells a
+ * failed write to who had the file open. */
+static inline bool pgwal_make_call(pgwal_log *log) {
+  pgwal_disk_asked *call = &log->call;
+  if (call->kind == PGWAL_CREATE) return pgwal_make_segment(log, call->segment, call->seg_size);
+  if (log->file < 0 || log->segment != call->segment) {
+    char name[25];
+    pgwal_segment_name(name, call->segment, call->seg_size);
+    int file = openat(log->folder, name, O_RDWR | O_CLOEXEC);
+    if (file < 0) return false;
+    if (log->file >= 0) close(log->file);
+    log->file = file, log->segment = call->segment;
+  }
+  if (call->kind == PGWAL_WRITE)
+    return pgwal_write_all(log->file, call->bytes, sizeof call->bytes, (off_t)(call->page * sizeof call->bytes));
+  return fdatasync(log->file) == 0;
+}
+
+/* Makes all calls that are queued, in order, and acknowledges each. Whoever calls it has the turn. */
+static inline void pgwal_make_calls(pgwal_log *log) {
+  for (;;) {
+    log->call.asked = PGWAL_ASK_TAKE;
+    if (pgwal_disk_call(log->disk, &log->call) != PGWAL_DONE) return;
+    if (!pgwal_make_call(log)) {
+      log->error = errno ? errno : EIO;
+      log->call.asked = PGWAL_ASK_FAIL;
+      pgwal_disk_call(log->disk, &log->call);
+      return;
+    }
+    log->call.asked = PGWAL_ASK_ACKNOWLEDGE;
+    pgwal_disk_call(log->disk, &log->call);
+  }
+}
+
+static inline bool pgwal_folder_has_log(int folder) {
+  int copy = openat(folder, ".", O_RDONLY | O_DIRECTORY | O_CLOEXEC);
+  DIR *names = copy < 0 ? NULL : fdopendir(copy);
+  if (!names) {
+    if (copy >= 0) close(copy);
+    return true;
+  }
+  bool found = false;
+  for (struct dirent *name; (name = readdir(names));)
+    found = found || (strlen(name->d_name) == 24 && strspn(name->d_name, "0123456789ABCDEF") == 24);
+  closedir(names);
+  return found;
+}
+
+/* Gives back what of a log was taken. */
+static inline uint32_t pgwal_let_go(pgwal_log *log, uint32_t answer) {
+  if (log->file >= 0) close(log->file);
+  if (log->folder >= 0) close(log->folder);
+  free(log->idle);
+  pthread_mutex_destroy(&log->turn_lock);
+  pthread_cond_destroy(&log->turn_passed);
+  pthread_mutex_destroy(&log->idle_lock);
+  return answer;
+}
+
+/* Opens a log anew in a folder, which is made if it is missing and locked until the close. */
+static inline uint32_t pgwal_open(const char *folder, const pgwal_setup *setup, pgwal_log *log) {
+  *log = (pgwal_log){.folder = -1, .file = -1};
+  pthread_mutex_init(&log->turn_lock, NULL);
+  pthread_cond_init(&log->turn_passed, NULL);
+  pthread_mutex_init(&log->idle_lock, NULL);
+  if (mkdir(folder, 0700) < 0 && errno != EEXIST) return pgwal_let_go(log, PGWAL_FOLDER);
+  log->folder = open(folder, O_RDONLY | O_DIRECTORY | O_CLOEXEC);
+  if (log->folder < 0) return pgwal_let_go(log, PGWAL_FOLDER);
+  if (flock(log->folder, LOCK_EX | LOCK_NB) < 0) return pgwal_let_go(log, PGWAL_LOCKED);
+  if (pgwal_folder_has_log(log->folder)) return pgwal_let_go(log, PGWAL_THERE);
+  int above = openat(log->folder, "..", O_RDONLY | O_DIRECTORY | O_CLOEXEC);
+  bool settled = above >= 0 && fsync(log->folder) == 0 && fsync(above) == 0;
+  if (above >= 0) close(above);
+  if (!settled) return pgwal_let_go(log, PGWAL_FOLDER);
+  log->idle = calloc(setup->sessions ? setup->sessions : 1, sizeof *log->idle);
+  if (!log->idle) return pgwal_let_go(log, PGWAL_MEMORY);
+  pgwal_opened opened = {0};
+  uint32_t answer = pgwal_begin(setup, &opened);
+  if (answer != PGWAL_DONE) return pgwal_let_go(log, answer);
+  log->session = opened.session, log->disk = opened.disk;
+  return PGWAL_DONE;
+}
+
+/* A session for one thread. One that ended is taken up again, else it is split off the log's own. */
+static inline uint32_t pgwal_session_new(pgwal_log *log, pgwal_session *me) {
+  pgwal_asked asked = {.asked = PGWAL_ASK_SPLIT};
+  uint32_t answer = PGWAL_DONE;
+  pthread_mutex_lock(&log->idle_lock);
+  if (log->idle_count > 0) asked.session = log->idle[--log->idle_count];
+  else answer = pgwal_session_call(log->session, (const uint8_t *)"", 0, &asked);
+  pthread_mutex_unlock(&log->idle_lock);
+  *me = (pgwal_session){log, asked.session};
+  return answer;
+}
+
+static inline void pgwal_session_end(pgwal_session *me) {
+  pthread_mutex_lock(&me->log->idle_lock);
+  me->log->idle[me->log->idle_count++] = me->handle;
+  pthread_mutex_unlock(&me->log->idle_lock);
+  *me = (pgwal_session){0};
+}
+
+/* Appends a record, by one try: DONE, BUSY, QUEUE, FULL, DOWN, LONG, MANAGER, MEMORY. Where half the ring is not written
+ * it writes that first, into the queue, and answers QUEUE. A session's share, which LONG speaks of, is half the ring less
+ * a page, divided by the sessions of the setup; a record takes up its bytes, a 256th more and 128. */
+static inline uint32_t pgwal_try_append(pgwal_session *me, const pgwal_record *r, pgwal_place *place) {
+  pgwal_asked asked = {.asked = PGWAL_ASK_APPEND, .xid = r->xid, .rmid = r->rmid, .info = r->info};
+  uint32_t answer = pgwal_session_call(me->handle, (const uint8_t *)(r->len ? r->data : ""), r->len, &asked);
+  *place = (pgwal_place){asked.start, asked.end};
+  return answer;
+}
+
+/* Asks for all below an address to be durable, by one try: DONE, BUSY, QUEUE, BEHIND, UNRESERVED (then
+ * `hard->upto` is the log's end), DOWN. */
+static inline uint32_t pgwal_try_flush(pgwal_session *me, uint64_t upto, pgwal_hard *hard) {
+  pgwal_asked asked = {.asked = PGWAL_ASK_FLUSH, .upto = upto};
+  uint32_t answer = pgwal_session_call(me->handle, (const uint8_t *)"", 0, &asked);
+  *hard = (pgwal_hard){answer == PGWAL_UNRESERVED ? asked.end : asked.upto, asked.moment};
+  return answer;
+}
+
+/* Whether a try is to be made again; behind what took it back. Whoever calls it has the turn. */
+static inline bool pgwal_try_again(pgwal_log *log, uint32_t *answer) {
+  if (*answer != PGWAL_BEHIND && *answer != PGWAL_QUEUE && *answer != PGWAL_BUSY) return false;
+  pgwal_make_calls(log);
+  if (log->error) {
+    *answer = PGWAL_DOWN;
+    return false;
+  }
+  if (*answer == PGWAL_BUSY) pgwal_pause(log);
+  return true;
+}
+
+/* Makes all below an address durable. One thread at a time flushes, and makes the disk's calls: it writes and syncs
+ * what all others have appended meanwhile, who then find it done. */
+static inline uint32_t pgwal_flush(pgwal_session *me, uint64_t upto, pgwal_hard *hard) {
+  uint32_t answer;
+  pgwal_take_turn(me->log);
+  do answer = pgwal_try_flush(me, upto, hard);
+  while (pgwal_try_again(me->log, &answer));
+  pgwal_pass_turn(me->log);
+  return answer;
+}
+
+/* Appends a record, and waits for its place. */
+static inline uint32_t pgwal_append(pgwal_session *me, const pgwal_record *record, pgwal_place *place) {
+  for (;;) {
+    uint32_t answer = pgwal_try_append(me, record, place);
+    if (answer == PGWAL_BUSY) {
+      pgwal_pause(me->log);
+    } else if (answer == PGWAL_QUEUE) {
+      pgwal_take_turn(me->log);
+      bool again = pgwal_try_again(me->log, &answer);
+      pgwal_pass_turn(me->log);
+      if (!again) return answer;
+    } else {
+      return answer;
+    }
+  }
+}
+
+/* Appends a record, and makes it durable. */
+static inline uint32_t pgwal_commit(pgwal_session *me, const pgwal_record *record, pgwal_sealed *sealed) {
+  pgwal_place place;
+  pgwal_hard hard;
+  uint32_t answer = pgwal_append(me, record, &place);
+  if (answer != PGWAL_DONE) return answer;
+  answer = pgwal_flush(me, place.end, &hard);
+  *sealed = (pgwal_sealed){place.start, place.end, hard.moment};
+  return answer;
+}
+
+/* Flushes all that is reserved, ends the sessions, and gives the folder back. The log is spent, whatever it answers:
+ * DONE says that all is durable. */
+static inline uint32_t pgwal_close(pgwal_log *log) {
+  pgwal_session own = {log, log->session};
+  pgwal_hard hard;
+  uint32_t answer = pgwal_flush(&own, UINT64_MAX, &hard);
+  if (answer == PGWAL_UNRESERVED) answer = pgwal_flush(&own, hard.upto, &hard);
+  pgwal_asked end = {.asked = PGWAL_ASK_END};
+  while (log->idle_count > 0)
+    pgwal_session_call(log->idle[--log->idle_count], (const uint8_t *)"", 0, &end);
+  pgwal_session_call(log->session, (const uint8_t *)"", 0, &end);
+  log->call.asked = PGWAL_ASK_LEAVE;
+  pgwal_disk_call(log->disk, &log->call);
+  return pgwal_let_go(log, answer);
+}
+
+#endif

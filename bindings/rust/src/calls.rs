@@ -1,0 +1,68 @@
+//! The calls of libpgwal_c.a, as the header of C has them.
+
+#[repr(C)]
+pub struct Setup {
+    pub seg_size: u64,
+    pub sysid: u64,
+    pub ring_pages: u32,
+    pub cap_segments: u32,
+    pub sessions: u32,
+    pub calls: u32,
+}
+
+#[repr(C)]
+pub struct Opened {
+    pub session: *mut u8,
+    pub disk: *mut u8,
+}
+
+pub const SPLIT: u32 = 0;
+pub const APPEND: u32 = 1;
+pub const FLUSH: u32 = 2;
+pub const END: u32 = 3;
+
+#[repr(C)]
+pub struct Asked {
+    pub asked: u32,
+    pub xid: u32,
+    pub rmid: u8,
+    pub info: u8,
+    pub upto: u64,
+    pub moment: u64,
+    pub start: u64,
+    pub end: u64,
+    pub detail: u64,
+    pub session: *mut u8,
+}
+
+impl Asked {
+    pub fn new(asked: u32) -> Asked {
+        let session = std::ptr::null_mut();
+        Asked { asked, xid: 0, rmid: 0, info: 0, upto: 0, moment: 0, start: 0, end: 0, detail: 0, session }
+    }
+}
+
+pub const TAKE: u32 = 0;
+pub const ACKNOWLEDGE: u32 = 1;
+pub const FAIL: u32 = 2;
+pub const LEAVE: u32 = 3;
+
+pub const CREATE: u32 = 0;
+pub const WRITE: u32 = 1;
+
+#[repr(C)]
+pub struct DiskAsked {
+    pub asked: u32,
+    pub kind: u32,
+    pub count: u64,
+    pub segment: u64,
+    pub seg_size: u64,
+    pub page: u64,
+    pub bytes: [u8; 8192],
+}
+
+unsafe extern "C" {
+    pub fn pgwal_begin(setup: *const Setup, opened: *mut Opened) -> u32;
+    pub fn pgwal_session_call(session: *mut u8, data: *const u8, len: usize, asked: *mut Asked) -> u32;
+    pub fn pgwal_disk_call(disk: *mut u8, asked: *mut DiskAsked) -> u32;
+}

@@ -1,0 +1,54 @@
+//! The log for programs in C, and in all that calls C: thin calls over embedded_log. What is handed
+//! out is known by pointers, which the program hands in again and never looks into.
+//!
+//! `session_handle` is what threads call with, and `disk_handle` what the disk's owner has.
+//! `answers` has the numbers that all calls answer, and `opening` begins a log.
+#![tactic(auto)]
+
+ghost use Rattle.std.specs.Prelude.{ℕ};
+ghost use types.Logic.{sem};
+ghost use base.Fml.{fex};
+ghost use Rattle.std.specs.Borrow.{full_share};
+ghost use Rattle.std.specs.Ptr.{lies_at};
+ghost use Rattle.pgwal_c.specs.contracts.session_handle.SessionHandle as session_handle;
+ghost use Rattle.pgwal_c.specs.contracts.disk_handle.DiskHandle as disk_handle;
+
+mod answers;
+mod appending;
+mod disk_handle;
+mod opening;
+mod said;
+mod session_handle;
+#[cfg(test)]
+mod tests;
+
+use disk_handle::{DiskCall, DiskHandle, call_disk};
+use opening::{LogHandles, LogSetup, hand_out};
+use session_handle::{SessionCall, SessionHandle, call_session};
+use std::alloc::Global;
+
+/// Begins a log.
+#[unsafe(no_mangle)]
+pub extern "C" fn pgwal_begin(alloc: Global, setup: &LogSetup, opened: &mut LogHandles) -> u32 {
+    hand_out(alloc, setup, opened)
+}
+
+/// A call of a session.
+#[unsafe(no_mangle)]
+pub unsafe extern "C" fn pgwal_session_call(at: *mut u8, data: &[u8], call: &mut SessionCall) -> u32
+    ghost value: { ℕ }
+    requires* { sem 𝓛 (lies_at session_handle.the_row full_share at value) }
+    ensures* { sem 𝓛 (fex ℕ (λ v. lies_at session_handle.the_row full_share at v)) }
+{
+    call_session(unsafe { &mut *(at as *mut SessionHandle) }, data, call)
+}
+
+/// A call of the disk's owner.
+#[unsafe(no_mangle)]
+pub unsafe extern "C" fn pgwal_disk_call(at: *mut u8, call: &mut DiskCall) -> u32
+    ghost value: { DiskHandle }
+    requires* { sem 𝓛 (lies_at disk_handle.the_row full_share at value) }
+    ensures* { sem 𝓛 (fex DiskHandle (λ v. lies_at disk_handle.the_row full_share at v)) }
+{
+    call_disk(unsafe { &mut *(at as *mut DiskHandle) }, call)
+}

@@ -1,0 +1,84 @@
+// A log is begun: its first session and the disk's queue are handed out.
+use crate::answers::{DONE, MEMORY, SETUP};
+use crate::disk_handle::DiskHandle;
+use crate::said::ProgramSaid;
+use crate::session_handle::SessionHandle;
+use byte_position::PAGE_SIZE;
+use embedded_log::{OpenRefusal, open};
+use std::alloc::Global;
+use wal_log::{OpenFaultKind, Setup};
+
+/// What a log is begun with: the bytes of a segment, the system id, pages of the ring, segments
+/// that it may fill, sessions, and calls that the disk's queue has room for.
+#[repr(C)]
+pub struct LogSetup {
+    pub seg_size: u64,
+    pub sysid: u64,
+    pub ring_pages: u32,
+    pub cap_segments: u32,
+    pub sessions: u32,
+    pub calls: u32,
+}
+
+/// What of a log was handed out: its first session, and the disk's queue.
+#[repr(C)]
+#[derive(Drop)]
+pub struct LogHandles {
+    pub session: *mut u8,
+    pub disk: *mut u8,
+}
+
+fn refusal_answer(e: OpenRefusal) -> u32 {
+    match e {
+        OpenRefusal::Passes => SETUP,
+        OpenRefusal::Memory => MEMORY,
+        OpenRefusal::Refused(kind) => match kind {
+            OpenFaultKind::Memory => MEMORY,
+            _ => SETUP,
+        },
+    }
+}
+
+// The first session of a log that is begun, and the disk's queue.
+pub(crate) fn begin_log(
+    alloc: Global,
+    setup: &LogSetup,
+) -> Result<(SessionHandle, DiskHandle), u32> {
+    let log = Setup {
+        seg_size: setup.seg_size,
+        ring_pages: setup.ring_pages,
+        cap_segments: setup.cap_segments,
+        sysid: setup.sysid,
+        passes: setup.sessions.saturating_mul(2),
+    };
+    let (session, calls) = match open::<ProgramSaid>(alloc, log, setup.calls as usize) {
+        Ok(parts) => parts,
+        Err(e) => return Err(refusal_answer(e)),
+    };
+    let half = u64::from(setup.ring_pages) * PAGE_SIZE / 2;
+    let session = SessionHandle {
+        alloc,
+        session: Some(session),
+        half,
+        share: half.saturating_sub(PAGE_SIZE) / u64::from(setup.sessions.max(1)),
+        end: 0,
+        written: 0,
+    };
+    Ok((session, DiskHandle { calls: Some(calls) }))
+}
+
+pub(crate) fn hand_out(alloc: Global, setup: &LogSetup, opened: &mut LogHandles) -> u32 {
+    let (session, disk) = match begin_log(alloc, setup) {
+        Ok(parts) => parts,
+        Err(answer) => return answer,
+    };
+    let Ok(session) = Box::new(alloc, session) else {
+        return MEMORY;
+    };
+    let Ok(disk) = Box::new(alloc, disk) else {
+        return MEMORY;
+    };
+    opened.session = Box::into_raw(session) as *mut u8;
+    opened.disk = Box::into_raw(disk) as *mut u8;
+    DONE
+}

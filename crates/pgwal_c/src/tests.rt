@@ -1,0 +1,69 @@
+//! A commit as C makes it: appended, flushed, its calls made, and told. The place and the moment
+//! are those of docs/FORMATS.md: a log's first record starts behind the long header of its first
+//! page, and its flush makes a segment, writes a page and syncs.
+
+use crate::answers::{BEHIND, DONE};
+use crate::disk_handle::{ACKNOWLEDGE, CREATE, DiskCall, DiskHandle, SYNC, TAKE, WRITE, call_disk};
+use crate::opening::{LogSetup, begin_log};
+use crate::session_handle::{APPEND, END, FLUSH, SessionCall, call_session};
+use std::ptr::null_mut;
+use std::test::Fail;
+
+const LOG: LogSetup = LogSetup {
+    seg_size: 1 << 20,
+    sysid: 1,
+    ring_pages: 4,
+    cap_segments: 3,
+    sessions: 1,
+    calls: 0,
+};
+
+// What was answered to the next call, and which call it was.
+fn made(disk: &mut DiskHandle, call: &mut DiskCall) -> (u32, u32, u64) {
+    call.asked = TAKE;
+    let taken = call_disk(disk, call);
+    call.asked = ACKNOWLEDGE;
+    (taken | call_disk(disk, call), call.kind, call.count)
+}
+
+#[test]
+fn a_commit_is_told_once_its_calls_are_made(rt: HostRuntime) -> Result<(), Fail> {
+    let Ok((mut session, mut disk)) = begin_log(rt.alloc(), &LOG) else {
+        panic!(rt; "a log");
+    };
+    let mut call = SessionCall {
+        asked: APPEND,
+        xid: 0,
+        rmid: 128,
+        info: 0,
+        upto: 0,
+        moment: 0,
+        start: 0,
+        end: 0,
+        detail: 0,
+        session: null_mut(),
+    };
+    assert_eq!(rt; call_session(&mut session, b"a1", &mut call), DONE);
+    assert_eq!(rt; (call.start, call.end), (0x10_0028, 0x10_0048));
+    call.asked = FLUSH;
+    call.upto = call.end;
+    assert_eq!(rt; call_session(&mut session, b"", &mut call), BEHIND);
+    let mut page = DiskCall {
+        asked: TAKE,
+        kind: 0,
+        count: 0,
+        segment: 0,
+        seg_size: 0,
+        page: 0,
+        bytes: [0; 8192],
+    };
+    assert_eq!(rt; made(&mut disk, &mut page), (DONE, CREATE, 1));
+    assert_eq!(rt; made(&mut disk, &mut page), (DONE, WRITE, 2));
+    assert_eq!(rt; made(&mut disk, &mut page), (DONE, SYNC, 3));
+    assert_eq!(rt; call_session(&mut session, b"", &mut call), DONE);
+    assert_eq!(rt; (call.upto, call.moment), (0x10_0048, 3));
+    call.asked = END;
+    assert_eq!(rt; call_session(&mut session, b"", &mut call), DONE);
+    assert_eq!(rt; call_session(&mut session, b"", &mut call), DONE);
+    Ok(())
+}

@@ -1,0 +1,83 @@
+#!/usr/bin/env bash
+# Links the log into a program in C and one in Rust, which `rt ci` cannot: eight threads commit records side by
+# side, and each record stands in the log where its thread was told. Then each program is killed at random moments,
+# and no record that was told is missing. A log that is there cannot be opened again yet, so that is not tried.
+#
+#     tests/by_hand/embedding.sh                              100,000 records a thread, 20 kills of each program
+#     tests/by_hand/embedding.sh RECORDS KILLS [PROGRAM]      and lists by another build
+#
+# It is run by hand, outside `rt ci`, behind `rt lib` in crates/pgwal_c. What the programs stand on in the kit is
+# found by `rt doc`, or by PGWAL_KIT. A program is skipped with a word if its compiler is not there. All is done in a
+# temporary folder, which is removed. Prints a line for each check that failed, and at the end 'N passed, M failed';
+# its status is 1 where one failed.
+source "$(dirname "${BASH_SOURCE[0]}")/checks.sh" || exit 1
+records=${1:-100000}
+kills=${2:-20}
+program=$(realpath -e "${3:-$top/crates/pgwal/out/pgwal}") || exit 1
+PGWAL_KIT=${PGWAL_KIT:-$(dirname "$(rt doc)")} || exit 1
+PGWAL_LIB=${PGWAL_LIB:-$top/crates/pgwal_c/out}
+export PGWAL_KIT PGWAL_LIB
+[ -r "$PGWAL_LIB/libpgwal_c.a" ] || { echo "there is no library: call rt lib in crates/pgwal_c" >&2; exit 1; }
+cd "$base" || exit 1
+
+# listed: each record of the log, as the programs tell their places
+listed() {
+  "$program" dump --seg 16777216 | sed -n 's/.* tx: *\([0-9]*\), lsn: *\([0-9A-F/]*\),.*/\2 \1/p' | sort
+}
+
+# commits NAME COMMAND: what all threads were told is what the log lists
+commits() {
+  rm -rf pg_wal
+  "$2" pg_wal "$records" places >told 2>err
+  equal "$1: the status" $? 0
+  sort told >sorted
+  equal "$1: records told" "$(wc -l <sorted)" $((8 * records))
+  listed | cmp -s - sorted
+  equal "$1: they are what is listed" $? 0
+  "$2" pg_wal 1 >/dev/null 2>err
+  equal "$1: a log that is there" "$? $(grep -ciE 'has a log already|AlreadyExists' err)" '1 1'
+}
+
+# killed NAME COMMAND: of a program that was killed each record that was told is listed
+killed() {
+  local number
+  for ((number = 0; number < kills; number++)); do
+    rm -rf pg_wal
+    "$2" pg_wal 1000000 places >told 2>err &
+    sleep "0.$((RANDOM % 10))$((RANDOM % 10))"
+    kill -KILL $! && wait $! 2>/dev/null
+    # A line that was cut is not told.
+    sed '$d' told | sort >sorted
+    listed >all
+    equal "$1, kill $number: records told and not listed" "$(comm -23 sorted all | wc -l)" 0
+  done
+}
+
+tried() {
+  commits "$1" "$2"
+  killed "$1" "$2"
+}
+
+if command -v cc >/dev/null; then
+  cc -std=c11 -O2 -Wall -o in_c "$top/bindings/c/commits.c" -L"$PGWAL_LIB" -lpgwal_c \
+    -L"$PGWAL_KIT/c" -los_c -llibc_c -pthread || exit 1
+  tried 'in C' ./in_c
+  cc -std=c11 -O2 -Wall -I"$top/bindings/c" -o ends "$top/tests/by_hand/embedding_ends.c" -L"$PGWAL_LIB" -lpgwal_c \
+    -L"$PGWAL_KIT/c" -los_c -llibc_c -pthread || exit 1
+  # 0 is DONE, 4 DOWN, 8 LONG
+  equal 'in C: appends of each length end' "$(timeout 100 ./ends | sed 's/.*: //' | tr '\n' ';')" \
+    '60, 0, 0;0, 8, 0;60, 0, 0;60, 0, 0;0, 8, 0;60, 0, 0;0, 8, 0;60, 0, 0;'
+  # No file may have a segment's length: the first call of the disk fails.
+  equal 'in C: appends on a disk that fails end' \
+    "$(trap '' XFSZ; ulimit -f 500; timeout 100 ./ends down | sed 's/.*: [0-9]*, //')" '4, 4'
+else
+  echo 'in C: skipped, there is no cc'
+fi
+if command -v cargo >/dev/null; then
+  cp -r "$top/bindings/rust" rust
+  cargo build --quiet --offline --release --example commits --manifest-path rust/Cargo.toml || exit 1
+  tried 'in Rust' rust/target/release/examples/commits
+else
+  echo 'in Rust: skipped, there is no cargo'
+fi
+tell

@@ -1,0 +1,42 @@
+/* How appends end, for embedding.sh: of records of each length, by several sessions in one thread, and on a disk that
+ * fails. An append that never ended would be a fault of the library's. */
+#include "pgwal.h"
+
+enum { MOST = 8 };
+
+static char data[1 << 20];
+
+/* So many sessions append in turn, until one is refused; prints how many did, and what the last one was told. */
+static void appends(uint32_t ring, uint32_t sessions, size_t len, int rounds) {
+  pgwal_setup setup = {
+      .seg_size = 16 << 20, .sysid = 1, .ring_pages = ring, .cap_segments = 64, .sessions = sessions + 1};
+  static pgwal_log log;
+  pgwal_session session[MOST];
+  uint32_t answer = pgwal_open("pg_ends", &setup, &log);
+  for (uint32_t i = 0; i < sessions && answer == PGWAL_DONE; i++) answer = pgwal_session_new(&log, &session[i]);
+  pgwal_record record = {.xid = 1, .rmid = 128, .data = data, .len = len};
+  pgwal_place place;
+  int done = 0;
+  while (done < rounds && answer == PGWAL_DONE) {
+    answer = pgwal_append(&session[done % sessions], &record, &place);
+    if (answer == PGWAL_DONE) done++;
+  }
+  for (uint32_t i = 0; i < sessions; i++) pgwal_session_end(&session[i]);
+  uint32_t closed = pgwal_close(&log);
+  printf("%u pages, %u sessions, %zu bytes: %d, %u, %u\n", ring, sessions, len, done, answer, closed);
+  if (system("rm -rf pg_ends")) exit(1);
+}
+
+int main(int count, char **words) {
+  (void)words;
+  if (count > 1) return appends(64, 3, 60000, 60), 0;
+  appends(64, 1, 126000, 60);
+  appends(64, 1, 261000, 60);
+  appends(64, 2, 84000, 60);
+  appends(64, 8, 27900, 60);
+  appends(64, 8, 130000, 60);
+  appends(4, 1, 3900, 60);
+  appends(4, 1, 15000, 60);
+  appends(4, 4, 1400, 60);
+  return 0;
+}
