@@ -90,7 +90,8 @@ impl<H: Rule> SharedLog<H> {
         ensures keeps { KeepsPass (view_of_pass pass.old) (view_of_pass pass.new) }
         ensures pass { IsPassOfLog self.now.wal pass.new }
     {
-        if !self.host.has_room(self.calls_of_flush) {
+        // Behind a call that failed nothing is taken any more: the next call of the disk tells it.
+        if !self.host.has_failed() && !self.host.has_room(self.calls_of_flush) {
             return Err(FlushStop::Busy(FlushBusy::Queue));
         }
         match self.wal.try_flush(pass, upto) {
