@@ -324,6 +324,16 @@ module _ {D : Type 0} (wal : Wal D) (pass : Pass) (lanes : List LaneCalls)
       (changes_under (number_of_lane lane) woven) (begun_in lane.calls)
       (under_woven (number_of_lane lane) order woven are) (lane_said lane has)
 
+  has_no_other : (woven : List PassChange) → AreWoven order woven → (number : ℕ)
+      → All (λ (lane : LaneCalls). number ≢ number_of_lane lane) lanes
+      → changes_under number woven ≡ []
+  has_no_other woven are number none =
+      same_said (entries_under number order) (changes_under number woven) []
+      (under_woven number order woven are)
+      (subst (λ (l : List Entry). SayEach l []) (sym (made.no_other number
+      (subst (All (λ (l : NumberedLog). number ≢ l.number)) (sym all.all)
+      (All-map (λ (l : NumberedLog). number ≢ l.number) log_of_lane lanes none)))) tt)
+
   has_place : (woven : List PassChange) → AreWoven order woven → (lane : LaneCalls)
       (before : List ChangeCall) (change : MapChange) (sealed : Sealed)
       (others : List ChangeCall) → Contains lanes lane
@@ -343,6 +353,7 @@ module _ {D : Type 0} (wal : Wal D) (pass : Pass) (lanes : List LaneCalls)
         are = woven.1;
         each = All-weaker (Contains lanes) (HasItsOwn woven.0) (has_own woven.0 woven.1) lanes
             (All-contains_itself lanes);
+        no_other = has_no_other woven.0 woven.1;
         placed = has_place woven.0 woven.1;
       }
 

@@ -1,5 +1,5 @@
 -- The changes of several lanes of a map, as one log has them.
-use Rattle.std.specs.Prelude.{◌≡◌, ℕ, ◌≤◌, All, Contains, List, [], ◌∷◌, ◌++◌, map, Option, Some, ◌==◌, if◌then◌else◌, Ok}
+use Rattle.std.specs.Prelude.{◌≡◌, ◌≢◌, ℕ, ◌≤◌, All, Contains, List, [], ◌∷◌, ◌++◌, map, Option, Some, ◌==◌, if◌then◌else◌, Ok}
 use Rattle.segment_disk.specs.Tape.{Tape}
 use Rattle.wal_types.specs.declared.answers.Sealed.{Sealed}
 use Rattle.wal_page.specs.Order.{Entry}
@@ -98,12 +98,14 @@ pub record HasItsPlace (lane : LaneCalls) (woven : List PassChange) (before : Li
 
 -- ---- what a log has of its lanes
 
--- the entries of a log say the changes that its lanes begun, each lane's in their order, and among
--- them is each one that was answered Ok
+-- the entries of a log say the changes that its lanes begun, each lane's in their order, and no
+-- others; among them is each one that was answered Ok
 pub record WeavesLanes (order : List Entry) (lanes : List LaneCalls) : Type 0 where
   pub woven : List PassChange
   pub are : AreWoven order woven
   pub each : All (HasItsOwn woven) lanes
+  pub no_other : (number : ℕ) → All (λ lane. number ≢ number_of_lane lane) lanes
+      → changes_under number woven ≡ []
   pub placed : (lane : LaneCalls) (before : List ChangeCall) (change : MapChange) (sealed : Sealed)
       (others : List ChangeCall) → Contains lanes lane
       → lane.calls ≡ before ++ (record { change = change; answer = Ok sealed }) ∷ others
