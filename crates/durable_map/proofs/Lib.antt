@@ -2,6 +2,7 @@ pub mod Begun
 pub mod Changed
 pub mod Fronts
 pub mod Keys
+pub mod LaneCalls
 pub mod Logged
 pub mod MapLives
 pub mod Mains

@@ -1,6 +1,7 @@
 -- What a part of a map tells of what it was asked.
-use Rattle.std.specs.Prelude.{◌≡◌, ℕ, List, Option, Some, None}
+use Rattle.std.specs.Prelude.{◌≡◌, ℕ, List, [], ◌∷◌, ◌++◌, Option, Some, None}
 use Rattle.wal_log.specs.declared.wal.Wal.{Wal}
+use Rattle.durable_map.specs.Calls.{ChangeCall}
 use Rattle.durable_map.specs.Stores.{AnswersCall, part_held, slot_bytes}
 use Rattle.durable_map.specs.declared.asked.MapCall.{MapCall}
 use Rattle.durable_map.specs.declared.asked.MapCall.TheVariants.{Set, Get, Del}
@@ -27,3 +28,30 @@ TellsPart wal (Set key value) old new told =
     TellsChange wal key.items (Some value.items) old new told
 TellsPart wal (Del key) old new told = TellsChange wal key.items None old new told
 TellsPart wal (Get key) old new told = (new ≡ old) × TellsValue old key.items told
+
+-- calls were made, one behind another, and this is what they were told
+abbrev pub AreTold : {D : Type 0} → Wal D → List MapCall → MapPart → List MapTold → MapPart
+    → Type 0
+AreTold wal [] old [] new = new ≡ old
+AreTold wal [] old (told ∷ others) new = ⊥
+AreTold wal (call ∷ calls) old [] new = ⊥
+AreTold wal (call ∷ calls) old (told ∷ others) new =
+    (next : MapPart) × TellsPart wal call old next told × AreTold wal calls next others new
+
+-- the sets and dels among calls, with what they were answered
+abbrev pub change_told : (key : List ℕ) → Option (List ℕ) → MapTold → List ChangeCall
+change_told key value (Changed answer) =
+    (record { change = record { key = key; value = value }; answer = answer }) ∷ []
+change_told key value (Value told) = []
+change_told key value NoMemory = []
+
+abbrev pub changes_of_call : MapCall → MapTold → List ChangeCall
+changes_of_call (Set key value) told = change_told key.items (Some value.items) told
+changes_of_call (Del key) told = change_told key.items None told
+changes_of_call (Get key) told = []
+
+abbrev pub changes_told : List MapCall → List MapTold → List ChangeCall
+changes_told [] told = []
+changes_told (call ∷ calls) [] = []
+changes_told (call ∷ calls) (told ∷ others) =
+    changes_of_call call told ++ changes_told calls others

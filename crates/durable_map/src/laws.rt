@@ -4,11 +4,16 @@ ghost use Rattle.std.specs.Prelude.{◌≡◌, List, Result};
 ghost use Rattle.wal_types.specs.declared.answers.Sealed.{Sealed};
 ghost use Rattle.wal_types.specs.declared.record.Record.{Record};
 ghost use Rattle.machine_state.specs.declared.setup.Setup.{Setup};
+ghost use Rattle.wal_log.specs.declared.wal.Wal.{Wal};
+ghost use Rattle.durable_map.specs.Asked.{AreTold, changes_told};
+ghost use Rattle.durable_map.specs.Calls.{LeadTo};
 ghost use Rattle.durable_map.specs.Changes.{MapChange};
 ghost use Rattle.durable_map.specs.Lives.{AnsweredChangesStay};
 ghost use Rattle.durable_map.specs.Records.{IsLoggable, SaysChange, change_record};
 ghost use Rattle.durable_map.specs.Stores.{AnswersChange, Holds, changes_behind};
 ghost use Rattle.durable_map.specs.Weaving.{LogsWeaveLanes};
+ghost use Rattle.durable_map.specs.declared.asked.MapCall.{MapCall};
+ghost use Rattle.durable_map.specs.declared.asked.MapTold.{MapTold};
 ghost use Rattle.durable_map.specs.declared.fault.ChangeErr.{ChangeErr};
 ghost use Rattle.durable_map.specs.declared.part.MapPart.{MapPart};
 
@@ -34,6 +39,13 @@ pub fn changes_grow_by_one()
     ensures { (setup : Setup) (change : MapChange) (changes : List MapChange) (old new : MapPart)
         (answer : Result Sealed ChangeErr) → AnswersChange setup change old new answer
         → Holds old changes → Holds new (changes_behind change changes answer) }
+{}
+
+/// The sets and dels among the calls that a lane makes, with what they were told, are calls of its
+/// part, one behind another.
+pub fn what_is_told_leads<D: Disk>()
+    ensures { (wal : Wal D) (calls : List MapCall) (told : List MapTold) (old new : MapPart)
+        → AreTold wal calls old told new → LeadTo wal (changes_told calls told) old new }
 {}
 
 /// Of a log that lanes shared until it was closed: what it says is woven of the changes that each
