@@ -3,6 +3,7 @@ pub mod Changed
 pub mod Fronts
 pub mod Keys
 pub mod LaneCalls
+pub mod LaneLaws
 pub mod Logged
 pub mod MapLives
 pub mod Mains

@@ -118,6 +118,13 @@ impl MapPart {
         }
     }
 
+    pub(crate) fn into_pass(self) -> Pass
+        ensures { result ≡ self.pass }
+    {
+        let MapPart { pass, .. } = self;
+        pass
+    }
+
     // Makes a record durable behind all that the log has. The entries stay as they are.
     pub(crate) fn commit<D: Disk, R: Wait>(
         &mut self,

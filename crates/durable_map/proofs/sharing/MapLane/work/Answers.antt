@@ -1,15 +1,11 @@
-use Rattle.wal_log.proofs.Keeping.{further_pass, same_pass}
+use Rattle.std.proofs.Common.{refl}
+use Rattle.durable_map.proofs.LaneCalls.{not_worked, worked_off}
 use Rattle.durable_map.proofs.sharing.MapLane.work.Goals as goal
 
-pub loop-call-init : goal.loop-call-init
-loop-call-init g c = record { pass = c.requires; keeps = same_pass _ }
+pub returns-in-Ok : goal.returns-in-Ok
+returns-in-Ok g c = worked_off c.args.log.now _ _ c.args.self.now _ _ c.replace-calls.ensures.value
+    c.replace-calls.ensures.after c.new.ensures.items refl c.reserve.ensures.items c.make.ensures
 
-pub loop-call-preserved : goal.loop-call-preserved
-loop-call-preserved g c = record {
-  pass = c.answer-told.ensures.pass;
-  keeps = further_pass _ _ _ c.loop-call.invariant.keeps c.answer-told.ensures.keeps;
-}
-
-pub returns-then-is_err-2-clause-keeps : goal.returns-then-is_err-2-clause-keeps
-returns-then-is_err-2-clause-keeps g c =
-    further_pass _ _ _ c.loop-call.invariant.keeps c.answer-told.ensures.keeps
+pub returns-in-Err : goal.returns-in-Err
+returns-in-Err g c = not_worked c.args.log.now _ c.args.self.now _ c.requires
+    c.replace-calls.ensures.after c.new.ensures.items refl c.reserve.ensures.items
