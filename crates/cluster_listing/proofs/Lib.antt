@@ -1,6 +1,7 @@
 pub mod TakingLaws
 pub mod TextLaws
 pub mod TailLaws
+pub mod TallyLaws
 pub mod PrintingLaws
 pub mod UnderwayLaws
 pub mod WalkLaws

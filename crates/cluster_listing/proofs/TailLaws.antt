@@ -10,7 +10,7 @@ use Rattle.waldump_text.specs.Put.{joined}
 use Rattle.waldump_text.specs.declared.putting.SinkFault.{SinkFault}
 use Rattle.cluster_listing.specs.Form.{record_text}
 use Rattle.cluster_listing.specs.Listing.{PutAll, PutFront}
-use Rattle.cluster_listing.specs.Tail.{IsTail, PutsKept, kept_cut, kept_hidden, kept_put, is_shown, last_so_many, tail_text, texts_of}
+use Rattle.cluster_listing.specs.Tail.{IsGathered, PutsKept, kept_cut, kept_hidden, kept_put, is_shown, last_so_many, tail_text, texts_of}
 use Rattle.cluster_listing.specs.Walk.{HasWalkCause, IsWalk}
 use Rattle.cluster_listing.specs.declared.form.Form.{Form}
 use Rattle.cluster_listing.specs.declared.taking.TakeErr.{TakeErr}
@@ -67,29 +67,29 @@ kept_more text_of form most first old new line before r is text was =
     ∙ last_so_many-more most past (record_text form r ∷ [])
     ∙ ap (last_so_many most) (append_assoc (map text_of first) (texts_of form before) (record_text form r ∷ []) ∙ ap (λ (ts : List (List ℕ)). map text_of first ++ ts) (sym (map-append (record_text form) before (r ∷ []))))
 
-module _ (size : ℕ) (by : Filter) (form : Form) (most : ℕ) (t : Tape) (old new : Option (List ℕ)) (before after : ℕ) (text : List ℕ) (Took : List Listed → Type 0) (Cut : TakeErr → List Listed → Type 0)
-    (kept : (records : List Listed) → Took records → text ≡ tail_text form most records) (cut : (e : TakeErr) (records : List Listed) → Cut e records → e ≡ taking.Memory) where
-  all_of : (records : List Listed) → Took records → PutAll old new before after text → PutAll old new before after (tail_text form most records)
+module _ (size : ℕ) (by : Filter) (told : List Listed → List ℕ) (t : Tape) (old new : Option (List ℕ)) (before after : ℕ) (text : List ℕ) (Took : List Listed → Type 0) (Cut : TakeErr → List Listed → Type 0)
+    (kept : (records : List Listed) → Took records → text ≡ told records) (cut : (e : TakeErr) (records : List Listed) → Cut e records → e ≡ taking.Memory) where
+  all_of : (records : List Listed) → Took records → PutAll old new before after text → PutAll old new before after (told records)
   all_of records took all = subst (PutAll old new before after) (kept records took) all
 
-  front_of : (records : List Listed) → Took records → (fault : SinkFault) → PutFront old new before after (taking.Sink fault) text → PutFront old new before after (taking.Sink fault) (tail_text form most records)
+  front_of : (records : List Listed) → Took records → (fault : SinkFault) → PutFront old new before after (taking.Sink fault) text → PutFront old new before after (taking.Sink fault) (told records)
   front_of records took fault front = subst (PutFront old new before after (taking.Sink fault)) (kept records took) front
 
-  shown_all : (walked : Result Walked ListErr) → is_shown walked ≡ true → IsWalk size by t Took Cut walked → PutAll old new before after text → IsTail size by form most t old new before after walked
+  shown_all : (walked : Result Walked ListErr) → is_shown walked ≡ true → IsWalk size by t Took Cut walked → PutAll old new before after text → IsGathered size by told t old new before after walked
   shown_all (Ok walked) shown walk all = record { found = walk.found; answer = walk.answer; decodes = walk.decodes; ends = walk.ends; count_is = walk.count_is; taken = all_of _ walk.taken all }
   shown_all (Err (errors.Read (Stopped stop))) shown walk all = record { found = walk.found; decodes = walk.decodes; below_limit = walk.below_limit; taken = all_of _ walk.taken all }
   shown_all (Err (errors.Read Memory)) shown walk all = absurd cc
   shown_all (Err (errors.Read (Disk faults))) shown walk all = absurd cc
   shown_all (Err (errors.Take e)) shown walk all = absurd cc
 
-  shown_front : (walked : Result Walked ListErr) (fault : SinkFault) → is_shown walked ≡ true → IsWalk size by t Took Cut walked → PutFront old new before after (taking.Sink fault) text → IsTail size by form most t old new before after (Err (errors.Take (taking.Sink fault)))
+  shown_front : (walked : Result Walked ListErr) (fault : SinkFault) → is_shown walked ≡ true → IsWalk size by t Took Cut walked → PutFront old new before after (taking.Sink fault) text → IsGathered size by told t old new before after (Err (errors.Take (taking.Sink fault)))
   shown_front (Ok walked) fault shown walk front = record { found = walk.found; answer = walk.answer; decodes = walk.decodes; taken = front_of _ walk.taken fault front }
   shown_front (Err (errors.Read (Stopped stop))) fault shown walk front = record { found = walk.found; answer = _; decodes = walk.decodes; taken = front_of _ walk.taken fault front }
   shown_front (Err (errors.Read Memory)) fault shown walk front = absurd cc
   shown_front (Err (errors.Read (Disk faults))) fault shown walk front = absurd cc
   shown_front (Err (errors.Take e)) fault shown walk front = absurd cc
 
-  not_shown : (walked : Result Walked ListErr) → is_shown walked ≡ false → IsWalk size by t Took Cut walked → PutAll old new before after [] → IsTail size by form most t old new before after walked
+  not_shown : (walked : Result Walked ListErr) → is_shown walked ≡ false → IsWalk size by t Took Cut walked → PutAll old new before after [] → IsGathered size by told t old new before after walked
   not_shown (Ok walked) hidden walk none = absurd cc
   not_shown (Err (errors.Read (Stopped stop))) hidden walk none = absurd cc
   not_shown (Err (errors.Read Memory)) hidden walk none = none
@@ -97,20 +97,21 @@ module _ (size : ℕ) (by : Filter) (form : Form) (most : ℕ) (t : Tape) (old n
   not_shown (Err (errors.Take taking.Memory)) hidden walk none = none
   not_shown (Err (errors.Take (taking.Sink fault))) hidden walk none = absurd (let never = cut _ _ walk.taken in cc)
 
-  pub tail_of_walk : (walked result : Result Walked ListErr) → IsWalk size by t Took Cut walked → PutsKept old new before after text walked result → IsTail size by form most t old new before after result
+  pub tail_of_walk : (walked result : Result Walked ListErr) → IsWalk size by t Took Cut walked → PutsKept old new before after text walked result → IsGathered size by told t old new before after result
   tail_of_walk walked result walk (kept_put _ shown all) = shown_all walked shown walk all
   tail_of_walk walked result walk (kept_cut _ fault shown front) = shown_front walked fault shown walk front
   tail_of_walk walked result walk (kept_hidden _ hidden none) = not_shown walked hidden walk none
 
--- the disk's faults are as they were where a walk was shown
+-- the disk's faults are as they were where a walk is shown
+pub shown_cause : (disk disk_after : ℕ) (walked : Result Walked ListErr) → is_shown walked ≡ true → HasWalkCause disk disk_after walked → disk_after ≡ disk
+shown_cause disk disk_after (Ok walked) shown cause = cause
+shown_cause disk disk_after (Err (errors.Read (Stopped stop))) shown cause = cause
+shown_cause disk disk_after (Err (errors.Read Memory)) shown cause = absurd cc
+shown_cause disk disk_after (Err (errors.Read (Disk faults))) shown cause = absurd cc
+shown_cause disk disk_after (Err (errors.Take e)) shown cause = absurd cc
+
+-- so are they behind what is put of it
 pub cause_kept : (disk disk_after : ℕ) (old new : Option (List ℕ)) (before after : ℕ) (text : List ℕ) (walked result : Result Walked ListErr) → HasWalkCause disk disk_after walked → PutsKept old new before after text walked result → HasWalkCause disk disk_after result
 cause_kept disk disk_after old new before after text walked result cause (kept_put _ shown all) = cause
 cause_kept disk disk_after old new before after text walked result cause (kept_hidden _ hidden none) = cause
-cause_kept disk disk_after old new before after text walked result cause (kept_cut _ fault shown front) = same walked shown cause
-  where
-    same : (walked : Result Walked ListErr) → is_shown walked ≡ true → HasWalkCause disk disk_after walked → disk_after ≡ disk
-    same (Ok walked) shown cause = cause
-    same (Err (errors.Read (Stopped stop))) shown cause = cause
-    same (Err (errors.Read Memory)) shown cause = absurd cc
-    same (Err (errors.Read (Disk faults))) shown cause = absurd cc
-    same (Err (errors.Take e)) shown cause = absurd cc
+cause_kept disk disk_after old new before after text walked result cause (kept_cut _ fault shown front) = shown_cause disk disk_after walked shown cause

@@ -6,4 +6,5 @@ pub mod Json
 pub mod Kinds
 pub mod Line
 pub mod Listing
+pub mod Statistics
 pub mod Tail

@@ -57,22 +57,27 @@ pub data PutsKept (old new : Option (List ℕ)) (before after : ℕ) (text : Lis
   kept_hidden : (walked : Result Walked ListErr) → is_shown walked ≡ false
       → PutAll old new before after [] → PutsKept old new before after text walked walked
 
--- what a sink took, by how the listing ended: the texts of the last records of all that are listed,
--- also before a stop; a front of that where the sink failed; else nothing
+-- what a sink took, by how the listing ended: a text of all records that are listed, also before a
+-- stop; a front of that where the sink failed; else nothing
+abbrev pub IsGathered : ℕ → Filter → (List Listed → List ℕ) → Tape → Option (List ℕ)
+    → Option (List ℕ) → ℕ → ℕ → Result Walked ListErr → Type 0
+IsGathered size by text t old new before after (Ok walked) =
+    WalksAll size by t
+    (λ records. PutAll old new before after (text records)) walked
+IsGathered size by text t old new before after (Err (Read (reading.Stopped stop))) =
+    WalksUpTo size by t
+    (λ records. PutAll old new before after (text records)) stop
+IsGathered size by text t old new before after (Err (Read reading.Memory)) =
+    PutAll old new before after []
+IsGathered size by text t old new before after (Err (Read (reading.Disk faults))) =
+    PutAll old new before after []
+IsGathered size by text t old new before after (Err (Take errors.Memory)) =
+    PutAll old new before after []
+IsGathered size by text t old new before after (Err (Take (errors.Sink fault))) =
+    WalksCut size by t (λ records.
+    PutFront old new before after (errors.Sink fault) (text records))
+
+-- the texts of the last of them
 abbrev pub IsTail : ℕ → Filter → Form → ℕ → Tape → Option (List ℕ) → Option (List ℕ) → ℕ → ℕ
     → Result Walked ListErr → Type 0
-IsTail size by form most t old new before after (Ok walked) =
-    WalksAll size by t
-    (λ records. PutAll old new before after (tail_text form most records)) walked
-IsTail size by form most t old new before after (Err (Read (reading.Stopped stop))) =
-    WalksUpTo size by t
-    (λ records. PutAll old new before after (tail_text form most records)) stop
-IsTail size by form most t old new before after (Err (Read reading.Memory)) =
-    PutAll old new before after []
-IsTail size by form most t old new before after (Err (Read (reading.Disk faults))) =
-    PutAll old new before after []
-IsTail size by form most t old new before after (Err (Take errors.Memory)) =
-    PutAll old new before after []
-IsTail size by form most t old new before after (Err (Take (errors.Sink fault))) =
-    WalksCut size by t (λ records.
-    PutFront old new before after (errors.Sink fault) (tail_text form most records))
+IsTail size by form most = IsGathered size by (tail_text form most)

@@ -10,8 +10,10 @@ mod line;
 mod listing;
 mod pieces;
 mod printing;
+mod statistics;
 mod tail;
 mod taking;
+mod tally;
 #[cfg(test)]
 mod tests;
 mod walking;
@@ -19,6 +21,7 @@ mod walking;
 pub use ending::Ending;
 pub use form::Form;
 pub use listing::{Listing, list};
+pub use statistics::list_statistics;
 pub use tail::list_tail;
 pub use taking::TakeErr;
 pub use walking::{ListErr, Walked};

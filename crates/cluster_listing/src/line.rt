@@ -86,8 +86,12 @@ fn push_places(line: &mut Vec<u8>, r: &Listed) -> Result<(), AllocError>
     )
 }
 
-// A text and blanks behind it, up to a width.
-fn push_left_aligned(line: &mut Vec<u8>, text: &[u8], width: usize) -> Result<(), AllocError>
+/// A text and blanks behind it, up to a width.
+pub(crate) fn push_left_aligned(
+    line: &mut Vec<u8>,
+    text: &[u8],
+    width: usize,
+) -> Result<(), AllocError>
     requires { width ≤ 16 }
     ensures { OnOk result (line.new.items ≡ line.old.items ++ padded_right width text.now) }
 {

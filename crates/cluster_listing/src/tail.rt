@@ -97,7 +97,8 @@ fn put_kept<O: Sink>(
     }
 }
 
-fn is_shown(walked: Result<Walked, ListErr>) -> bool
+/// Whether what was kept is put where a walk ended so.
+pub(crate) fn is_shown(walked: Result<Walked, ListErr>) -> bool
     ensures { result ≡ is_shown walked }
 {
     match walked {
