@@ -13,7 +13,7 @@ mod words;
 use bound::Bound;
 use byte_position::Geometry;
 use clap::error::ErrorKind;
-use cluster_listing::{Ending, Form, Listing, list, list_tail};
+use cluster_listing::{Ending, Form, Listing, list, list_statistics, list_tail};
 use folder::{Timeline, segment_size};
 use folder_err::FolderErr;
 use segment_files::StandardSink;
@@ -71,6 +71,7 @@ fn list_folder(rt: HostRuntime, asked: &ListingAsked<'_>) -> Result<u8, FolderEr
     let form = form_of(asked);
     let out = StandardSink::new(alloc, rt.stdout())?;
     let listing = match asked.tail {
+        _ if asked.stats => list_statistics(alloc, &mut disk, geometry, &filter, out),
         Some(most) => list_tail(
             alloc,
             &mut disk,

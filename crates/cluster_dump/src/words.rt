@@ -27,6 +27,8 @@ pub struct ListingAsked<'a> {
     pub limit: Option<u64>,
     /// How many of the last records are printed, if not all are.
     pub tail: Option<u32>,
+    /// Whether sums are printed, and no record.
+    pub stats: bool,
     pub quiet: bool,
     /// Whether records are printed as JSON objects.
     pub json: bool,
@@ -51,6 +53,8 @@ fn declared<'a>(alloc: Global) -> Result<Command<'a>, AllocError> {
     let command = with_filters(alloc, command)?;
     let tail = valued(alloc, "tail", 'l', "N").value_parser(value_parser!(u32));
     let command = command.arg(tail.help("How many of the last records to print"))?;
+    let stats = switch(alloc, "stats", 'z').help("Print sums by manager and kind, and no record");
+    let command = command.arg(stats)?;
     let quiet = switch(alloc, "quiet", 'q').help("List no record, and tell how the log ends");
     let command = command.arg(quiet)?;
     let json = switch(alloc, "json", 'j').help("Print each record as a JSON object on a line");
@@ -97,6 +101,7 @@ pub fn words_ask<'a>(alloc: Global, words: &'a [String]) -> Result<ListingAsked<
         fullpage: matches.get_flag("fullpage"),
         limit: matches.get_one::<u64>("limit"),
         tail: matches.get_one::<u32>("tail"),
+        stats: matches.get_flag("stats"),
         quiet: matches.get_flag("quiet"),
         json: matches.get_flag("json"),
         data: matches.get_flag("data"),
