@@ -93,6 +93,11 @@ if [ -x "$map" ]; then
 else
   skip kill_pgmap.py "pgmap is not built: call rt run in crates/pgmap"
 fi
+if [ -x "$map" ] && [ -x "$here/../../crates/cluster_dump/out/cluster_dump" ]; then
+  try realpath words.sh
+else
+  skip words.sh "pgmap or cluster_dump is not built: call rt run in their crates"
+fi
 if [ -r "$here/../../crates/pgwal_c/out/libpgwal_c.a" ]; then
   try rt embedding.sh 1000 20 "$program"
 else

@@ -3,8 +3,6 @@
 #![tactic(auto)]
 
 mod asked;
-#[cfg(test)]
-mod done;
 mod log;
 mod trouble;
 mod turns;

@@ -152,9 +152,3 @@ impl Counts {
         *counter = counter.wrapping_add(1);
     }
 }
-
-#[test]
-fn so_many_turns_are_had(rt: HostRuntime) {
-    let had = count_turns(rt.alloc(), 20_000).map(Counts::sum);
-    assert_eq!(rt; had, Some(20_000));
-}

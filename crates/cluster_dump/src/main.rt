@@ -5,8 +5,6 @@ mod bound;
 mod folder;
 mod folder_err;
 mod segment_name;
-#[cfg(test)]
-mod tests;
 mod timeline_files;
 mod words;
 

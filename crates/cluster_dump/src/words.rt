@@ -40,6 +40,13 @@ fn declared<'a>(alloc: Global) -> Result<Command<'a>, AllocError> {
     let command = Command::new(alloc, "cluster_dump")
         .version("1")
         .about("Lists the records of a cluster's write-ahead log.");
+    let command = with_places(alloc, command)?;
+    let command = with_filters(alloc, command)?;
+    with_forms(alloc, command)
+}
+
+// The options that say where the records are.
+fn with_places<'a>(alloc: Global, command: Command<'a>) -> Result<Command<'a>, AllocError> {
     let path = valued(alloc, "path", 'p', "FOLDER").help("The folder of segment files");
     let command = command.arg(path.default_value("."))?;
     let start = valued(alloc, "start", 's', "LSN").help("Where to begin: an address, or a segment");
@@ -47,10 +54,22 @@ fn declared<'a>(alloc: Global) -> Result<Command<'a>, AllocError> {
     let end = valued(alloc, "end", 'e', "LSN").help("Where to end: an address, or a segment");
     let command = command.arg(end)?;
     let timeline = valued(alloc, "timeline", 't', "TIMELINE").value_parser(value_parser!(u32));
-    let command = command.arg(timeline.help("The timeline (the highest there is)"))?;
+    command.arg(timeline.help("The timeline (the highest there is)"))
+}
+
+// The options that say which records are listed.
+fn with_filters<'a>(alloc: Global, command: Command<'a>) -> Result<Command<'a>, AllocError> {
     let limit = valued(alloc, "limit", 'n', "N").value_parser(value_parser!(u64));
     let command = command.arg(limit.help("How many records to list"))?;
-    let command = with_filters(alloc, command)?;
+    let rmgr = valued(alloc, "rmgr", 'r', "RMGR").help("Only records of this resource manager");
+    let command = command.arg(rmgr)?;
+    let xid = valued(alloc, "xid", 'x', "XID").value_parser(value_parser!(u32));
+    let command = command.arg(xid.help("Only records of this transaction"))?;
+    command.arg(switch(alloc, "fullpage", 'w').help("Only records with a page's image"))
+}
+
+// The options that say what is printed.
+fn with_forms<'a>(alloc: Global, command: Command<'a>) -> Result<Command<'a>, AllocError> {
     let tail = valued(alloc, "tail", 'l', "N").value_parser(value_parser!(u32));
     let command = command.arg(tail.help("How many of the last records to print"))?;
     let stats = switch(alloc, "stats", 'z').help("Print sums by manager and kind, and no record");
@@ -60,15 +79,6 @@ fn declared<'a>(alloc: Global) -> Result<Command<'a>, AllocError> {
     let json = switch(alloc, "json", 'j').help("Print each record as a JSON object on a line");
     let command = command.arg(json)?;
     command.arg(switch(alloc, "data", 'd').help("Print all main data, and not its first 64 bytes"))
-}
-
-// The options that say which records are listed.
-fn with_filters<'a>(alloc: Global, command: Command<'a>) -> Result<Command<'a>, AllocError> {
-    let rmgr = valued(alloc, "rmgr", 'r', "RMGR").help("Only records of this resource manager");
-    let command = command.arg(rmgr)?;
-    let xid = valued(alloc, "xid", 'x', "XID").value_parser(value_parser!(u32));
-    let command = command.arg(xid.help("Only records of this transaction"))?;
-    command.arg(switch(alloc, "fullpage", 'w').help("Only records with a page's image"))
 }
 
 // An option without a value.

@@ -9,21 +9,15 @@
 #![tactic(auto)]
 
 mod asked;
-#[cfg(test)]
-mod chain;
 mod change;
 mod entries;
 mod fault;
-#[cfg(test)]
-mod lanes;
 pub mod laws;
 mod one_set;
 mod opening;
 mod part;
 mod sharing;
 mod store;
-#[cfg(test)]
-mod tests;
 
 pub use asked::{MapCall, MapTold};
 pub use change::{LONGEST, MANAGER, ReadChange, del_body, read_change, set_body};

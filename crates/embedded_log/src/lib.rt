@@ -14,8 +14,6 @@ mod opening;
 mod session;
 mod shared;
 mod splitting;
-#[cfg(test)]
-mod tests;
 
 pub use appending::{Append, Appending};
 pub use flushing::FlushRefusal;

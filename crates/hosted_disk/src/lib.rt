@@ -11,8 +11,6 @@ mod disk;
 mod laws;
 mod opening;
 mod progress;
-#[cfg(test)]
-mod tests;
 mod words;
 
 pub use calls::HostCalls;

@@ -12,8 +12,6 @@ mod place;
 mod scanner;
 mod sharing;
 mod telling;
-#[cfg(test)]
-mod tests;
 mod trouble;
 mod word;
 

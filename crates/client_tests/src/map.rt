@@ -4,15 +4,15 @@
 ghost use Rattle.std.specs.Prelude.{IfOk};
 ghost use Rattle.durable_map.specs.Stores.{IsOpenMap};
 
-use crate::{ChangeErr, DurableMap, LONGEST, MapFault, MapFaultKind};
+use durable_map::{ChangeErr, DurableMap, LONGEST, MapFault, MapFaultKind};
+use log_workers::{Insertion, Job, LogCall, transaction, work_side_by_side};
 use segment_disk::{Disk, MemDisk, Pick};
 use std::alloc::Global;
-use std::process::Abort;
+use std::sync::Wait;
 use std::test::Fail;
-use wal_log::numbers::calls_keep_numbers;
-use wal_log::{Cause, CommitErr, Sealed, Setup};
-use wal_spelling::Body;
-use wal_types::{Lsn, Xid};
+use std::thread::Threads;
+use wal_log::{Cause, CommitErr, Sealed, Setup, Wal};
+use wal_types::Lsn;
 
 pub const SETUP: Setup = Setup {
     seg_size: 1 << 20,
@@ -73,22 +73,31 @@ fn the_last_change_wins(rt: HostRuntime) -> Result<(), Fail> {
     Ok(())
 }
 
+// A log with the commit record of a transaction.
+fn of_another_program<R: Threads + Wait + Sync>(rt: &R, alloc: Global) -> Result<MemDisk, Fail> {
+    let setup = Setup { passes: 2, ..SETUP };
+    let Ok((log, mut first)) = Wal::open(alloc, disk(alloc, 0)?, setup) else {
+        return Err(Fail::from("a log"));
+    };
+    let mut jobs = Vec::new(alloc);
+    jobs.push(Job::of(LogCall::Commit(Insertion::of(transaction(alloc, 7)?))))?;
+    let mut work = Vec::new(alloc);
+    work.push(jobs)?;
+    work_side_by_side(rt, alloc, &log, &mut first, work, 1)?;
+    Ok(log.close(first).disk)
+}
+
 // A commit record of a transaction is no change: it is refused by its place, and the disk is left
 // as it was.
 #[test]
 fn another_programs_record_is_refused(rt: HostRuntime) -> Result<(), Fail> {
     let alloc = rt.alloc();
-    let mut map = open(alloc, disk(alloc, 0)?)?;
-    assert!(rt; map.set(&rt, b"a", bytes(alloc, b"1")?).is_ok());
-    let body = Body::assemble_plain(alloc, Xid(7), 1, 0, b"12345678")?;
-    calls_keep_numbers();
-    assert!(rt; map.part.commit(&rt, &map.log, &body).is_ok());
-    let closed = map.close();
-    let Err(MapFault { disk, kind }) = DurableMap::open(alloc, closed.disk, SETUP) else {
+    let disk = of_another_program(&rt, alloc)?;
+    let Err(MapFault { disk, kind }) = DurableMap::open(alloc, disk, SETUP) else {
         panic!(rt; "a log with another program's record");
     };
-    let at = Lsn(0x10_0048);
-    assert_eq!(rt; (kind, disk.moment()), (MapFaultKind::NoChange { at }, 5));
+    let at = Lsn(0x10_0028);
+    assert_eq!(rt; (kind, disk.moment()), (MapFaultKind::NoChange { at }, 3));
     Ok(())
 }
 

@@ -2,7 +2,7 @@
 //! the moment are those of docs/FORMATS.md: a log's first record starts behind the long header of
 //! its first page, and its flush makes a segment, writes a page and syncs.
 
-use crate::{Append, FlushRefusal, first_sessions_are_sole, open};
+use embedded_log::{Append, FlushRefusal, first_sessions_are_sole, open};
 use hosted_disk::{HostProgress, HostedDisk};
 use std::sync::atomic::Rule;
 use std::test::Fail;
@@ -24,18 +24,19 @@ const SETUP: Setup = Setup {
     passes: 2,
 };
 
+fn needs_send<T: Send>() {}
+
+fn needs_sync<T: Sync>() {}
+
 // What a session is made of may be handed to another thread, or shared with one.
-fn parts_may_cross(pass: &Pass, wal: &Wal<HostedDisk>, host: &HostProgress<NothingSaid>) {
-    needs_send(pass);
-    needs_send(wal);
-    needs_sync(wal);
-    needs_send(host);
-    needs_sync(host);
+#[test]
+fn parts_of_a_session_may_cross() {
+    needs_send::<Pass>();
+    needs_send::<Wal<HostedDisk>>();
+    needs_sync::<Wal<HostedDisk>>();
+    needs_send::<HostProgress<NothingSaid>>();
+    needs_sync::<HostProgress<NothingSaid>>();
 }
-
-fn needs_send<T: Send>(_value: &T) {}
-
-fn needs_sync<T: Sync>(_value: &T) {}
 
 #[test]
 fn told_once_the_host_has_made_it(rt: HostRuntime) -> Result<(), Fail> {
@@ -44,7 +45,6 @@ fn told_once_the_host_has_made_it(rt: HostRuntime) -> Result<(), Fail> {
     let Ok((session, mut calls)) = open::<NothingSaid>(rt.alloc(), SETUP, 0) else {
         panic!(rt; "a log");
     };
-    parts_may_cross(&session.pass, &session.log.wal, &session.log.host);
     let (receipt, mut session) = match session.append(&body) {
         Append::Reserved { receipt, session } => (receipt, session),
         Append::Going(_going) => panic!(rt; "a record on its way"),

@@ -4,10 +4,8 @@ ghost use Rattle.std.specs.Prelude.{IfOk};
 ghost use Rattle.durable_map.specs.Sharing.{IsSharedMap};
 ghost use Rattle.durable_map.specs.Stores.{IsOpenMap};
 
-use crate::asked::{MapCall, MapTold};
-use crate::sharing::SharedMap;
-use crate::store::DurableMap;
-use crate::tests::{SETUP, bytes, disk};
+use crate::map::{SETUP, bytes, disk};
+use durable_map::{DurableMap, MapCall, MapTold, SharedMap};
 use segment_disk::MemDisk;
 use std::alloc::Global;
 use std::process::Abort;

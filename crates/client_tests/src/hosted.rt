@@ -1,8 +1,8 @@
 //! The calls of a hosted disk come out in order; it fails where the queue is full, and once a call
 //! of the host's has failed.
 
-use crate::hosted_disk;
 use byte_position::Geometry;
+use hosted_disk::hosted_disk;
 use segment_disk::{CallKind, Disk, Failed};
 use std::sync::atomic::Rule;
 use std::test::Fail;

@@ -4,9 +4,8 @@
 ghost use Rattle.std.specs.Prelude.{◌≡◌, ◌<◌, IfOk};
 ghost use Rattle.durable_map.specs.Stores.{IsOpenMap};
 
-use crate::asked::{MapCall, MapTold};
-use crate::store::DurableMap;
-use crate::tests::{bytes, disk, open};
+use crate::map::{bytes, disk, open};
+use durable_map::{DurableMap, MapCall, MapTold};
 use segment_disk::{Disk, MemDisk, Pick};
 use std::alloc::Global;
 use std::process::Abort;

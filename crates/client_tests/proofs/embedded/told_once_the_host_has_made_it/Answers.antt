@@ -1,4 +1,4 @@
-use Rattle.embedded_log.proofs.tests.told_once_the_host_has_made_it.Goals as goal
+use Rattle.client_tests.proofs.embedded.told_once_the_host_has_made_it.Goals as goal
 
 pub close-requires-clause-sole : goal.close-requires-clause-sole
 close-requires-clause-sole g c =
