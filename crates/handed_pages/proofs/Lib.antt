@@ -1,0 +1,2 @@
+mod PagesHeld
+mod ReadLaws
