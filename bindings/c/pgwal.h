@@ -1,4 +1,5 @@
 /* A write-ahead log for programs in C11: the calls of libpgwal_c.a, forms of them that wait, and the disk of files.
+ * Below, pgwal_next reads a log back record by record.
  *
  * A log is opened anew, in a folder without segments; one that is there cannot be gone on with yet. Each thread has a
  * session of its own. Calls named pgwal_try_ try once and never wait for another thread but for one that is in the
@@ -51,6 +52,9 @@
   X(PGWAL_MISUSE, 11, "the handle is spent, or what is asked has no meaning")                   \
   X(PGWAL_NONE, 12, "no call of the disk is queued")                                            \
   X(PGWAL_QUEUE, 13, "the queue has no room: the disk's calls have to be made first")           \
+  X(PGWAL_WANTED, 14, "a page of the log has to be handed in")                                  \
+  X(PGWAL_END, 15, "the log ends")                                                              \
+  X(PGWAL_DAMAGED, 16, "the log stops as none ends")                                            \
   X(PGWAL_FOLDER, 100, "the folder cannot be made or opened")                                   \
   X(PGWAL_LOCKED, 101, "another program has the folder")                                        \
   X(PGWAL_THERE, 102, "the folder has a log already")
@@ -66,6 +70,20 @@ static inline const char *pgwal_name(uint32_t answer) {
   return "no answer of pgwal's";
 }
 #undef PGWAL_NAME_
+
+/* What stops a log (PGWAL_DAMAGED), of which pgwal_damage_name gives the names; up to `timeline` it is said of a page. */
+#define PGWAL_DAMAGES(X)                                                                                      \
+  X(1, magic) X(2, flags) X(3, nolong) X(4, longinside) X(5, segsize) X(6, pagesize) X(7, sysid) X(8, address) \
+  X(9, timeline) X(10, claims) X(11, length) X(12, rmgr) X(13, prev) X(14, missing) X(15, nocontinuation)      \
+  X(16, remlen) X(17, crc) X(18, malformed) X(19, compressed) X(20, overwritten)
+
+#define PGWAL_DAMAGE_(number, name) \
+  case number: return #name;
+static inline const char *pgwal_damage_name(uint32_t damage) {
+  switch (damage) { PGWAL_DAMAGES(PGWAL_DAMAGE_) }
+  return "";
+}
+#undef PGWAL_DAMAGE_
 
 /* ---- the calls of the library; the forms below are made of these */
 
@@ -99,6 +117,24 @@ typedef struct {
   uint8_t bytes[8192];
 } pgwal_disk_asked;
 
+enum { PGWAL_ASK_BEGIN, PGWAL_ASK_NEXT, PGWAL_ASK_HAND_IN, PGWAL_ASK_DATA, PGWAL_ASK_CLOSE };
+
+typedef struct {
+  uint32_t asked, xid;
+  uint8_t rmid, info, there;
+  uint32_t total, damage;
+  uint64_t blocks, seg_size, start, end, prev, segment;
+  uint32_t page;
+  uint64_t len, offset;
+  uint8_t bytes[8192];
+} pgwal_reader_asked;
+
+typedef struct {
+  uint8_t *reader;
+} pgwal_made;
+
+uint32_t pgwal_make_reader(pgwal_made *made);
+uint32_t pgwal_reader_call(uint8_t *reader, pgwal_reader_asked *asked);
 uint32_t pgwal_begin(const pgwal_setup *setup, pgwal_opened *opened);
 uint32_t pgwal_session_call(uint8_t *session, const uint8_t *data, size_t len, pgwal_asked *asked);
 uint32_t pgwal_disk_call(uint8_t *disk, pgwal_disk_asked *asked);
@@ -394,6 +430,126 @@ static inline uint32_t pgwal_close(pgwal_log *log) {
   log->call.asked = PGWAL_ASK_LEAVE;
   pgwal_disk_call(log->disk, &log->call);
   return pgwal_let_go(log, answer);
+}
+
+/* ---- reading a log back */
+
+/* Reads a folder's log. One reader is in one call at a time; it takes no lock, and may read beside an open log. */
+typedef struct {
+  int folder, file;  /* the segment that was read last, or -1 */
+  uint64_t segment, seg_size;
+  int error;         /* errno of a read that failed */
+  uint8_t *handle, *data;
+  size_t room;
+  pgwal_reader_asked call;
+} pgwal_reader;
+
+/* A record that was read; its main data lies in the reader, until the next one is read. */
+typedef struct {
+  uint64_t start, end, prev;  /* where it starts and ends, and where the one before starts */
+  uint32_t total, xid;        /* its bytes in all; its transaction */
+  uint8_t rmid, info;
+  uint64_t blocks;            /* how many blocks it references */
+  const uint8_t *data;
+  size_t len;
+  const char *damage;         /* at DAMAGED: which, met at `start` */
+} pgwal_found;
+
+/* Lets go what a reader holds, but for some 1000 bytes of its handle, which are never freed. */
+static inline void pgwal_read_end(pgwal_reader *reader) {
+  reader->call.asked = PGWAL_ASK_CLOSE;
+  if (reader->handle) pgwal_reader_call(reader->handle, &reader->call);
+  if (reader->file >= 0) close(reader->file);
+  if (reader->folder >= 0) close(reader->folder);
+  free(reader->data);
+}
+
+/* Reads the log in a folder from an address on, at which or behind which the first record starts; 0 is where a log of
+ * pgwal's begins. */
+static inline uint32_t pgwal_read(const char *folder, uint64_t seg_size, uint64_t start, pgwal_reader *reader) {
+  *reader = (pgwal_reader){.folder = -1, .file = -1, .seg_size = seg_size};
+  pgwal_made made = {0};
+  reader->folder = open(folder, O_RDONLY | O_DIRECTORY | O_CLOEXEC);
+  uint32_t answer = reader->folder < 0 ? (uint32_t)PGWAL_FOLDER : pgwal_make_reader(&made);
+  if (answer == PGWAL_DONE) {
+    reader->handle = made.reader;
+    reader->call.asked = PGWAL_ASK_BEGIN;
+    reader->call.seg_size = seg_size;
+    reader->call.start = start ? start : seg_size;
+    answer = pgwal_reader_call(reader->handle, &reader->call);
+  }
+  if (answer != PGWAL_DONE) pgwal_read_end(reader);
+  return answer;
+}
+
+/* Reads the page that is wanted into the call: it is there if its file has all of it. */
+static inline bool pgwal_read_page(pgwal_reader *reader) {
+  pgwal_reader_asked *call = &reader->call;
+  call->there = 0;
+  if (reader->file < 0 || reader->segment != call->segment) {
+    char name[25];
+    pgwal_segment_name(name, call->segment, reader->seg_size);
+    if (reader->file >= 0) close(reader->file);
+    reader->file = openat(reader->folder, name, O_RDONLY | O_CLOEXEC);
+    reader->segment = call->segment;
+    if (reader->file < 0) return errno == ENOENT;
+  }
+  size_t have = 0;
+  while (have < sizeof call->bytes) {
+    off_t at = (off_t)call->page * (off_t)sizeof call->bytes + (off_t)have;
+    ssize_t n = pread(reader->file, call->bytes + have, sizeof call->bytes - have, at);
+    if (n < 0 && errno == EINTR) continue;
+    if (n < 0) return false;
+    if (n == 0) return true;
+    have += (size_t)n;
+  }
+  call->there = 1;
+  return true;
+}
+
+/* Reads the main data of the record that came, of so many bytes. */
+static inline uint32_t pgwal_read_data(pgwal_reader *reader, size_t len) {
+  if (len > reader->room) {
+    uint8_t *data = realloc(reader->data, len);
+    if (!data) return PGWAL_MEMORY;
+    reader->data = data, reader->room = len;
+  }
+  for (size_t have = 0; have < len; have += reader->call.len) {
+    reader->call.asked = PGWAL_ASK_DATA;
+    reader->call.offset = have;
+    uint32_t answer = pgwal_reader_call(reader->handle, &reader->call);
+    if (answer != PGWAL_DONE) return answer;
+    memcpy(reader->data + have, reader->call.bytes, reader->call.len);
+  }
+  return PGWAL_DONE;
+}
+
+/* The next record: DONE; END, where `end` says where the log ends: asked again it goes on if more was written; DAMAGED,
+ * told again from then on; DOWN, where a file could not be read (`error`); MEMORY. */
+static inline uint32_t pgwal_next(pgwal_reader *reader, pgwal_found *found) {
+  pgwal_reader_asked *call = &reader->call;
+  uint32_t answer;
+  for (;;) {
+    call->asked = PGWAL_ASK_NEXT;
+    answer = pgwal_reader_call(reader->handle, call);
+    if (answer != PGWAL_WANTED) break;
+    if (!pgwal_read_page(reader)) {
+      reader->error = errno ? errno : EIO;
+      return PGWAL_DOWN;
+    }
+    call->asked = PGWAL_ASK_HAND_IN;
+    answer = pgwal_reader_call(reader->handle, call);
+    if (answer != PGWAL_DONE) return answer;
+  }
+  *found = (pgwal_found){.start = call->start, .end = call->end};
+  if (answer == PGWAL_DAMAGED) found->damage = pgwal_damage_name(call->damage);
+  if (answer != PGWAL_DONE) return answer;
+  *found = (pgwal_found){.start = call->start, .end = call->end, .prev = call->prev, .total = call->total,
+                         .xid = call->xid, .rmid = call->rmid, .info = call->info, .blocks = call->blocks,
+                         .len = (size_t)call->len};
+  answer = pgwal_read_data(reader, found->len);
+  found->data = reader->data;
+  return answer;
 }
 
 #endif

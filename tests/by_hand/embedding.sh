@@ -1,7 +1,8 @@
 #!/usr/bin/env bash
 # Links the log into a program in C and one in Rust, which `rt ci` cannot: eight threads commit records side by
-# side, and each record stands in the log where its thread was told. Then each program is killed at random moments,
-# and no record that was told is missing. A log that is there cannot be opened again yet, so that is not tried.
+# side, and each record stands in the log where its thread was told; so `pgwal dump` lists them, and so a program of
+# the same language reads them back. Then each program is killed at random moments, and no record that was told is
+# missing there. A log that is there cannot be opened again yet, so that is not tried.
 #
 #     tests/by_hand/embedding.sh                              100,000 records a thread, 20 kills of each program
 #     tests/by_hand/embedding.sh RECORDS KILLS [PROGRAM]      and lists by another build
@@ -25,7 +26,7 @@ listed() {
   "$program" dump --seg 16777216 | sed -n 's/.* tx: *\([0-9]*\), lsn: *\([0-9A-F/]*\),.*/\2 \1/p' | sort
 }
 
-# commits NAME COMMAND: what all threads were told is what the log lists
+# commits NAME COMMAND READ: what all threads were told is what the log lists, and what is read back
 commits() {
   rm -rf pg_wal
   "$2" pg_wal "$records" places >told 2>err
@@ -34,11 +35,13 @@ commits() {
   equal "$1: records told" "$(wc -l <sorted)" $((8 * records))
   listed | cmp -s - sorted
   equal "$1: they are what is listed" $? 0
+  "$3" pg_wal 2>err | sort | cmp -s - sorted
+  equal "$1: they are what is read back" $? 0
   "$2" pg_wal 1 >/dev/null 2>err
   equal "$1: a log that is there" "$? $(grep -ciE 'has a log already|AlreadyExists' err)" '1 1'
 }
 
-# killed NAME COMMAND: of a program that was killed each record that was told is listed
+# killed NAME COMMAND READ: of a program that was killed each record that was told is listed, and read back
 killed() {
   local number
   for ((number = 0; number < kills; number++)); do
@@ -50,18 +53,22 @@ killed() {
     sed '$d' told | sort >sorted
     listed >all
     equal "$1, kill $number: records told and not listed" "$(comm -23 sorted all | wc -l)" 0
+    "$3" pg_wal 2>err | sort >all
+    equal "$1, kill $number: records told and not read back" "$(comm -23 sorted all | wc -l)" 0
   done
 }
 
 tried() {
-  commits "$1" "$2"
-  killed "$1" "$2"
+  commits "$1" "$2" "$3"
+  killed "$1" "$2" "$3"
 }
 
 if command -v cc >/dev/null; then
   cc -std=c11 -O2 -Wall -o in_c "$top/bindings/c/commits.c" -L"$PGWAL_LIB" -lpgwal_c \
     -L"$PGWAL_KIT/c" -los_c -llibc_c -pthread || exit 1
-  tried 'in C' ./in_c
+  cc -std=c11 -O2 -Wall -I"$top/bindings/c" -o reads "$top/tests/by_hand/embedding_reads.c" -L"$PGWAL_LIB" -lpgwal_c \
+    -L"$PGWAL_KIT/c" -los_c -llibc_c -pthread || exit 1
+  tried 'in C' ./in_c ./reads
   cc -std=c11 -O2 -Wall -I"$top/bindings/c" -o ends "$top/tests/by_hand/embedding_ends.c" -L"$PGWAL_LIB" -lpgwal_c \
     -L"$PGWAL_KIT/c" -los_c -llibc_c -pthread || exit 1
   # 0 is DONE, 4 DOWN, 8 LONG
@@ -75,8 +82,8 @@ else
 fi
 if command -v cargo >/dev/null; then
   cp -r "$top/bindings/rust" rust
-  cargo build --quiet --offline --release --example commits --manifest-path rust/Cargo.toml || exit 1
-  tried 'in Rust' rust/target/release/examples/commits
+  cargo build --quiet --offline --release --examples --manifest-path rust/Cargo.toml || exit 1
+  tried 'in Rust' rust/target/release/examples/commits rust/target/release/examples/reads
 else
   echo 'in Rust: skipped, there is no cargo'
 fi

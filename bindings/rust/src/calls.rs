@@ -61,7 +61,41 @@ pub struct DiskAsked {
     pub bytes: [u8; 8192],
 }
 
+pub const BEGIN: u32 = 0;
+pub const NEXT: u32 = 1;
+pub const HAND_IN: u32 = 2;
+pub const DATA: u32 = 3;
+pub const CLOSE: u32 = 4;
+
+#[repr(C)]
+pub struct ReaderAsked {
+    pub asked: u32,
+    pub xid: u32,
+    pub rmid: u8,
+    pub info: u8,
+    pub there: u8,
+    pub total: u32,
+    pub damage: u32,
+    pub blocks: u64,
+    pub seg_size: u64,
+    pub start: u64,
+    pub end: u64,
+    pub prev: u64,
+    pub segment: u64,
+    pub page: u32,
+    pub len: u64,
+    pub offset: u64,
+    pub bytes: [u8; 8192],
+}
+
+#[repr(C)]
+pub struct Made {
+    pub reader: *mut u8,
+}
+
 unsafe extern "C" {
+    pub fn pgwal_make_reader(made: *mut Made) -> u32;
+    pub fn pgwal_reader_call(reader: *mut u8, asked: *mut ReaderAsked) -> u32;
     pub fn pgwal_begin(setup: *const Setup, opened: *mut Opened) -> u32;
     pub fn pgwal_session_call(session: *mut u8, data: *const u8, len: usize, asked: *mut Asked) -> u32;
     pub fn pgwal_disk_call(disk: *mut u8, asked: *mut DiskAsked) -> u32;

@@ -20,7 +20,7 @@ pub struct Disk {
 // A handle may go from thread to thread where one call at a time is made with it, as `&mut` has it.
 unsafe impl Send for Disk {}
 
-fn segment_name(segment: u64, seg_size: u64) -> String {
+pub fn segment_name(segment: u64, seg_size: u64) -> String {
     let in_part = (1 << 32) / seg_size;
     format!("{:08X}{:08X}{:08X}", 1, segment / in_part, segment % in_part)
 }

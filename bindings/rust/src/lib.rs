@@ -1,8 +1,9 @@
 //! A write-ahead log for programs in Rust, over libpgwal_c.a. A log is opened anew, in a folder without segments; each
-//! thread has a [`Session`] of its own. See the README of the bindings for what is proved of it, and what is trusted.
+//! thread has a [`Session`] of its own. A [`Records`] reads a log back. See the README of the bindings for what is proved of it, and what is trusted.
 
 mod calls;
 mod disk;
+mod reading;
 
 use calls::{APPEND, Asked, END, FLUSH, Opened, SPLIT};
 use disk::Disk;
@@ -10,6 +11,8 @@ use std::io;
 use std::path::Path;
 use std::sync::{Arc, Condvar, Mutex, MutexGuard, PoisonError};
 use std::thread;
+
+pub use reading::{Found, ReadError, Records};
 
 /// What a log is opened with.
 #[derive(Clone, Copy, Debug)]

@@ -28,3 +28,9 @@ pub const MISUSE: u32 = 11;
 pub const NONE: u32 = 12;
 /// The disk's queue has no room: calls have to be made first.
 pub const QUEUE: u32 = 13;
+/// This page of the log has to be handed in, or that the log has none such.
+pub const WANTED: u32 = 14;
+/// The log ends, at `end`.
+pub const END_OF_LOG: u32 = 15;
+/// The log stops at `start`, by `damage`.
+pub const DAMAGED: u32 = 16;

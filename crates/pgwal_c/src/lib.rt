@@ -1,8 +1,9 @@
 //! The log for programs in C, and in all that calls C: thin calls over embedded_log. What is handed
 //! out is known by pointers, which the program hands in again and never looks into.
 //!
-//! `session_handle` is what threads call with, and `disk_handle` what the disk's owner has.
-//! `answers` has the numbers that all calls answer, and `opening` begins a log.
+//! `session_handle` is what threads call with, `disk_handle` what the disk's owner has, and
+//! `reader_handle` what a log is read with. `answers` has the numbers that all calls answer,
+//! `damages` those of what stops a log, and `opening` begins a log.
 #![tactic(auto)]
 
 ghost use Rattle.std.specs.Prelude.{ℕ};
@@ -12,18 +13,22 @@ ghost use Rattle.std.specs.Borrow.{full_share};
 ghost use Rattle.std.specs.Ptr.{lies_at};
 ghost use Rattle.pgwal_c.specs.contracts.session_handle.SessionHandle as session_handle;
 ghost use Rattle.pgwal_c.specs.contracts.disk_handle.DiskHandle as disk_handle;
+ghost use Rattle.pgwal_c.specs.contracts.reader_handle.ReaderHandle as reader_handle;
 
 mod answers;
 mod appending;
+mod damages;
 mod disk_handle;
 mod opening;
+mod reader_handle;
 mod said;
 mod session_handle;
 #[cfg(test)]
 mod tests;
 
 use disk_handle::{DiskCall, DiskHandle, call_disk};
-use opening::{LogHandles, LogSetup, hand_out};
+use opening::{LogHandles, LogSetup, ReaderMade, hand_out, hand_out_reader};
+use reader_handle::{ReaderCall, ReaderHandle, call_reader};
 use session_handle::{SessionCall, SessionHandle, call_session};
 use std::alloc::Global;
 
@@ -51,4 +56,20 @@ pub unsafe extern "C" fn pgwal_disk_call(at: *mut u8, call: &mut DiskCall) -> u3
     ensures* { sem 𝓛 (fex DiskHandle (λ v. lies_at disk_handle.the_row full_share at v)) }
 {
     call_disk(unsafe { &mut *(at as *mut DiskHandle) }, call)
+}
+
+/// Makes a reader, which has no log yet.
+#[unsafe(no_mangle)]
+pub extern "C" fn pgwal_make_reader(alloc: Global, made: &mut ReaderMade) -> u32 {
+    hand_out_reader(alloc, made)
+}
+
+/// A call of a reader.
+#[unsafe(no_mangle)]
+pub unsafe extern "C" fn pgwal_reader_call(at: *mut u8, call: &mut ReaderCall) -> u32
+    ghost value: { ReaderHandle }
+    requires* { sem 𝓛 (lies_at reader_handle.the_row full_share at value) }
+    ensures* { sem 𝓛 (fex ReaderHandle (λ v. lies_at reader_handle.the_row full_share at v)) }
+{
+    call_reader(unsafe { &mut *(at as *mut ReaderHandle) }, call)
 }

@@ -1,6 +1,7 @@
 // A log is begun: its first session and the disk's queue are handed out.
 use crate::answers::{DONE, MEMORY, SETUP};
 use crate::disk_handle::DiskHandle;
+use crate::reader_handle::ReaderHandle;
 use crate::said::ProgramSaid;
 use crate::session_handle::SessionHandle;
 use byte_position::PAGE_SIZE;
@@ -80,5 +81,25 @@ pub(crate) fn hand_out(alloc: Global, setup: &LogSetup, opened: &mut LogHandles)
     };
     opened.session = Box::into_raw(session) as *mut u8;
     opened.disk = Box::into_raw(disk) as *mut u8;
+    DONE
+}
+
+/// A reader that was handed out.
+#[repr(C)]
+#[derive(Drop)]
+pub struct ReaderMade {
+    pub reader: *mut u8,
+}
+
+pub(crate) fn hand_out_reader(alloc: Global, made: &mut ReaderMade) -> u32 {
+    let handle = ReaderHandle {
+        alloc,
+        reader: None,
+        found: None,
+    };
+    let Ok(handle) = Box::new(alloc, handle) else {
+        return MEMORY;
+    };
+    made.reader = Box::into_raw(handle) as *mut u8;
     DONE
 }

@@ -1,10 +1,12 @@
 //! A commit as C makes it: appended, flushed, its calls made, and told. The place and the moment
 //! are those of docs/FORMATS.md: a log's first record starts behind the long header of its first
-//! page, and its flush makes a segment, writes a page and syncs.
+//! page, and its flush makes a segment, writes a page and syncs. A reader wants a page, and ends where
+//! there is none.
 
-use crate::answers::{BEHIND, DONE};
+use crate::answers::{BEHIND, DONE, END_OF_LOG, WANTED};
 use crate::disk_handle::{ACKNOWLEDGE, CREATE, DiskCall, DiskHandle, SYNC, TAKE, WRITE, call_disk};
 use crate::opening::{LogSetup, begin_log};
+use crate::reader_handle::{BEGIN, HAND_IN, NEXT, ReaderCall, ReaderHandle, call_reader};
 use crate::session_handle::{APPEND, END, FLUSH, SessionCall, call_session};
 use std::ptr::null_mut;
 use std::test::Fail;
@@ -65,5 +67,43 @@ fn a_commit_is_told_once_its_calls_are_made(rt: HostRuntime) -> Result<(), Fail>
     call.asked = END;
     assert_eq!(rt; call_session(&mut session, b"", &mut call), DONE);
     assert_eq!(rt; call_session(&mut session, b"", &mut call), DONE);
+    Ok(())
+}
+
+#[test]
+fn a_log_without_pages_ends_at_once(rt: HostRuntime) -> Result<(), Fail> {
+    let mut reader = ReaderHandle {
+        alloc: rt.alloc(),
+        reader: None,
+        found: None,
+    };
+    let mut call = ReaderCall {
+        asked: BEGIN,
+        xid: 0,
+        rmid: 0,
+        info: 0,
+        there: 0,
+        total: 0,
+        damage: 0,
+        blocks: 0,
+        seg_size: 1 << 20,
+        start: 0x10_0000,
+        end: 0,
+        prev: 0,
+        segment: 0,
+        page: 0,
+        len: 0,
+        offset: 0,
+        bytes: [0; 8192],
+    };
+    assert_eq!(rt; call_reader(&mut reader, &mut call), DONE);
+    call.asked = NEXT;
+    assert_eq!(rt; call_reader(&mut reader, &mut call), WANTED);
+    assert_eq!(rt; (call.segment, call.page), (1, 0));
+    call.asked = HAND_IN;
+    assert_eq!(rt; call_reader(&mut reader, &mut call), DONE);
+    call.asked = NEXT;
+    assert_eq!(rt; call_reader(&mut reader, &mut call), END_OF_LOG);
+    assert_eq!(rt; call.end, 0x10_0000);
     Ok(())
 }
