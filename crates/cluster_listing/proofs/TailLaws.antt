@@ -76,15 +76,15 @@ module _ (size : ℕ) (by : Filter) (told : List Listed → List ℕ) (t : Tape)
   front_of records took fault front = subst (PutFront old new before after (taking.Sink fault)) (kept records took) front
 
   shown_all : (walked : Result Walked ListErr) → is_shown walked ≡ true → IsWalk size by t Took Cut walked → PutAll old new before after text → IsGathered size by told t old new before after walked
-  shown_all (Ok walked) shown walk all = record { found = walk.found; answer = walk.answer; decodes = walk.decodes; ends = walk.ends; count_is = walk.count_is; taken = all_of _ walk.taken all }
+  shown_all (Ok walked) shown walk all = record { found = walk.found; told = walk.told; decodes = walk.decodes; ends = walk.ends; count_is = walk.count_is; taken = all_of _ walk.taken all }
   shown_all (Err (errors.Read (Stopped stop))) shown walk all = record { found = walk.found; decodes = walk.decodes; below_limit = walk.below_limit; taken = all_of _ walk.taken all }
   shown_all (Err (errors.Read Memory)) shown walk all = absurd cc
   shown_all (Err (errors.Read (Disk faults))) shown walk all = absurd cc
   shown_all (Err (errors.Take e)) shown walk all = absurd cc
 
   shown_front : (walked : Result Walked ListErr) (fault : SinkFault) → is_shown walked ≡ true → IsWalk size by t Took Cut walked → PutFront old new before after (taking.Sink fault) text → IsGathered size by told t old new before after (Err (errors.Take (taking.Sink fault)))
-  shown_front (Ok walked) fault shown walk front = record { found = walk.found; answer = walk.answer; decodes = walk.decodes; taken = front_of _ walk.taken fault front }
-  shown_front (Err (errors.Read (Stopped stop))) fault shown walk front = record { found = walk.found; answer = _; decodes = walk.decodes; taken = front_of _ walk.taken fault front }
+  shown_front (Ok walked) fault shown walk front = record { found = walk.found; told = walk.told; decodes = walk.decodes; taken = front_of _ walk.taken fault front }
+  shown_front (Err (errors.Read (Stopped stop))) fault shown walk front = record { found = walk.found; told = _; decodes = walk.decodes; taken = front_of _ walk.taken fault front }
   shown_front (Err (errors.Read Memory)) fault shown walk front = absurd cc
   shown_front (Err (errors.Read (Disk faults))) fault shown walk front = absurd cc
   shown_front (Err (errors.Take e)) fault shown walk front = absurd cc

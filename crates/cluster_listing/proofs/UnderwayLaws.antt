@@ -1,18 +1,30 @@
 -- A reader whose records are handed on, one behind another.
-use Rattle.std.proofs.Common.{◌≡◌, ℕ, ◌+◌, true, false, List, [], ◌∷◌, ◌++◌, length, map, Ok, refl, sym, ap, subst, ◌∙◌, append_assoc, length-append, arith}
+use Rattle.std.proofs.Common.{◌≡◌, ℕ, ◌+◌, true, false, List, [], ◌∷◌, ◌++◌, length, map, Option, Some, None, Ok, refl, sym, ap, subst, ◌∙◌, append_assoc, length-append, arith}
 use Rattle.std.proofs.lemmas.List.{append-nil, map-append}
 use Rattle.std.proofs.lemmas.List.Elements.{filter-append}
 use Rattle.wal_reader.specs.Standings.{given_as}
 use Rattle.wal_reader.specs.LogReader.{ReaderState, GivesRecords, IsNext}
 use Rattle.wal_reader.specs.Pages.{Pages}
 use Rattle.wal_reader.specs.declared.found.FoundRecord.{FoundRecord}
+use Rattle.wal_reader.specs.SoFar.{unbegun}
 use Rattle.wal_reader.specs.declared.found.Answer.{Answer}
+use Rattle.wal_reader.specs.declared.found.Answer.TheVariants as answers
+use Rattle.wal_reader.specs.declared.found.Stopped.TheVariants as stops
 use Rattle.waldump_filter.specs.declared.Filter.{Filter}
 use Rattle.waldump_filter.specs.declared.listed.Listed.{Listed}
 use Rattle.waldump_filter.specs.Keeping.{is_reached, keeps}
 use Rattle.waldump_text.specs.Listing.{IsLimitListed, kept_by, listed_by, listed_of, up_to}
 use Rattle.waldump_text.proofs.ListingLaws.{IsWithin, is_limit_listed, is_limit_unreached, kept, passed_over, listed_by-reached, listed_by-short, up_to-parts}
+use Rattle.wal_types.specs.declared.lsn.Lsn.{Lsn}
+use Rattle.cluster_listing.specs.Past.{GivesPast, IsLast, gives_all, gives_behind, gives_front, page_behind}
 use Rattle.cluster_listing.specs.Walk.{records_listed}
+
+-- what a reader still gives behind a record stands behind that record
+pub gives_one_more : (pages : Pages) (now next : ReaderState) (f : FoundRecord) → next ≡ record now { standing = next.standing } → IsNext pages now next (Ok (given_as f)) → (others : List FoundRecord) (told : Option Answer) → GivesPast pages next others told → GivesPast pages now (f ∷ others) told
+gives_one_more pages now next f same is others (Some answer) (gives_all _ _ _ gives last) = gives_all now (f ∷ others) answer (is others answer gives) last
+gives_one_more pages now next f same is others None (gives_front _ _ behind answer gives) = gives_front now (f ∷ others) behind answer (is (others ++ behind) answer gives)
+gives_one_more pages now next f same is _ told (gives_behind _ found others at _ gives anew) =
+    gives_behind now (f ∷ found) others at told (is found (answers.Stopped (stops.Overwritten at)) gives) (subst (λ (s : ReaderState). GivesPast pages (unbegun s.size (page_behind at.0) s.end) others told) same anew)
 
 -- those that a filter keeps, as they are listed
 abbrev pub records_kept : Filter → List FoundRecord → List Listed
@@ -22,13 +34,13 @@ records_kept by found = map listed_of (kept_by by found)
 -- what comes behind that
 pub record IsUnderway (by : Filter) (pages : Pages) (start now : ReaderState) (Took : List Listed → Type 0) (count : ℕ) : Type 0 where
   pub given : List FoundRecord
-  pub whole : (others : List FoundRecord) (answer : Answer) → GivesRecords pages now others answer → GivesRecords pages start (given ++ others) answer
+  pub whole : (others : List FoundRecord) (told : Option Answer) → GivesPast pages now others told → GivesPast pages start (given ++ others) told
   pub taken : Took (records_kept by given)
   pub counted : length (kept_by by given) ≡ count
 
 module _ (by : Filter) (pages : Pages) (start : ReaderState) where
   pub IsUnderway-none : (Took : List Listed → Type 0) → Took [] → IsUnderway by pages start start Took 0
-  IsUnderway-none Took none = record { given = []; whole = λ others answer gives. gives; taken = none; counted = refl }
+  IsUnderway-none Took none = record { given = []; whole = λ others told gives. gives; taken = none; counted = refl }
 
   module _ (now : ReaderState) (Took : List Listed → Type 0) (count : ℕ) (underway : IsUnderway by pages start now Took count) where
     module _ (within : IsWithin by.limit count) where
@@ -43,10 +55,10 @@ module _ (by : Filter) (pages : Pages) (start : ReaderState) where
           (map listed_of parts.0, ap (map listed_of) all ∙ map-append listed_of (kept_by by underway.given) parts.0)
 
       -- where the reader stops all is taken
-      pub taken_all : (answer : Answer) → GivesRecords pages now [] answer → GivesRecords pages start underway.given answer × Took (records_listed by underway.given) × (count ≡ length (listed_by by underway.given))
-      taken_all answer ends =
+      pub taken_all : (answer : Answer) → IsLast answer → GivesRecords pages now [] answer → GivesPast pages start underway.given (Some answer) × Took (records_listed by underway.given) × (count ≡ length (listed_by by underway.given))
+      taken_all answer last ends =
           let all = listed_by-short by underway.given given_within in (
-            subst (λ (found : List FoundRecord). GivesRecords pages start found answer) (append-nil underway.given) (underway.whole [] answer ends),
+            subst (λ (found : List FoundRecord). GivesPast pages start found (Some answer)) (append-nil underway.given) (underway.whole [] (Some answer) (gives_all now [] answer ends last)),
             subst (λ (fs : List FoundRecord). Took (map listed_of fs)) (sym all) underway.taken,
             sym underway.counted ∙ ap length (sym all),
           )
@@ -66,9 +78,18 @@ module _ (by : Filter) (pages : Pages) (start : ReaderState) where
     pub limit_unlisted : is_reached by.limit count ≡ false → IsLimitListed by underway.given → ⊥
     limit_unlisted unreached listed = is_limit_unreached by.limit (length (kept_by by underway.given)) (ap (is_reached by.limit) underway.counted ∙ unreached) listed
 
-    module _ (next : ReaderState) (f : FoundRecord) (is : IsNext pages now next (Ok (given_as f))) where
-      whole_behind : (others : List FoundRecord) (answer : Answer) → GivesRecords pages next others answer → GivesRecords pages start ((underway.given ++ f ∷ []) ++ others) answer
-      whole_behind others answer gives = subst (λ (found : List FoundRecord). GivesRecords pages start found answer) (sym (append_assoc underway.given (f ∷ []) others)) (underway.whole (f ∷ others) answer (is others answer gives))
+    -- behind an overwritten record it goes on with the next page
+    pub IsUnderway-anew : (at : Lsn) → GivesRecords pages now [] (answers.Stopped (stops.Overwritten at)) → IsUnderway by pages start (unbegun now.size (page_behind at.0) now.end) Took count
+    IsUnderway-anew at ends = record {
+      given = underway.given;
+      whole = λ others told gives. underway.whole others told (gives_behind now [] others at told ends gives);
+      taken = underway.taken;
+      counted = underway.counted;
+    }
+
+    module _ (next : ReaderState) (same : next ≡ record now { standing = next.standing }) (f : FoundRecord) (is : IsNext pages now next (Ok (given_as f))) where
+      whole_behind : (others : List FoundRecord) (told : Option Answer) → GivesPast pages next others told → GivesPast pages start ((underway.given ++ f ∷ []) ++ others) told
+      whole_behind others told gives = subst (λ (found : List FoundRecord). GivesPast pages start found told) (sym (append_assoc underway.given (f ∷ []) others)) (underway.whole (f ∷ others) told (gives_one_more pages now next f same is others told gives))
 
       kept_more : (kept : List FoundRecord) → kept_by by (f ∷ []) ≡ kept → kept_by by (underway.given ++ f ∷ []) ≡ kept_by by underway.given ++ kept
       kept_more kept kept_is = filter-append (λ g. keeps by (listed_of g)) underway.given (f ∷ []) ∙ ap (λ (fs : List FoundRecord). kept_by by underway.given ++ fs) kept_is

@@ -11,7 +11,7 @@ use Rattle.wal_reader.specs.declared.found.Stopped.TheVariants as stops
 use Rattle.wal_reader.specs.declared.standing.ReadErr.{ReadErr}
 use Rattle.wal_reader.specs.declared.standing.ReadErr.TheVariants as reading
 use Rattle.cluster_listing.specs.declared.ending.Ending.{Ending}
-use Rattle.cluster_listing.specs.declared.ending.Ending.TheVariants.{Clean, Enough, NoSegment, Torn, Damaged, Compressed, Overwritten, OutOfMemory, DiskFault, SinkFault}
+use Rattle.cluster_listing.specs.declared.ending.Ending.TheVariants.{Clean, Enough, NoSegment, Torn, Damaged, Compressed, OutOfMemory, DiskFault, SinkFault}
 use Rattle.cluster_listing.specs.declared.taking.TakeErr.{TakeErr}
 use Rattle.cluster_listing.specs.declared.taking.TakeErr.TheVariants as taking
 use Rattle.cluster_listing.specs.declared.walking.ListErr.{ListErr}
@@ -34,7 +34,7 @@ is_torn kinds.Malformed = false
 abbrev pub ending_of_stop : LogStop → Ending
 ending_of_stop (stops.Damaged at kind) = if is_torn kind then Torn at kind else Damaged at kind
 ending_of_stop (stops.Compressed at) = Compressed at
-ending_of_stop (stops.Overwritten at) = Overwritten at
+ending_of_stop (stops.Overwritten at) = Torn at kinds.NoContinuation
 
 abbrev pub ending_of_read : ReadErr → Ending
 ending_of_read reading.Memory = OutOfMemory
@@ -64,7 +64,6 @@ ending_status DiskFault = 4
 ending_status (Torn at kind) = 5
 ending_status (Damaged at kind) = 6
 ending_status (Compressed at) = 6
-ending_status (Overwritten at) = 6
 ending_status (NoSegment at) = 7
 ending_status SinkFault = 8
 
@@ -88,7 +87,6 @@ ending_text (NoSegment at) = place_line (codes "segment missing at ") at []
 ending_text (Torn at kind) = kind_line (codes "torn record at ") at (damage_name kind)
 ending_text (Damaged at kind) = kind_line (codes "damaged at ") at (damage_name kind)
 ending_text (Compressed at) = place_line (codes "damaged at ") at (codes ": compressed")
-ending_text (Overwritten at) = place_line (codes "damaged at ") at (codes ": overwritten")
 ending_text OutOfMemory = codes "cluster_dump: out of memory\n" ∷ []
 ending_text DiskFault = codes "cluster_dump: disk fault\n" ∷ []
 ending_text SinkFault = codes "cluster_dump: sink fault\n" ∷ []

@@ -1,5 +1,6 @@
 pub mod Ending
 pub mod Taking
+pub mod Past
 pub mod Walk
 pub mod Form
 pub mod Json

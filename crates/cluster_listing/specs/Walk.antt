@@ -10,8 +10,8 @@ use Rattle.wal_reader.specs.declared.standing.ReadErr.TheVariants as reading
 use Rattle.wal_reader.specs.Standings.{HasReadCause}
 use Rattle.waldump_filter.specs.declared.Filter.{Filter}
 use Rattle.waldump_filter.specs.declared.listed.Listed.{Listed}
-use Rattle.waldump_text.specs.Dump.{DecodesOnDisk}
 use Rattle.waldump_text.specs.Listing.{IsLimitListed, listed_by, listed_of}
+use Rattle.cluster_listing.specs.Past.{DecodesPast}
 use Rattle.cluster_listing.specs.declared.taking.TakeErr.{TakeErr}
 use Rattle.cluster_listing.specs.declared.walking.ListErr.{ListErr}
 use Rattle.cluster_listing.specs.declared.walking.ListErr.TheVariants.{Read, Take}
@@ -22,17 +22,17 @@ abbrev pub records_listed : Filter → List FoundRecord → List Listed
 records_listed by found = map listed_of (listed_by by found)
 
 -- how a walk ended: at a clean end of the log, or once the limit was listed
-abbrev pub EndsWalk : Filter → List FoundRecord → Answer → Option Lsn → Type 0
-EndsWalk by found answer (Some at) = answer ≡ answers.End at
-EndsWalk by found answer None = IsLimitListed by found
+abbrev pub EndsWalk : Filter → List FoundRecord → Option Answer → Option Lsn → Type 0
+EndsWalk by found told (Some at) = told ≡ Some (answers.End at)
+EndsWalk by found told None = IsLimitListed by found
 
 -- all that a filter lists is taken; `Took` says it of records
 pub record WalksAll (size : ℕ) (by : Filter) (t : Tape) (Took : List Listed → Type 0)
     (walked : Walked) : Type 0 where
   pub found : List FoundRecord
-  pub answer : Answer
-  pub decodes : DecodesOnDisk size by t found answer
-  pub ends : EndsWalk by found answer walked.end
+  pub told : Option Answer
+  pub decodes : DecodesPast size by t found told
+  pub ends : EndsWalk by found told walked.end
   pub count_is : walked.count ≡ length (listed_by by found)
   pub taken : Took (records_listed by found)
 
@@ -40,7 +40,7 @@ pub record WalksAll (size : ℕ) (by : Filter) (t : Tape) (Took : List Listed �
 pub record WalksUpTo (size : ℕ) (by : Filter) (t : Tape) (Took : List Listed → Type 0)
     (stop : LogStop) : Type 0 where
   pub found : List FoundRecord
-  pub decodes : DecodesOnDisk size by t found (answers.Stopped stop)
+  pub decodes : DecodesPast size by t found (Some (answers.Stopped stop))
   pub below_limit : IsLimitListed by found → ⊥
   pub taken : Took (records_listed by found)
 
@@ -48,8 +48,8 @@ pub record WalksUpTo (size : ℕ) (by : Filter) (t : Tape) (Took : List Listed �
 pub record WalksFront (size : ℕ) (by : Filter) (t : Tape) (Took : List Listed → Type 0)
     : Type 0 where
   pub found : List FoundRecord
-  pub answer : Answer
-  pub decodes : DecodesOnDisk size by t found answer
+  pub told : Option Answer
+  pub decodes : DecodesPast size by t found told
   pub front : List Listed
   pub rest : List Listed
   pub parts : records_listed by found ≡ front ++ rest
@@ -58,8 +58,8 @@ pub record WalksFront (size : ℕ) (by : Filter) (t : Tape) (Took : List Listed 
 -- a front of what they come to is taken
 pub record WalksCut (size : ℕ) (by : Filter) (t : Tape) (Cut : List Listed → Type 0) : Type 0 where
   pub found : List FoundRecord
-  pub answer : Answer
-  pub decodes : DecodesOnDisk size by t found answer
+  pub told : Option Answer
+  pub decodes : DecodesPast size by t found told
   pub taken : Cut (records_listed by found)
 
 -- what was taken of a log, by how the walk ended

@@ -27,8 +27,6 @@ pub enum Ending {
     Damaged { at: Lsn, kind: DamageKind },
     /// The record that starts here has a compressed image.
     Compressed { at: Lsn },
-    /// The record that starts here was given up, and its continuation overwritten.
-    Overwritten { at: Lsn },
     OutOfMemory,
     DiskFault,
     SinkFault,
@@ -58,7 +56,6 @@ impl Ending {
             Ending::Torn { .. } => 5,
             Ending::Damaged { .. } => 6,
             Ending::Compressed { .. } => 6,
-            Ending::Overwritten { .. } => 6,
             Ending::NoSegment { .. } => 7,
             Ending::SinkFault => 8,
         }
@@ -76,7 +73,6 @@ impl Ending {
             Ending::Torn { at, kind } => tell_kind(err, "torn record at ", at, kind.name()),
             Ending::Damaged { at, kind } => tell_kind(err, "damaged at ", at, kind.name()),
             Ending::Compressed { at } => tell_place(err, "damaged at ", at, ": compressed"),
-            Ending::Overwritten { at } => tell_place(err, "damaged at ", at, ": overwritten"),
             Ending::OutOfMemory => put_all(err, &[b"cluster_dump: out of memory\n"]),
             Ending::DiskFault => put_all(err, &[b"cluster_dump: disk fault\n"]),
             Ending::SinkFault => put_all(err, &[b"cluster_dump: sink fault\n"]),
@@ -119,7 +115,11 @@ fn ending_of_stop(stopped: Stopped) -> Ending
         Stopped::Damaged { at, kind } if is_torn(kind) => Ending::Torn { at, kind },
         Stopped::Damaged { at, kind } => Ending::Damaged { at, kind },
         Stopped::Compressed { at } => Ending::Compressed { at },
-        Stopped::Overwritten { at } => Ending::Overwritten { at },
+        // A walk goes on behind it; who does not has a record whose continuation is not there.
+        Stopped::Overwritten { at } => Ending::Torn {
+            at,
+            kind: DamageKind::NoContinuation,
+        },
     }
 }
 

@@ -1,17 +1,20 @@
 //! Reading a log record by record, and handing on those that a filter keeps.
 
-ghost use Rattle.std.specs.Prelude.{IfSome, List};
+ghost use Rattle.std.specs.Prelude.{◌≡◌, ◌+◌, ◌<◌, ◌^◌, IfOk, IfErr, IfSome, List};
 ghost use Rattle.segment_disk.specs.Tape.{IsUncalled};
 ghost use Rattle.waldump_filter.specs.declared.listed.Listed.{Listed};
 ghost use Rattle.cluster_listing.specs.Taking.{CutMore, TookMore};
+ghost use Rattle.wal_reader.specs.declared.standing.ReadErr.{ReadErr};
+ghost use Rattle.wal_reader.specs.declared.standing.ReadErr.TheVariants.{Memory};
+ghost use Rattle.cluster_listing.specs.Past.{behind_at, goes_on_at, goes_on_behind, page_behind, past_of};
 ghost use Rattle.cluster_listing.specs.Walk.{HasWalkCause, IsWalk};
 
 use crate::taking::{TakeErr, TakesRecords};
-use byte_position::Geometry;
+use byte_position::{Geometry, PAGE_SIZE};
 use segment_disk::Disk;
 use std::alloc::Global;
 use thiserror::Error;
-use wal_reader::{Comes, ReadErr, Reader};
+use wal_reader::{Comes, ReadErr, Reader, RecordHead, Stopped};
 use wal_types::{Lsn, Record};
 use waldump_filter::{Filter, Listed};
 
@@ -65,8 +68,80 @@ fn blank(alloc: Global) -> Listed {
     }
 }
 
+// No page ends above address 2^60.
+const PAGES: u64 = 1 << 47;
+
+// Where the page begins that stands behind the one of an address.
+fn page_behind(at: Lsn) -> Lsn
+    ensures { result.0 ≡ page_behind at.0 }
+{
+    Lsn((at.0 / PAGE_SIZE + 1).min(PAGES) * PAGE_SIZE)
+}
+
+// Where reading goes on that has failed so, or why it does not.
+fn goes_on_at(error: ReadErr) -> Result<Lsn, ReadErr>
+    ensures { result ≡ goes_on_at error }
+{
+    match error {
+        ReadErr::Memory => Err(ReadErr::Memory),
+        ReadErr::Disk { faults } => Err(ReadErr::Disk { faults }),
+        ReadErr::Stopped(stopped) => goes_on_behind(stopped),
+    }
+}
+
+fn goes_on_behind(stopped: Stopped) -> Result<Lsn, ReadErr>
+    ensures { result ≡ goes_on_behind stopped }
+{
+    match stopped {
+        Stopped::Damaged { at, kind } => Err(ReadErr::Stopped(Stopped::Damaged { at, kind })),
+        Stopped::Compressed { at } => Err(ReadErr::Stopped(Stopped::Compressed { at })),
+        Stopped::Overwritten { at } => Ok(page_behind(at)),
+    }
+}
+
+/// What comes of a log that is read on behind overwritten records.
+#[derive(Clone, Copy)]
+pub(crate) enum Past {
+    Record(RecordHead),
+    End { at: Lsn },
+    /// Reading begins again at this address.
+    Behind(Lsn),
+}
+
+// What a reader's step comes to for who reads on.
+fn read_on(comes: Result<Comes, ReadErr>) -> Result<Past, ReadErr>
+    ensures { result ≡ past_of comes }
+{
+    match comes {
+        Ok(Comes::Record(head)) => Ok(Past::Record(head)),
+        Ok(Comes::End { at }) => Ok(Past::End { at }),
+        Err(error) => behind_at(goes_on_at(error)),
+    }
+}
+
+fn behind_at(from: Result<Lsn, ReadErr>) -> Result<Past, ReadErr>
+    ensures { result ≡ behind_at from }
+{
+    match from {
+        Ok(from) => Ok(Past::Behind(from)),
+        Err(error) => Err(error),
+    }
+}
+
+// One turn more; no log has so many that their count has no room.
+fn turn_behind(turns: u64) -> Result<u64, ReadErr>
+    ensures more { IfOk result (λ more. (more ≡ turns + 1) × (more < 2 ^ 64)) }
+    ensures wanting { IfErr result (λ e. e ≡ Memory) }
+{
+    if turns == u64::MAX {
+        return Err(ReadErr::Memory);
+    }
+    Ok(turns + 1)
+}
+
 /// Hands the records that a filter keeps to what takes them, up to its limit. Once that many are
-/// taken, nothing is read any more.
+/// taken, nothing is read any more. Behind an overwritten record reading goes on with the next
+/// page, as PostgreSQL's reader does (xlogreader.c, `overwrittenRecPtr`).
 pub(crate) fn walk<D: Disk, V: TakesRecords>(
     alloc: Global,
     disk: &mut D,
@@ -83,14 +158,20 @@ pub(crate) fn walk<D: Disk, V: TakesRecords>(
     let mut reader = Reader::new(geometry, filter.start, filter.end);
     let mut listed = blank(alloc);
     let mut count = 0;
+    let mut turns = 0;
     'records: while !filter.is_full(count) {
-        let head = match reader.next_into(alloc, disk, &mut listed.value)? {
-            Comes::Record(head) => head,
-            Comes::End { at } => {
+        turns = turn_behind(turns)?;
+        let head = match read_on(reader.next_into(alloc, disk, &mut listed.value))? {
+            Past::Record(head) => head,
+            Past::End { at } => {
                 return Ok(Walked {
                     count,
                     end: Some(at),
                 });
+            }
+            Past::Behind(from) => {
+                reader = Reader::new(geometry, from, filter.end);
+                continue 'records;
             }
         };
         listed.start = head.start;

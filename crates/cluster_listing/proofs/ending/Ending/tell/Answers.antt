@@ -9,9 +9,6 @@ returns-in-Damaged g c = rw (c.in-Damaged.is, ← c.name-in-Damaged.ensures) c.t
 pub returns-in-Compressed : goal.returns-in-Compressed
 returns-in-Compressed g c = rw c.in-Compressed.is c.tell_place-in-Compressed.ensures
 
-pub returns-in-Overwritten : goal.returns-in-Overwritten
-returns-in-Overwritten g c = rw c.in-Overwritten.is c.tell_place-in-Overwritten.ensures
-
 pub returns-in-OutOfMemory : goal.returns-in-OutOfMemory
 returns-in-OutOfMemory g c = rw c.in-OutOfMemory.is c.put_all.ensures
 
