@@ -293,14 +293,15 @@ static LOGICAL_MESSAGE: [&str; 16] = [
 
 /// A record's word.
 #[derive(Clone, Copy, Debug)]
-pub(crate) enum KindName {
+pub enum KindName {
     Own(&'static str),
     /// Of a kind that its manager does not have, or of a custom manager's.
     Other(RecordWord),
 }
 
 impl KindName {
-    pub(crate) fn as_bytes(&self) -> &[u8]
+    /// The word in ASCII.
+    pub fn as_bytes(&self) -> &[u8]
         ensures { result.now ≡ kind_text self.now }
     {
         match self {
@@ -311,7 +312,7 @@ impl KindName {
 }
 
 /// The word of a record, by its manager's number and its info.
-pub(crate) fn kind_name(rmid: u8, info: u8) -> KindName
+pub fn kind_name(rmid: u8, info: u8) -> KindName
     ensures { kind_text result ≡ kind_word rmid info }
 {
     let own = own_kind(rmid, info);

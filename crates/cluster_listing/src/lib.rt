@@ -14,13 +14,13 @@ mod statistics;
 mod tail;
 mod taking;
 mod tally;
-#[cfg(test)]
-mod tests;
 mod walking;
 
 pub use ending::Ending;
 pub use form::Form;
+pub use kinds::{KindName, kind_name};
 pub use listing::{Listing, list};
+pub use printing::push_record;
 pub use statistics::list_statistics;
 pub use tail::list_tail;
 pub use taking::TakeErr;

@@ -40,8 +40,8 @@ impl<O: Sink + Drop> TakesRecords for Printer<O> {
     }
 }
 
-/// A record's text.
-pub(crate) fn push_record(line: &mut Vec<u8>, form: Form, r: &Listed) -> Result<(), AllocError>
+/// Appends what a form prints of a record.
+pub fn push_record(line: &mut Vec<u8>, form: Form, r: &Listed) -> Result<(), AllocError>
     requires { IsListable r.now }
     ensures { OnOk result (line.new.items ≡ line.old.items ++ record_text form r.now) }
 {

@@ -3,9 +3,7 @@
 ghost use Rattle.std.specs.Prelude.{IfOk};
 ghost use Rattle.waldump_text.specs.Listing.{IsListable};
 
-use crate::form::Form;
-use crate::kinds::kind_name;
-use crate::printing::push_record;
+use cluster_listing::{Form, kind_name, push_record};
 use std::alloc::{AllocError, Global};
 use std::test::Fail;
 use wal_types::{Block, BlockList, Bytes, Image, Lsn, Record, Rel, Xid};
