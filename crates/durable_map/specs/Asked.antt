@@ -9,6 +9,12 @@ use Rattle.durable_map.specs.declared.asked.MapTold.{MapTold}
 use Rattle.durable_map.specs.declared.asked.MapTold.TheVariants.{Changed, Value, NoMemory}
 use Rattle.durable_map.specs.declared.part.MapPart.{MapPart}
 
+-- the key that a call is about
+abbrev pub key_of_call : MapCall → List ℕ
+key_of_call (Set key value) = key.items
+key_of_call (Get key) = key.items
+key_of_call (Del key) = key.items
+
 -- what a key has, or that there was no memory
 abbrev pub TellsValue : MapPart → List ℕ → MapTold → Type 0
 TellsValue part key (Changed answer) = ⊥

@@ -1,6 +1,7 @@
 pub mod Asked
 pub mod Calls
 pub mod Changes
+pub mod Dealing
 pub mod History
 pub mod Lives
 pub mod OneSet

@@ -1,6 +1,9 @@
 //! What is asked of a map, and what it tells, as values: for who reads commands, or hands them to
 //! another thread.
 
+ghost use Rattle.std.specs.Prelude.{◌≡◌};
+ghost use Rattle.durable_map.specs.Asked.{key_of_call};
+
 use crate::fault::ChangeErr;
 use wal_log::Sealed;
 
@@ -14,7 +17,9 @@ pub enum MapCall {
 
 impl MapCall {
     /// The key that it is about.
-    pub fn key(&self) -> &[u8] {
+    pub fn key(&self) -> &[u8]
+        ensures { result.now ≡ key_of_call self.now }
+    {
         match self {
             MapCall::Set { key, .. } | MapCall::Get { key } | MapCall::Del { key } => {
                 key.as_slice()

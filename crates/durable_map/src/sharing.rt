@@ -9,7 +9,9 @@ ghost use Rattle.wal_rule.specs.Passes.{view_of_pass};
 ghost use Rattle.wal_log.specs.Logs.{IsPassOfLog, setup_of_log};
 ghost use Rattle.wal_log.specs.Sharing.{ShareNumbers};
 ghost use Rattle.wal_log_laws.specs.Growing.{IsNewPass};
-ghost use Rattle.durable_map.specs.Sharing.{AreLanesOf, ChangesLane, ClosesShared, GivesTold, HasCall, HasLogsOf, IsSameLane, IsSharedFrom, IsSharedMap, KeepsLanes, MakesItsCalls, ShareLog, WorkOff, WorksOff, lanes_of, view_in_lane};
+ghost use Rattle.durable_map.specs.Asked.{key_of_call};
+ghost use Rattle.durable_map.specs.Dealing.{lane_of_key};
+ghost use Rattle.durable_map.specs.Sharing.{AreLanesOf, ChangesLane, ClosesShared, GivesTold, HasCall, HasLogsOf, IsIdle, IsSameLane, IsSharedFrom, IsSharedMap, KeepsLanes, MakesItsCalls, ShareLog, WorkOff, WorksOff, lanes_of, view_in_lane};
 ghost use Rattle.durable_map.specs.declared.sharing.MapLane.{MapLane};
 ghost use Rattle.durable_map.specs.Stores.{IsOpenMap, IsPartOfLog};
 
@@ -47,7 +49,8 @@ pub struct SharedMap<D: Disk> {
 
 impl MapLane {
     fn of(part: MapPart) -> MapLane
-        ensures { result.part ≡ part }
+        ensures part { result.part ≡ part }
+        ensures idle { IsIdle result }
     {
         MapLane {
             calls: Vec::new(part.alloc),
@@ -112,7 +115,8 @@ impl MapLane {
 // A key's lane, of so many.
 fn lane_of(key: &[u8], lanes: usize) -> usize
     requires { 0 < lanes }
-    ensures { result < lanes }
+    ensures within { result < lanes }
+    ensures of { result ≡ lane_of_key lanes key.now }
 {
     let mut sum = 0x811C_9DC5_u32;
     for byte in key {
@@ -172,6 +176,7 @@ fn split_lanes<D: Disk>(
     requires spare { vec_len dealt ≤ pass.spare_end - pass.spare + 1 }
     requires some { 0 < vec_len dealt }
     ensures lanes { IfOk result (λ lanes. ShareLog log.now lanes.items) }
+    ensures idle { IfOk result (λ lanes. All IsIdle lanes.items) }
     ensures new { IfOk result (λ lanes. IsNewPass (view_of_pass pass)
         → All (λ lane. IsNewPass (view_in_lane lane)) lanes.items) }
 {
@@ -204,6 +209,8 @@ impl<D: Disk> SharedMap<D> {
     pub fn ask(&mut self, call: MapCall) -> Result<usize, AllocError>
         requires { IsSharedMap self.old }
         ensures kept { IsSharedMap self.new }
+        ensures lane { IfOk result (λ lane. lane
+            ≡ lane_of_key (length (lanes_of self.old)) (key_of_call call)) }
         ensures asked { MatchResult result
             (λ lane. ChangesLane lane (HasCall call) self.old self.new)
             (λ _. KeepsLanes self.old self.new) }

@@ -40,16 +40,22 @@ loop-entries-preserved g c =
       dealing = one_dealt c.passes_share_numbers.ensures.split
           c.passes_hand_on_their_logs.ensures.split c.args.log.now c.args.pass _ _ _ _ _
           before.dealing left.0 left.1
-          (subst (λ (part : MapPart). IsPartOfLog c.args.log.now part) (sym c.of.ensures) right.0)
-          (ap view_of_part c.of.ensures ∙ right.1) c.in_ok-push.ensures.items;
+          (subst (λ (part : MapPart). IsPartOfLog c.args.log.now part) (sym c.of.ensures.part)
+          right.0) (ap view_of_part c.of.ensures.part ∙ right.1) c.of.ensures.idle
+          c.in_ok-push.ensures.items;
     }
 
 pub returns-clause-lanes : goal.returns-clause-lanes
 returns-clause-lanes g c = (all_dealt c.args.log.now c.args.pass _ _ _ _
-    c.loop-entries.invariant.dealing (ap (λ (part : MapPart). part.pass) c.of-2.ensures)
-    c.in_ok-push-2.ensures.items).0
+    c.loop-entries.invariant.dealing (ap (λ (part : MapPart). part.pass) c.of-2.ensures.part)
+    c.of-2.ensures.idle c.in_ok-push-2.ensures.items).0
 
 pub returns-clause-new : goal.returns-clause-new
 returns-clause-new g c = (all_dealt c.args.log.now c.args.pass _ _ _ _
-    c.loop-entries.invariant.dealing (ap (λ (part : MapPart). part.pass) c.of-2.ensures)
-    c.in_ok-push-2.ensures.items).1
+    c.loop-entries.invariant.dealing (ap (λ (part : MapPart). part.pass) c.of-2.ensures.part)
+    c.of-2.ensures.idle c.in_ok-push-2.ensures.items).1
+
+pub returns-clause-idle : goal.returns-clause-idle
+returns-clause-idle g c = (all_dealt c.args.log.now c.args.pass _ _ _ _
+    c.loop-entries.invariant.dealing (ap (λ (part : MapPart). part.pass) c.of-2.ensures.part)
+    c.of-2.ensures.idle c.in_ok-push-2.ensures.items).2

@@ -10,7 +10,7 @@ returns-in-Ok-clause-kept g c =
 pub returns-in-Ok-clause-asked : goal.returns-in-Ok-clause-asked
 returns-in-Ok-clause-asked g c = record {
   log = refl;
-  within = omega (arith, c.lane_of-lane.ensures, c.args.self.now.lanes.ok.0);
+  within = omega (arith, c.lane_of-lane.ensures.within, c.args.self.now.lanes.ok.0);
   was = c.index_mut.result.now;
   was_there = c.index_mut.ensures.value;
   now = c.leave.new.self;
