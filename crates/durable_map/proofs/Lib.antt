@@ -1,5 +1,6 @@
 pub mod Begun
 pub mod Changed
+pub mod FirstLife
 pub mod Fronts
 pub mod Keys
 pub mod LaneCalls
@@ -9,6 +10,9 @@ pub mod MapLives
 pub mod Mains
 pub mod ReadLaws
 pub mod SetAgain
+pub mod SharedAgain
+pub mod Settling
 pub mod Shared
 pub mod Spelled
+pub mod TwoCalls
 pub mod Weaving

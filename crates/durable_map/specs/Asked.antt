@@ -1,7 +1,8 @@
 -- What a part of a map tells of what it was asked.
-use Rattle.std.specs.Prelude.{◌≡◌, ℕ, List, [], ◌∷◌, ◌++◌, Option, Some, None}
+use Rattle.std.specs.Prelude.{◌≡◌, ℕ, List, [], ◌∷◌, ◌++◌, Option, Some, None, Ok, Err}
 use Rattle.wal_log.specs.declared.wal.Wal.{Wal}
 use Rattle.durable_map.specs.Calls.{ChangeCall}
+use Rattle.durable_map.specs.Changes.{MapChange}
 use Rattle.durable_map.specs.Stores.{AnswersCall, part_held, slot_bytes}
 use Rattle.durable_map.specs.declared.asked.MapCall.{MapCall}
 use Rattle.durable_map.specs.declared.asked.MapCall.TheVariants.{Set, Get, Del}
@@ -14,6 +15,19 @@ abbrev pub key_of_call : MapCall → List ℕ
 key_of_call (Set key value) = key.items
 key_of_call (Get key) = key.items
 key_of_call (Del key) = key.items
+
+-- the change that it asks for; a `get` asks for none
+abbrev pub change_asked : MapCall → Option MapChange
+change_asked (Set key value) = Some (record { key = key.items; value = Some value.items })
+change_asked (Get key) = None
+change_asked (Del key) = Some (record { key = key.items; value = None })
+
+-- a change was answered Ok
+abbrev pub IsAnsweredOk : MapTold → Type 0
+IsAnsweredOk (Changed (Ok sealed)) = Unit {0}
+IsAnsweredOk (Changed (Err error)) = ⊥
+IsAnsweredOk (Value value) = ⊥
+IsAnsweredOk NoMemory = ⊥
 
 -- what a key has, or that there was no memory
 abbrev pub TellsValue : MapPart → List ℕ → MapTold → Type 0

@@ -10,4 +10,5 @@ pub mod Reading
 pub mod Records
 pub mod Sharing
 pub mod Stores
+pub mod TwoLanes
 pub mod Weaving

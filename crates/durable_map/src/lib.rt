@@ -18,6 +18,7 @@ mod opening;
 mod part;
 mod sharing;
 mod store;
+mod two_lanes;
 
 pub use asked::{MapCall, MapTold};
 pub use change::{LONGEST, MANAGER, ReadChange, del_body, read_change, set_body};
@@ -27,3 +28,4 @@ pub use one_set::set_and_reopen;
 pub use part::MapPart;
 pub use sharing::SharedMap;
 pub use store::DurableMap;
+pub use two_lanes::share_and_reopen;

@@ -1,5 +1,6 @@
 use Rattle.std.proofs.Common.{rules, ◌<◌, ◌^◌, Some, refl}
-use Rattle.durable_map.proofs.SetAgain.{closes_same, finds_change}
+use Rattle.durable_map.proofs.FirstLife.{closes_same}
+use Rattle.durable_map.proofs.SetAgain.{finds_change}
 use Rattle.durable_map.proofs.one_set.set_and_reopen.Goals as goal
 
 pub returns : goal.returns
