@@ -21,7 +21,9 @@ use durable_map::DurableMap;
 use segment_disk::Disk;
 use segment_files::{Access, FileDisk};
 use sharing::share;
-use std::io::{BufRead, BufReader};
+use std::alloc::Global;
+use std::io;
+use std::io::{BufRead, BufReader, BufWriter, Write};
 use std::process;
 use std::process::ExitCode;
 use std::sync::Wait;
@@ -97,18 +99,20 @@ fn obey<D: Disk, R: Wait>(
     requires { IsOpenMap map.old }
 {
     let alloc = rt.alloc();
+    let mut out = BufWriter::new(alloc, io::writer(&rt))?;
     let lines = BufReader::new(alloc, rt.reader())?.split(alloc, b'\n');
     for (index, line) in lines.enumerate() {
         let line = line?;
-        obey_line(waiting, rt, map, index as u64 + 1, line.as_slice())?;
+        obey_line(waiting, alloc, &mut out, map, index as u64 + 1, line.as_slice())?;
     }
     Ok(())
 }
 
 // Does a line's command, and prints its answer.
-fn obey_line<D: Disk, R: Wait>(
+fn obey_line<D: Disk, R: Wait, W: Write>(
     waiting: &R,
-    rt: HostRuntime,
+    alloc: Global,
+    out: &mut W,
     map: &mut DurableMap<D>,
     number: u64,
     line: &[u8],
@@ -116,8 +120,12 @@ fn obey_line<D: Disk, R: Wait>(
     requires { IsOpenMap map.old }
     ensures { IsOpenMap map.new }
 {
-    match call_of_line(rt.alloc(), line) {
-        Ok(Some(call)) => tell(rt, number, map.answer(waiting, call)),
+    match call_of_line(alloc, line) {
+        Ok(Some(call)) => {
+            tell(out, number, map.answer(waiting, call))?;
+            out.flush()?;
+            Ok(())
+        }
         Ok(None) => Ok(()),
         Err(fault) => Err(PgmapErr::of_line(number, fault)),
     }

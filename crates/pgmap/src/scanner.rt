@@ -120,9 +120,23 @@ fn digit(byte: u8) -> Result<u8, LineFault> {
 
 /// The words of a line.
 pub fn words_of(alloc: Global, line: &[u8]) -> Result<Vec<Vec<u8>>, LineFault> {
+    if line.iter().all(|byte| *byte == b' ' || is_plain(*byte)) {
+        return plain_words(alloc, line);
+    }
     let mut scanner = Scanner::new(alloc);
     for byte in line {
         scanner.take(*byte)?;
     }
     scanner.end()
+}
+
+// .. of one in which each byte but a blank is plain, as most are: a word is copied as a whole.
+fn plain_words(alloc: Global, line: &[u8]) -> Result<Vec<Vec<u8>>, LineFault> {
+    let mut words = Vec::with_capacity(alloc, 3)?;
+    for word in line.split(|byte| *byte == b' ') {
+        if !word.is_empty() {
+            words.push(Vec::from_slice(alloc, word)?)?;
+        }
+    }
+    Ok(words)
 }

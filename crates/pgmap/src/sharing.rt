@@ -10,7 +10,8 @@ use crate::telling::tell;
 use crate::trouble::PgmapErr;
 use durable_map::{DurableMap, SharedMap};
 use segment_disk::Disk;
-use std::io::{BufRead, BufReader};
+use std::io;
+use std::io::{BufRead, BufReader, BufWriter, Write};
 use std::sync::Wait;
 use std::thread::Threads;
 
@@ -29,18 +30,19 @@ pub fn share<D: Disk + Drop + Send, R: Threads + Wait + Sync>(
 {
     let alloc = rt.alloc();
     let mut map = map.share(count as usize)?;
+    let mut out = BufWriter::new(alloc, io::writer(&rt))?;
     let mut asked = Vec::new(alloc);
     let lines = BufReader::new(alloc, rt.reader())?.split(alloc, b'\n');
     for (index, line) in lines.enumerate() {
         let line = line?;
         let left = leave_line(rt, &mut map, &mut asked, index as u64 + 1, line.as_slice());
         if let Err(trouble) = left {
-            answer_all(threads, rt, &mut map, &mut asked)?;
+            answer_all(threads, &mut out, &mut map, &mut asked)?;
             return Err(trouble);
         }
-        answer_full(threads, rt, &mut map, &mut asked)?;
+        answer_full(threads, &mut out, &mut map, &mut asked)?;
     }
-    answer_all(threads, rt, &mut map, &mut asked)
+    answer_all(threads, &mut out, &mut map, &mut asked)
 }
 
 // Leaves a line's command with the lane of its key, and notes its number and which lane that is.
@@ -65,9 +67,9 @@ fn leave_line<D: Disk>(
 }
 
 // Does the lines that were left with their lanes, and answers them.
-fn answer_all<D: Disk + Send, R: Threads + Wait + Sync>(
+fn answer_all<D: Disk + Send, R: Threads + Wait + Sync, W: Write>(
     threads: &R,
-    rt: HostRuntime,
+    out: &mut W,
     map: &mut SharedMap<D>,
     asked: &mut Vec<(u64, usize)>,
 ) -> Result<(), PgmapErr>
@@ -75,20 +77,34 @@ fn answer_all<D: Disk + Send, R: Threads + Wait + Sync>(
     ensures { IsSharedMap map.new }
 {
     map.work(threads);
-    for (number, lane) in asked.iter() {
+    let told = tell_all(out, map, asked.as_slice());
+    asked.clear();
+    out.flush()?;
+    told
+}
+
+// Puts what the lines were told, up to the first that cannot be done.
+fn tell_all<D: Disk, W: Write>(
+    out: &mut W,
+    map: &mut SharedMap<D>,
+    asked: &[(u64, usize)],
+) -> Result<(), PgmapErr>
+    requires { IsSharedMap map.old }
+    ensures { IsSharedMap map.new }
+{
+    for (number, lane) in asked {
         match map.told(*lane) {
-            Some(told) => tell(rt, *number, told)?,
+            Some(told) => tell(out, *number, told)?,
             None => return Err(PgmapErr::Memory),
         }
     }
-    asked.clear();
     Ok(())
 }
 
 // .. once these are enough.
-fn answer_full<D: Disk + Send, R: Threads + Wait + Sync>(
+fn answer_full<D: Disk + Send, R: Threads + Wait + Sync, W: Write>(
     threads: &R,
-    rt: HostRuntime,
+    out: &mut W,
     map: &mut SharedMap<D>,
     asked: &mut Vec<(u64, usize)>,
 ) -> Result<(), PgmapErr>
@@ -98,5 +114,5 @@ fn answer_full<D: Disk + Send, R: Threads + Wait + Sync>(
     if asked.len() < BATCH {
         return Ok(());
     }
-    answer_all(threads, rt, map, asked)
+    answer_all(threads, out, map, asked)
 }
