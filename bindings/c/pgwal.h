@@ -524,21 +524,33 @@ static inline uint32_t pgwal_read_data(pgwal_reader *reader, size_t len) {
   return PGWAL_DONE;
 }
 
+/* Hands in the page that is wanted, and up to so many of its segment from there on. */
+static inline uint32_t pgwal_hand_in(pgwal_reader *reader, uint32_t count) {
+  pgwal_reader_asked *call = &reader->call;
+  for (uint32_t n = 0; n < count; n++, call->page++) {
+    if (!pgwal_read_page(reader)) {
+      reader->error = errno ? errno : EIO;
+      return PGWAL_DOWN;
+    }
+    if (n > 0 && !call->there) break;
+    call->asked = PGWAL_ASK_HAND_IN;
+    uint32_t answer = pgwal_reader_call(reader->handle, call);
+    if (answer != PGWAL_DONE) return answer;
+  }
+  return PGWAL_DONE;
+}
+
 /* The next record: DONE; END, where `end` says where the log ends: asked again it goes on if more was written; DAMAGED,
  * told again from then on; DOWN, where a file could not be read (`error`); MEMORY. */
 static inline uint32_t pgwal_next(pgwal_reader *reader, pgwal_found *found) {
   pgwal_reader_asked *call = &reader->call;
   uint32_t answer;
-  for (;;) {
+  /* A record is taken up anew at each page that is wanted: so twice as many are handed in each time. */
+  for (uint32_t count = 1;; count = count < 1024 ? 2 * count : count) {
     call->asked = PGWAL_ASK_NEXT;
     answer = pgwal_reader_call(reader->handle, call);
     if (answer != PGWAL_WANTED) break;
-    if (!pgwal_read_page(reader)) {
-      reader->error = errno ? errno : EIO;
-      return PGWAL_DOWN;
-    }
-    call->asked = PGWAL_ASK_HAND_IN;
-    answer = pgwal_reader_call(reader->handle, call);
+    answer = pgwal_hand_in(reader, count);
     if (answer != PGWAL_DONE) return answer;
   }
   *found = (pgwal_found){.start = call->start, .end = call->end};

@@ -14,14 +14,16 @@ folder=$top/crates/cluster_dump/data
 # refuses LINE WORD..: pgmap ends with status 3 at this line, and says why in these words
 refuses() {
   local line=$1 said
-  said=$(cd "$base" && rm -rf pg_wal && printf '%s\n' "$line" | "$map" 2>&1 >/dev/null)
+  said=$(cd "$base" && rm -rf pg_map && printf '%s\n' "$line" | "$map" 2>&1 >/dev/null)
   equal "pgmap, $line" "$?: $said" "3: pgmap: line 1: ${*:2}"
 }
 
-# places WORD STATUS: cluster_dump begins at this place, and ends with this status
+# places OPTION WORD WANTED: which records cluster_dump lists by this word, by their addresses, and its status
 places() {
-  "$lister" -q -p "$folder" -s "$1" >"$base/out" 2>"$base/err"
-  equal "cluster_dump -s '$1'" "$?" "$2"
+  local listed status
+  listed=$("$lister" -p "$folder" "$1" "$2" 2>/dev/null)
+  status=$?
+  equal "cluster_dump $1 '$2'" "$(sed -n 's/.* lsn: 0\/00\([0-9A-F]*\),.*/\1/p' <<<"$listed" | xargs) $status" "$3"
 }
 
 no_command='no command: set KEY VALUE, get KEY, del KEY'
@@ -35,10 +37,14 @@ refuses 'get "a"b' 'a quoted word is not followed by a blank'
 refuses 'get "a' 'no closing quote'
 refuses 'get "\y"' "$escape"
 refuses 'get "\x0g"' "$escape"
-for word in 0/500028 0/00500028 000000020000000000000005; do
-  places "$word" 0
-done
+places -s 0/500060 '500060 500098 5000C0 500150 0'
+places -s 0/00500098 '500098 5000C0 500150 0'
+places -s 0/5000c0 '5000C0 500150 0'
+places -s 000000020000000000000005 '500028 500060 500098 5000C0 500150 0'
+places -e 0/500098 '500028 500060 0'
+places -e 000000020000000000000005 '500028 500060 500098 5000C0 500150 0'
+places -e 000000020000000000000004 ' 0'
 for word in '' 500028 0/ /0 0/100000000 '0/500028 ' 00000002000000000000000f 00000002000000000000005; do
-  places "$word" 2
+  places -s "$word" ' 2'
 done
 tell

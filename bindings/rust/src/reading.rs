@@ -58,6 +58,7 @@ const DONE: u32 = 0;
 const WANTED: u32 = 14;
 const END_OF_LOG: u32 = 15;
 const DAMAGED: u32 = 16;
+const MEMORY: u32 = 5;
 
 /// The records of a folder's log. It takes no lock, and may read beside an open log. At the log's end it gives none;
 /// asked again it goes on if more was written.
@@ -139,15 +140,30 @@ impl Records {
         Ok(data)
     }
 
+    // Hands in the page that is wanted, and up to so many of its segment from there on.
+    fn hand_in(&mut self, count: u32) -> Result<(), ReadError> {
+        for n in 0..count {
+            self.read_page().map_err(ReadError::File)?;
+            if n > 0 && self.call.there == 0 {
+                break;
+            }
+            if self.ask(HAND_IN) != DONE {
+                return Err(ReadError::Memory);
+            }
+            self.call.page += 1;
+        }
+        Ok(())
+    }
+
     fn read(&mut self) -> Result<Option<Found>, ReadError> {
+        // A record is taken up anew at each page that is wanted: so twice as many are handed in each time.
+        let mut count = 1;
         loop {
             match self.ask(NEXT) {
                 DONE => break,
                 WANTED => {
-                    self.read_page().map_err(ReadError::File)?;
-                    if self.ask(HAND_IN) != DONE {
-                        return Err(ReadError::Memory);
-                    }
+                    self.hand_in(count)?;
+                    count = (2 * count).min(1024);
                 }
                 END_OF_LOG => {
                     self.end = self.call.end;
@@ -157,7 +173,7 @@ impl Records {
                     let kind = DAMAGES.get(self.call.damage as usize - 1).copied().unwrap_or("");
                     return Err(ReadError::Damaged { at: self.call.start, kind });
                 }
-                5 => return Err(ReadError::Memory),
+                MEMORY => return Err(ReadError::Memory),
                 answer => return Err(ReadError::Other(answer)),
             }
         }

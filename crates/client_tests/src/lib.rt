@@ -1,5 +1,5 @@
-//! Tests of what stands on the log beside pgwal: the map that it keeps, the log in programs that are
-//! not Rattle's, and the lister for real folders. The crate itself is empty.
+//! Tests of what stands on the log beside pgwal: the map that it keeps, the log in programs that
+//! are not Rattle's, and the lister for real folders. The crate itself is empty.
 #![tactic(auto)]
 
 #[cfg(test)]

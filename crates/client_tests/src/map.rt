@@ -1,7 +1,10 @@
 //! Maps on a disk in memory. Places and moments are those of docs/FORMATS.md: the first commit
 //! makes a segment, writes a page and syncs; each later one writes and syncs.
 
-ghost use Rattle.std.specs.Prelude.{IfOk};
+ghost use Rattle.std.specs.Prelude.{◌≡◌, IfOk};
+ghost use Rattle.machine_state.specs.Opened.{first_view};
+ghost use Rattle.wal_rule.specs.Passes.{view_of_pass};
+ghost use Rattle.wal_log.specs.Logs.{IsPassOfLog, opening_of_log};
 ghost use Rattle.durable_map.specs.Stores.{IsOpenMap};
 
 use durable_map::{ChangeErr, DurableMap, LONGEST, MapFault, MapFaultKind};
@@ -11,7 +14,7 @@ use std::alloc::Global;
 use std::sync::Wait;
 use std::test::Fail;
 use std::thread::Threads;
-use wal_log::{Cause, CommitErr, Sealed, Setup, Wal};
+use wal_log::{Cause, CommitErr, Pass, Sealed, Setup, Wal};
 use wal_types::Lsn;
 
 pub const SETUP: Setup = Setup {
@@ -73,18 +76,36 @@ fn the_last_change_wins(rt: HostRuntime) -> Result<(), Fail> {
     Ok(())
 }
 
-// A log with the commit record of a transaction.
-fn of_another_program<R: Threads + Wait + Sync>(rt: &R, alloc: Global) -> Result<MemDisk, Fail> {
+// A log to go on with, and its first pass.
+fn reopen(alloc: Global, disk: MemDisk, setup: Setup) -> Result<(Wal<MemDisk>, Pass), Fail>
+    ensures pass { IfOk result (λ r. IsPassOfLog r.0 r.1) }
+    ensures view { IfOk result (λ r. view_of_pass r.1 ≡ first_view (opening_of_log r.0)) }
+{
+    match Wal::reopen(alloc, disk, setup) {
+        Ok((log, first, _)) => Ok((log, first)),
+        Err(_) => Err(Fail::from("a log to go on with")),
+    }
+}
+
+// A map's log of one change, gone on with by the commit record of a transaction.
+fn gone_on_with<R: Threads + Wait + Sync>(rt: &R, alloc: Global) -> Result<MemDisk, Fail> {
+    let mut map = open(alloc, disk(alloc, 0)?)?;
+    if map.set(rt, b"a", bytes(alloc, b"1")?).is_err() {
+        return Err(Fail::from("a change"));
+    }
+    let closed = map.close();
     let setup = Setup { passes: 2, ..SETUP };
-    let Ok((log, mut first)) = Wal::open(alloc, disk(alloc, 0)?, setup) else {
-        return Err(Fail::from("a log"));
-    };
+    let (log, mut first) = reopen(alloc, closed.disk, setup)?;
     let mut jobs = Vec::new(alloc);
     jobs.push(Job::of(LogCall::Commit(Insertion::of(transaction(alloc, 7)?))))?;
     let mut work = Vec::new(alloc);
     work.push(jobs)?;
+    if (first.spare() as usize) < work.len() {
+        return Err(Fail::from("a spare pass"));
+    }
     work_side_by_side(rt, alloc, &log, &mut first, work, 1)?;
-    Ok(log.close(first).disk)
+    let closed = log.close(first);
+    Ok(closed.disk)
 }
 
 // A commit record of a transaction is no change: it is refused by its place, and the disk is left
@@ -92,12 +113,16 @@ fn of_another_program<R: Threads + Wait + Sync>(rt: &R, alloc: Global) -> Result
 #[test]
 fn another_programs_record_is_refused(rt: HostRuntime) -> Result<(), Fail> {
     let alloc = rt.alloc();
-    let disk = of_another_program(&rt, alloc)?;
+    let disk = gone_on_with(&rt, alloc)?;
+    let moment = disk.moment();
     let Err(MapFault { disk, kind }) = DurableMap::open(alloc, disk, SETUP) else {
         panic!(rt; "a log with another program's record");
     };
-    let at = Lsn(0x10_0028);
-    assert_eq!(rt; (kind, disk.moment()), (MapFaultKind::NoChange { at }, 3));
+    let at = Lsn(0x10_0048);
+    assert_eq!(rt;
+        (kind, disk.moment()),
+        (MapFaultKind::NoChange { at }, moment)
+    );
     Ok(())
 }
 

@@ -1,8 +1,11 @@
 -- The last of what is listed.
-use Rattle.std.proofs.Common.{◌≡◌, ℕ, ◌+◌, ◌-◌, ◌<◌, ◌≤◌, true, false, List, [], ◌∷◌, ◌++◌, length, map, drop, Option, Result, Ok, Err, ap, sym, subst, ◌∙◌, length-append, append_assoc, arith}
+use Rattle.std.proofs.Common.{◌≡◌, ℕ, ◌+◌, ◌-◌, ◌<◌, ◌≤◌, true, false, List, [], ◌∷◌, ◌++◌, length, map, drop, Option, Some, None, Result, Ok, Err, ap, sym, subst, ◌∙◌, length-append, append_assoc, arith}
 use Rattle.std.proofs.lemmas.List.{drop-append-le, drop-drop, drop-map, length-drop, length-map, map-append}
 use Rattle.std.proofs.Math.ListN.{drop_of_length-le}
 use Rattle.segment_disk.specs.Tape.{Tape}
+use Rattle.wal_types.specs.declared.lsn.Lsn.{Lsn}
+use Rattle.wal_reader.specs.declared.found.Answer.{Answer}
+use Rattle.wal_reader.specs.declared.found.FoundRecord.{FoundRecord}
 use Rattle.wal_reader.specs.declared.standing.ReadErr.TheVariants.{Memory, Disk, Stopped}
 use Rattle.waldump_filter.specs.declared.Filter.{Filter}
 use Rattle.waldump_filter.specs.declared.listed.Listed.{Listed}
@@ -10,8 +13,8 @@ use Rattle.waldump_text.specs.Put.{joined}
 use Rattle.waldump_text.specs.declared.putting.SinkFault.{SinkFault}
 use Rattle.cluster_listing.specs.Form.{record_text}
 use Rattle.cluster_listing.specs.Listing.{PutAll, PutFront}
-use Rattle.cluster_listing.specs.Tail.{IsGathered, PutsKept, kept_cut, kept_hidden, kept_put, is_shown, last_so_many, tail_text, texts_of}
-use Rattle.cluster_listing.specs.Walk.{HasWalkCause, IsWalk}
+use Rattle.cluster_listing.specs.Tail.{AreAllListed, IsGathered, PutsKept, kept_cut, kept_hidden, kept_put, is_shown, last_so_many, tail_text, texts_of}
+use Rattle.cluster_listing.specs.Walk.{EndsWalk, HasWalkCause, IsWalk}
 use Rattle.cluster_listing.specs.declared.form.Form.{Form}
 use Rattle.cluster_listing.specs.declared.taking.TakeErr.{TakeErr}
 use Rattle.cluster_listing.specs.declared.taking.TakeErr.TheVariants as taking
@@ -67,6 +70,12 @@ kept_more text_of form most first old new line before r is text was =
     ∙ last_so_many-more most past (record_text form r ∷ [])
     ∙ ap (last_so_many most) (append_assoc (map text_of first) (texts_of form before) (record_text form r ∷ []) ∙ ap (λ (ts : List (List ℕ)). map text_of first ++ ts) (sym (map-append (record_text form) before (r ∷ []))))
 
+-- a walk that ended at an end of the log, or at its limit, has all that is listed
+all_at_end : (by : Filter) (found : List FoundRecord) (told : Option Answer) (end : Option Lsn) → EndsWalk by found told end → AreAllListed by found told
+all_at_end by found (Some answer) end ends = tt
+all_at_end by found None (Some at) ends = absurd cc
+all_at_end by found None None ends = ends
+
 module _ (size : ℕ) (by : Filter) (told : List Listed → List ℕ) (t : Tape) (old new : Option (List ℕ)) (before after : ℕ) (text : List ℕ) (Took : List Listed → Type 0) (Cut : TakeErr → List Listed → Type 0)
     (kept : (records : List Listed) → Took records → text ≡ told records) (cut : (e : TakeErr) (records : List Listed) → Cut e records → e ≡ taking.Memory) where
   all_of : (records : List Listed) → Took records → PutAll old new before after text → PutAll old new before after (told records)
@@ -83,8 +92,8 @@ module _ (size : ℕ) (by : Filter) (told : List Listed → List ℕ) (t : Tape)
   shown_all (Err (errors.Take e)) shown walk all = absurd cc
 
   shown_front : (walked : Result Walked ListErr) (fault : SinkFault) → is_shown walked ≡ true → IsWalk size by t Took Cut walked → PutFront old new before after (taking.Sink fault) text → IsGathered size by told t old new before after (Err (errors.Take (taking.Sink fault)))
-  shown_front (Ok walked) fault shown walk front = record { found = walk.found; told = walk.told; decodes = walk.decodes; taken = front_of _ walk.taken fault front }
-  shown_front (Err (errors.Read (Stopped stop))) fault shown walk front = record { found = walk.found; told = _; decodes = walk.decodes; taken = front_of _ walk.taken fault front }
+  shown_front (Ok walked) fault shown walk front = record { found = walk.found; told = walk.told; decodes = walk.decodes; all = all_at_end by walk.found walk.told walked.end walk.ends; taken = front_of _ walk.taken fault front }
+  shown_front (Err (errors.Read (Stopped stop))) fault shown walk front = record { found = walk.found; told = _; decodes = walk.decodes; all = tt; taken = front_of _ walk.taken fault front }
   shown_front (Err (errors.Read Memory)) fault shown walk front = absurd cc
   shown_front (Err (errors.Read (Disk faults))) fault shown walk front = absurd cc
   shown_front (Err (errors.Take e)) fault shown walk front = absurd cc

@@ -27,7 +27,7 @@ use Rattle.waldump_text.specs.Listing.{listed_of}
 use Rattle.waldump_text.proofs.ListingLaws.{IsWithin, IsWithin-more}
 use Rattle.wal_reader.specs.declared.found.Stopped.{Stopped as LogStop}
 use Rattle.wal_reader.specs.declared.found.Stopped.TheVariants as stops
-use Rattle.cluster_listing.specs.Past.{IsLast, behind_at, end_of, gives_front, goes_on_at, goes_on_behind, page_behind, past_of, unread}
+use Rattle.cluster_listing.specs.Past.{IsLast, behind_at, end_of, gives_front, goes_on_at, goes_on_behind, page_behind, past_of, reader_by}
 use Rattle.cluster_listing.specs.declared.walking.Past.{Past}
 use Rattle.cluster_listing.specs.declared.walking.Past.TheVariants as pasts
 use Rattle.wal_reader.specs.declared.found.RecordHead.{RecordHead}
@@ -114,12 +114,12 @@ module _ (comes : Result Comes ReadErr) (said : Past) (told : Ok said ≡ past_o
 
 -- the log of a disk that tells is handed on as far as the reader has come, so many records
 abbrev pub HandsOn : Option Tape → ℕ → Filter → Reader → (List Listed → Type 0) → ℕ → Type 0
-HandsOn tape size by reader Took count = IfSome tape (λ t. Knows reader (log_of t size) × IsUnderway by (log_of t size) (unread size by) (reader_state reader) Took count)
+HandsOn tape size by reader Took count = IfSome tape (λ t. Knows reader (log_of t size) × IsUnderway by (log_of t size) (reader_by size by) (reader_state reader) Took count)
 
 module _ (size : ℕ) (by : Filter) (valid : IsSegmentSize size) where
-  pub HandsOn-none : (tape : Option Tape) (reader : Reader) → reader_state reader ≡ unread size by → ((pages : Pages) → Knows reader pages) → (Took : List Listed → Type 0) → Took [] → HandsOn tape size by reader Took 0
+  pub HandsOn-none : (tape : Option Tape) (reader : Reader) → reader_state reader ≡ reader_by size by → ((pages : Pages) → Knows reader pages) → (Took : List Listed → Type 0) → Took [] → HandsOn tape size by reader Took 0
   HandsOn-none None reader is knows Took none = tt
-  HandsOn-none (Some t) reader is knows Took none = (knows (log_of t size), subst (λ (now : ReaderState). IsUnderway by (log_of t size) (unread size by) now Took 0) (sym is) (IsUnderway-none by (log_of t size) (unread size by) Took none))
+  HandsOn-none (Some t) reader is knows Took none = (knows (log_of t size), subst (λ (now : ReaderState). IsUnderway by (log_of t size) (reader_by size by) now Took 0) (sym is) (IsUnderway-none by (log_of t size) (reader_by size by) Took none))
 
   module _ (reader : Reader) (sized : (reader_state reader).size ≡ size) where
     -- a step of it, of the log
@@ -138,13 +138,13 @@ module _ (size : ℕ) (by : Filter) (valid : IsSegmentSize size) where
     HandsOn-kept None next same f keeps_it Further further hands steps = tt
     HandsOn-kept (Some t) next same f keeps_it Further further hands steps =
         let step = step_of reader sized t next (Ok (given_as f)) steps hands.0 in
-        (step.knows, IsUnderway-kept by (log_of t size) (unread size by) (reader_state reader) Took count hands.1 (reader_state next) same f step.next keeps_it Further further)
+        (step.knows, IsUnderway-kept by (log_of t size) (reader_by size by) (reader_state reader) Took count hands.1 (reader_state next) same f step.next keeps_it Further further)
 
     pub HandsOn-passed : (tape : Option Tape) (next : Reader) (same : reader_state next ≡ record (reader_state reader) { standing = (reader_state next).standing }) (f : FoundRecord) → keeps by (listed_of f) ≡ false → HandsOn tape size by reader Took count → Steps tape reader next (Ok (given_as f)) → HandsOn tape size by next Took count
     HandsOn-passed None next same f passes hands steps = tt
     HandsOn-passed (Some t) next same f passes hands steps =
         let step = step_of reader sized t next (Ok (given_as f)) steps hands.0 in
-        (step.knows, IsUnderway-passed by (log_of t size) (unread size by) (reader_state reader) Took count hands.1 (reader_state next) same f step.next passes)
+        (step.knows, IsUnderway-passed by (log_of t size) (reader_by size by) (reader_state reader) Took count hands.1 (reader_state next) same f step.next passes)
 
     -- behind an overwritten record another reader goes on
     pub HandsOn-anew : (tape : Option Tape) (next anew : Reader) (error : ReadErr) (from : Lsn) → goes_on_at error ≡ Ok from → (reader_state reader).end ≡ end_of by → reader_state anew ≡ unbegun size from.0 (end_of by) → ((pages : Pages) → Knows anew pages) → HandsOn tape size by reader Took count → Steps tape reader next (Err error) → HandsOn tape size by anew Took count
@@ -153,11 +153,11 @@ module _ (size : ℕ) (by : Filter) (valid : IsSegmentSize size) where
         let pages = log_of t size in
         let told = overwritten_of error from goes in
         let step = step_of reader sized t next (Err (Stopped (stops.Overwritten told.0))) (subst (λ (e : ReadErr). Steps (Some t) reader next (Err e)) told.1 steps) hands.0 in
-        let on = IsUnderway-anew by pages (unread size by) (reader_state reader) Took count hands.1 told.0 step.next in
-        let sized_on = subst (λ (n : ℕ). IsUnderway by pages (unread size by) (unbegun n (page_behind told.0.0) (reader_state reader).end) Took count) sized on in
-        let ended_on = subst (λ (end : Option ℕ). IsUnderway by pages (unread size by) (unbegun size (page_behind told.0.0) end) Took count) ended sized_on in
-        let from_on = subst (λ (start : ℕ). IsUnderway by pages (unread size by) (unbegun size start (end_of by)) Took count) (sym told.2) ended_on in
-        (knows pages, subst (λ (now : ReaderState). IsUnderway by pages (unread size by) now Took count) (sym is) from_on)
+        let on = IsUnderway-anew by pages (reader_by size by) (reader_state reader) Took count hands.1 told.0 step.next in
+        let sized_on = subst (λ (n : ℕ). IsUnderway by pages (reader_by size by) (unbegun n (page_behind told.0.0) (reader_state reader).end) Took count) sized on in
+        let ended_on = subst (λ (end : Option ℕ). IsUnderway by pages (reader_by size by) (unbegun size (page_behind told.0.0) end) Took count) ended sized_on in
+        let from_on = subst (λ (start : ℕ). IsUnderway by pages (reader_by size by) (unbegun size start (end_of by)) Took count) (sym told.2) ended_on in
+        (knows pages, subst (λ (now : ReaderState). IsUnderway by pages (reader_by size by) now Took count) (sym is) from_on)
 
     module _ (Cut : TakeErr → List Listed → Type 0) where
       module _ (within : IsWithin by.limit count) where
@@ -165,7 +165,7 @@ module _ (size : ℕ) (by : Filter) (valid : IsSegmentSize size) where
         front t hands =
             let left = still reader sized t in
             let underway = hands.1 in
-            let parts = taken_front by (log_of t size) (unread size by) (reader_state reader) Took count underway within [] in
+            let parts = taken_front by (log_of t size) (reader_by size by) (reader_state reader) Took count underway within [] in
             record {
               found = underway.given ++ [];
               told = None;
@@ -179,7 +179,7 @@ module _ (size : ℕ) (by : Filter) (valid : IsSegmentSize size) where
         pub walk_ended : (tape : Option Tape) (next : Reader) (at : Lsn) → HandsOn tape size by reader Took count → Steps tape reader next (Ok (End at)) → IfSome tape (λ t. IsWalk size by t Took Cut (Ok (record { count = count; end = Some at })))
         walk_ended None next at hands steps = tt
         walk_ended (Some t) next at hands steps =
-            let all = taken_all by (log_of t size) (unread size by) (reader_state reader) Took count hands.1 within (answers.End at) tt (step_of reader sized t next (Ok (End at)) steps hands.0).next in
+            let all = taken_all by (log_of t size) (reader_by size by) (reader_state reader) Took count hands.1 within (answers.End at) tt (step_of reader sized t next (Ok (End at)) steps hands.0).next in
             record { found = hands.1.given; told = Some (answers.End at); decodes = all.0; ends = refl; count_is = all.2; taken = all.1 }
 
         -- once the limit is listed nothing more is read
@@ -188,7 +188,7 @@ module _ (size : ℕ) (by : Filter) (valid : IsSegmentSize size) where
         walk_reached (Some t) hands full =
             let left = still reader sized t in
             let underway = hands.1 in
-            let all = taken_reached by (log_of t size) (unread size by) (reader_state reader) Took count underway within [] full in
+            let all = taken_reached by (log_of t size) (reader_by size by) (reader_state reader) Took count underway within [] full in
             record { found = underway.given ++ []; told = None; decodes = underway.whole [] None (gives_front (reader_state reader) [] left.0 left.1 left.2); ends = all.2; count_is = all.1; taken = all.0 }
 
         -- where memory is wanting a front was taken
@@ -207,8 +207,8 @@ module _ (size : ℕ) (by : Filter) (valid : IsSegmentSize size) where
         walk_failed (Some t) next (Stopped stop) e told hands steps unreached =
             let last = stops_last stop e told in
             let pages = log_of t size in
-            let all = taken_all by pages (unread size by) (reader_state reader) Took count hands.1 within (answers.Stopped stop) last.1 (step_of reader sized t next (Err (Stopped stop)) steps hands.0).next in
-            subst (λ (e : ReadErr). IsWalk size by t Took Cut (Err (errors.Read e))) last.0 (record { found = hands.1.given; decodes = all.0; below_limit = limit_unlisted by pages (unread size by) (reader_state reader) Took count hands.1 unreached; taken = all.1 })
+            let all = taken_all by pages (reader_by size by) (reader_state reader) Took count hands.1 within (answers.Stopped stop) last.1 (step_of reader sized t next (Err (Stopped stop)) steps hands.0).next in
+            subst (λ (e : ReadErr). IsWalk size by t Took Cut (Err (errors.Read e))) last.0 (record { found = hands.1.given; decodes = all.0; below_limit = limit_unlisted by pages (reader_by size by) (reader_state reader) Took count hands.1 unreached; taken = all.1 })
 
       -- what takes the records fails at one
       pub walk_cut : (next : Reader) (same : reader_state next ≡ record (reader_state reader) { standing = (reader_state next).standing }) (next_sized : (reader_state next).size ≡ size) (tape : Option Tape) (f : FoundRecord) → keeps by (listed_of f) ≡ true → is_reached by.limit count ≡ false → (After : List Listed → Type 0) (e : TakeErr) → ((records more : List Listed) → Took records → Cut e (records ++ listed_of f ∷ more)) → HandsOn tape size by reader Took count
@@ -219,7 +219,7 @@ module _ (size : ℕ) (by : Filter) (valid : IsSegmentSize size) where
           let underway = hands.1 in
           let is = (step_of reader sized t next (Ok (given_as f)) steps hands.0).next in
           let left = still next next_sized t in
-          let parts = listed_behind by pages (unread size by) (reader_state reader) Took count underway (reader_state next) same f is keeps_it (IsWithin-more by.limit count unreached) [] in
+          let parts = listed_behind by pages (reader_by size by) (reader_state reader) Took count underway (reader_state next) same f is keeps_it (IsWithin-more by.limit count unreached) [] in
           record {
             found = underway.given ++ f ∷ [];
             told = None;

@@ -50,12 +50,12 @@ abbrev pub end_of : Filter → Option ℕ
 end_of by = option_map (λ (end : Lsn). end.0) by.end
 
 -- a reader by a filter, before it has begun
-abbrev pub unread : ℕ → Filter → ReaderState
-unread size by = unbegun size by.start.0 (end_of by)
+abbrev pub reader_by : ℕ → Filter → ReaderState
+reader_by size by = unbegun size by.start.0 (end_of by)
 
 -- what a disk's log gives so, from a filter's start up to its end
 abbrev pub DecodesPast : ℕ → Filter → Tape → List FoundRecord → Option Answer → Type 0
-DecodesPast size by t found told = GivesPast (log_of t size) (unread size by) found told
+DecodesPast size by t found told = GivesPast (log_of t size) (reader_by size by) found told
 
 -- where a reader goes on that has stopped, or why it does not
 abbrev pub goes_on_behind : LogStop → Result Lsn ReadErr

@@ -1,14 +1,18 @@
 -- What a listing of the last records of a disk's log puts, and how it ends.
-use Rattle.std.specs.Prelude.{◌≡◌, ℕ, ◌-◌, Bool, true, false, List, [], ◌++◌, length, drop, map, Option, Result, Ok, Err}
+use Rattle.std.specs.Prelude.{◌≡◌, ℕ, ◌-◌, Bool, true, false, List, [], ◌++◌, length, drop, map, Option, Some, None, Result, Ok, Err}
 use Rattle.segment_disk.specs.Tape.{Tape}
+use Rattle.wal_reader.specs.declared.found.Answer.{Answer}
+use Rattle.wal_reader.specs.declared.found.FoundRecord.{FoundRecord}
 use Rattle.wal_reader.specs.declared.standing.ReadErr.TheVariants as reading
 use Rattle.waldump_filter.specs.declared.Filter.{Filter}
 use Rattle.waldump_filter.specs.declared.listed.Listed.{Listed}
+use Rattle.waldump_text.specs.Listing.{IsLimitListed}
 use Rattle.waldump_text.specs.Put.{joined}
 use Rattle.waldump_text.specs.declared.putting.SinkFault.{SinkFault}
 use Rattle.cluster_listing.specs.Form.{record_text}
 use Rattle.cluster_listing.specs.Listing.{PutAll, PutFront}
-use Rattle.cluster_listing.specs.Walk.{WalksAll, WalksCut, WalksUpTo}
+use Rattle.cluster_listing.specs.Past.{DecodesPast}
+use Rattle.cluster_listing.specs.Walk.{WalksAll, WalksUpTo, records_listed}
 use Rattle.cluster_listing.specs.declared.form.Form.{Form}
 use Rattle.cluster_listing.specs.declared.tail.Tail.{Tail}
 use Rattle.cluster_listing.specs.declared.taking.TakeErr.TheVariants as errors
@@ -57,6 +61,20 @@ pub data PutsKept (old new : Option (List ℕ)) (before after : ℕ) (text : Lis
   kept_hidden : (walked : Result Walked ListErr) → is_shown walked ≡ false
       → PutAll old new before after [] → PutsKept old new before after text walked walked
 
+-- records are all that a listing has: reading ended behind them, or they reach its limit
+abbrev pub AreAllListed : Filter → List FoundRecord → Option Answer → Type 0
+AreAllListed by found (Some answer) = Unit {0}
+AreAllListed by found None = IsLimitListed by found
+
+-- of all records that are listed a front of a text is put
+pub record GathersCut (size : ℕ) (by : Filter) (t : Tape) (Cut : List Listed → Type 0)
+    : Type 0 where
+  pub found : List FoundRecord
+  pub told : Option Answer
+  pub decodes : DecodesPast size by t found told
+  pub all : AreAllListed by found told
+  pub taken : Cut (records_listed by found)
+
 -- what a sink took, by how the listing ended: a text of all records that are listed, also before a
 -- stop; a front of that where the sink failed; else nothing
 abbrev pub IsGathered : ℕ → Filter → (List Listed → List ℕ) → Tape → Option (List ℕ)
@@ -74,7 +92,7 @@ IsGathered size by text t old new before after (Err (Read (reading.Disk faults))
 IsGathered size by text t old new before after (Err (Take errors.Memory)) =
     PutAll old new before after []
 IsGathered size by text t old new before after (Err (Take (errors.Sink fault))) =
-    WalksCut size by t (λ records.
+    GathersCut size by t (λ records.
     PutFront old new before after (errors.Sink fault) (text records))
 
 -- the texts of the last of them

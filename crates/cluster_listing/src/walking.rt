@@ -140,8 +140,9 @@ fn turn_behind(turns: u64) -> Result<u64, ReadErr>
 }
 
 /// Hands the records that a filter keeps to what takes them, up to its limit. Once that many are
-/// taken, nothing is read any more. Behind an overwritten record reading goes on with the next
-/// page, as PostgreSQL's reader does (xlogreader.c, `overwrittenRecPtr`).
+/// taken, nothing is read any more. Behind an overwritten record reading goes on, as by
+/// PostgreSQL's reader (xlogreader.c, `overwrittenRecPtr`), with the first record that starts on a
+/// page behind; which record that one names before it is not checked.
 pub(crate) fn walk<D: Disk, V: TakesRecords>(
     alloc: Global,
     disk: &mut D,

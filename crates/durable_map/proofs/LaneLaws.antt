@@ -14,7 +14,7 @@ use Rattle.wal_log.specs.Sharing.{KeepEach, ShareNumbers}
 use Rattle.wal_log.specs.Standing.{KeepsPass}
 use Rattle.wal_log.proofs.Keeping.{same_pass}
 use Rattle.wal_log_laws.specs.Growing.{IsNewPass, NumberedLog, after_join, after_split, logs_of_pass, numbered_joined, numbered_log, split_off}
-use Rattle.durable_map.specs.Sharing.{AreLanesOf, ChangesLane, GivesTold, HasLogsOf, IsIdle, IsOnlyItself, IsSameLane, KeepsLanes, ShareLog, WorkOff, WorksOff, lanes_of, log_in_lane, view_in_lane}
+use Rattle.durable_map.specs.Sharing.{AreLanesOf, ChangesLane, GivesTold, HasLogsOf, IsUnasked, IsOnlyItself, IsSameLane, KeepsLanes, ShareLog, WorkOff, WorksOff, lanes_of, log_in_lane, view_in_lane}
 use Rattle.durable_map.specs.Stores.{IsPartOfLog, view_of_part}
 use Rattle.durable_map.specs.declared.asked.MapTold.{MapTold}
 use Rattle.durable_map.specs.declared.part.MapPart.{MapPart}
@@ -253,7 +253,7 @@ pub record IsDealing {D : Type 0} (wal : Wal D) (first pass : Pass) (lanes : Lis
   pub alone : ((view_of_pass pass).reserving).joined ≡ []
   pub numbers : ShareNumbers (setup_of_log wal).passes (view_of_pass pass)
       (map view_in_lane lanes)
-  pub idle : All IsIdle lanes
+  pub idle : All IsUnasked lanes
   pub new : IsNewPass (view_of_pass first) → IsNewPass (view_of_pass pass)
       × All (λ lane. IsNewPass (view_in_lane lane)) lanes
 
@@ -268,7 +268,7 @@ none_dealt wal pass lanes none of_log alone numbers =
       only = All-nil (λ (l : MapLane). IsOnlyItself (view_in_lane l));
       alone = alone;
       numbers = numbers;
-      idle = All-nil IsIdle;
+      idle = All-nil IsUnasked;
       new = λ none. (none, All-nil (λ (l : MapLane). IsNewPass (view_in_lane l)));
     })
 
@@ -286,7 +286,7 @@ pub one_dealt : NumbersSplit → ((v : View) → IsNewPass (split_off v)) → {D
     → (wal : Wal D) (first old new : Pass) (before after : List MapLane) (lane : MapLane)
     → IsDealing wal first old before → IsPassOfLog wal new
     → view_of_pass new ≡ after_split (view_of_pass old) → IsPartOfLog wal lane.part
-    → view_in_lane lane ≡ split_off (view_of_pass old) → IsIdle lane
+    → view_in_lane lane ≡ split_off (view_of_pass old) → IsUnasked lane
     → after ≡ before ++ lane ∷ [] → IsDealing wal first new after
 one_dealt split fresh wal first old new before after lane d left left_is right right_is idle are =
     let passes = (setup_of_log wal).passes in
@@ -302,7 +302,7 @@ one_dealt split fresh wal first old new before after lane d left left_is right r
           (sym (map-append view_in_lane before (lane ∷ [])
           ∙ ap (λ (v : View). map view_in_lane before ++ v ∷ []) right_is))
           (split passes (view_of_pass old) (map view_in_lane before) d.numbers));
-      idle = All-push IsIdle before lane d.idle idle;
+      idle = All-push IsUnasked before lane d.idle idle;
       new = λ none. let more = d.new none in (
         subst IsNewPass (sym left_is) (split_new (view_of_pass old) more.0),
         All-push (λ (l : MapLane). IsNewPass (view_in_lane l)) before lane more.1
@@ -311,10 +311,10 @@ one_dealt split fresh wal first old new before after lane d left left_is right r
     })
 
 pub all_dealt : {D : Type 0} → (wal : Wal D) (first pass : Pass) (before after : List MapLane)
-    (lane : MapLane) → IsDealing wal first pass before → lane.part.pass ≡ pass → IsIdle lane
+    (lane : MapLane) → IsDealing wal first pass before → lane.part.pass ≡ pass → IsUnasked lane
     → after ≡ before ++ lane ∷ []
     → ShareLog wal after × (IsNewPass (view_of_pass first)
-    → All (λ lane. IsNewPass (view_in_lane lane)) after) × All IsIdle after
+    → All (λ lane. IsNewPass (view_in_lane lane)) after) × All IsUnasked after
 all_dealt wal first pass before after lane dealt is idle are =
     let d = subst (λ (p : Pass). IsDealing wal first p before) (sym is) dealt in
     let long = ap (λ (l : List MapLane). length l) are in (
@@ -332,7 +332,7 @@ all_dealt wal first pass before after lane dealt is idle are =
       λ none. subst (All (λ lane. IsNewPass (view_in_lane lane))) (sym are)
           (All-push (λ (l : MapLane). IsNewPass (view_in_lane l)) before lane (d.new none).1
           (d.new none).0),
-      subst (All IsIdle) (sym are) (All-push IsIdle before lane d.idle idle),
+      subst (All IsUnasked) (sym are) (All-push IsUnasked before lane d.idle idle),
     )
 
 -- ---- as they are joined

@@ -1,5 +1,5 @@
 -- Changes of two lanes that were answered are in the map that the next opening gives.
-use Rattle.std.proofs.Common.{◌≡◌, ◌≢◌, ◌⊎◌, ℕ, ◌^◌, ◌+◌, ◌<◌, ◌≤◌, All, Contains, List, [], ◌∷◌, ◌++◌, length, map, take, Option, Some, None, Ok, inl, inr, refl, sym, ap, subst, ◌∙◌, arith}
+use Rattle.std.proofs.Common.{◌≡◌, ◌≢◌, ℕ, ◌^◌, ◌+◌, ◌<◌, ◌≤◌, All, Contains, List, [], ◌∷◌, ◌++◌, length, map, Option, Some, None, inl, inr, refl, sym, ap, subst, ◌∙◌, arith}
 use Rattle.std.specs.Prelude.{IsSome, IsSomeAnd}
 use Rattle.std.proofs.lemmas.Bool.{cases_eq}
 use Rattle.std.proofs.lemmas.List.{take_all}
@@ -16,17 +16,16 @@ use Rattle.wal_log.specs.declared.closing.Closed.{Closed}
 use Rattle.wal_log.specs.declared.wal.Wal.{Wal}
 use Rattle.wal_log.specs.Closing.{ClosesLog}
 use Rattle.wal_log.specs.Logs.{opening_of_log}
-use Rattle.wal_log_laws.specs.Growing.{IsFrontOf, IsNewPass, NumberedLog, logs_of_pass, numbered_log}
+use Rattle.wal_log_laws.specs.Growing.{IsFrontOf, IsNewPass, NumberedLog, numbered_log}
 use Rattle.wal_log_laws.specs.History.{order_of}
 use Rattle.wal_log_laws.specs.Lives.{PromisedRecordsStay}
-use Rattle.wal_rule.specs.Passes.{view_of_pass}
 use Rattle.durable_map.specs.Asked.{change_asked, key_of_call}
 use Rattle.durable_map.specs.Calls.{begun_in}
 use Rattle.durable_map.specs.Changes.{MapChange}
 use Rattle.durable_map.specs.History.{SharesMap, shares}
 use Rattle.durable_map.specs.Lives.{AnsweredChangesStay}
 use Rattle.durable_map.specs.Opening.{OpensMap}
-use Rattle.durable_map.specs.Sharing.{ClosesShared, IsSharedFrom, lanes_of, log_in_lane, view_in_lane}
+use Rattle.durable_map.specs.Sharing.{ClosesShared, IsSharedFrom, lanes_of, log_in_lane}
 use Rattle.durable_map.specs.Stores.{log_under, map_held, view_of_part, view_under}
 use Rattle.durable_map.specs.TwoLanes.{FindsBoth, HasWhatWasAsked, IsOfEither, MadeAlone, MadeByTwo}
 use Rattle.durable_map.specs.Weaving.{AreAllLanes, HasItsOwn, HasItsPlace, IsLane, LaneCalls, LogsWeaveLanes, PassChange, WasAnsweredInLane, WeavesLanes, changes_in, changes_under, log_of_lane, number_of_lane}

@@ -1,17 +1,17 @@
 -- What lanes began of which two made a call each.
-use Rattle.std.proofs.Common.{◌≡◌, ◌≢◌, ◌⊎◌, ℕ, zero, suc, ◌<◌, All, Contains, List, [], ◌∷◌, ◌++◌, length, map, Option, Some, None, Ok, Err, inl, inr, refl, sym, ap, ◌∙◌, subst, arith}
-use Rattle.std.specs.Prelude.{IsSomeAnd, MatchOption, slice_index_or, slice_set}
+use Rattle.std.proofs.Common.{◌≡◌, ◌≢◌, ◌⊎◌, ℕ, zero, suc, ◌<◌, All, List, [], ◌∷◌, ◌++◌, length, map, Option, Some, None, Ok, Err, inl, inr, refl, sym, ap, ◌∙◌, subst, arith}
+use Rattle.std.specs.Prelude.{IsSomeAnd, MatchOption, slice_index_or}
 use Rattle.std.proofs.Math.Seq.{map-set_same}
 use Rattle.std.proofs.lemmas.List.{append-nil, get_or-set_other, get_or-set_same, get_or_default, length-map, length-set}
 use Rattle.std.proofs.lemmas.List.Elements.{All-append, All-cons, All-head, All-nil, All-set, All-tail, Contains-get_or}
 use Rattle.wal_types.specs.declared.answers.Sealed.{Sealed}
 use Rattle.wal_types.specs.declared.lsn.Lsn.{Lsn}
 use Rattle.wal_log.specs.declared.wal.Wal.{Wal}
-use Rattle.durable_map.specs.Asked.{AreTold, IsAnsweredOk, TellsPart, change_asked, changes_of_call, changes_told, key_of_call}
+use Rattle.durable_map.specs.Asked.{AreTold, IsAnsweredOk, change_asked, changes_of_call, changes_told, key_of_call}
 use Rattle.durable_map.specs.Calls.{LeadTo, begun_at, begun_in}
 use Rattle.durable_map.specs.Changes.{MapChange}
 use Rattle.durable_map.specs.Dealing.{lane_of_key}
-use Rattle.durable_map.specs.Sharing.{ChangesLane, GivesTold, HasCall, IsIdle, KeepsLanes, WorkOff, WorksOff, lanes_of}
+use Rattle.durable_map.specs.Sharing.{ChangesLane, GivesTold, HasCall, IsUnasked, KeepsLanes, WorkOff, WorksOff, lanes_of}
 use Rattle.durable_map.specs.TwoLanes.{IsOfEither, MadeAlone, MadeByTwo}
 use Rattle.durable_map.specs.Weaving.{LaneCalls}
 use Rattle.durable_map.specs.declared.asked.MapCall.{MapCall}
@@ -184,7 +184,7 @@ pub record IsLeft (one other : MapCall) (lane : MapLane) : Type 0 where
   pub either : All (IsEither one other) (lane.calls).items
   pub not_told : (lane.told).items ≡ []
 
-idle_left : (one other : MapCall) (lane : MapLane) → IsIdle lane → IsLeft one other lane
+idle_left : (one other : MapCall) (lane : MapLane) → IsUnasked lane → IsLeft one other lane
 idle_left one other lane idle = record {
   either = subst (All (IsEither one other)) (sym idle.no_calls) (All-nil (IsEither one other));
   not_told = idle.not_told;
@@ -224,7 +224,7 @@ same_parts i So old new c same = ap (λ (ls : List MapLane). map part_in_lane ls
 
 module _ {D : Type 0} (wal : Wal D) (one other : MapCall) (i j : ℕ) (apart : i ≢ j)
     (s0 s1 s2 s3 s4 s5 : SharedMap D) (told_one told_other : MapTold)
-    (idle : All IsIdle (lanes_of s0))
+    (idle : All IsUnasked (lanes_of s0))
     (ask_one : ChangesLane i (HasCall one) s0 s1)
     (ask_other : ChangesLane j (HasCall other) s1 s2)
     (work : WorkOff wal (lanes_of s2) (lanes_of s3))
@@ -439,7 +439,7 @@ given (Some told) None_ Some_ ok tells = (told, ok, tells)
 
 pub made_both : {D : Type 0} → (one other : MapCall) (i j : ℕ)
     (s0 s1 s2 s3 s4 s5 : SharedMap D) (told_one told_other : Option MapTold)
-    → i ≢ j → All IsIdle (lanes_of s0)
+    → i ≢ j → All IsUnasked (lanes_of s0)
     → ChangesLane i (HasCall one) s0 s1
     → i ≡ lane_of_key (length (lanes_of s0)) (key_of_call one)
     → ChangesLane j (HasCall other) s1 s2

@@ -56,7 +56,7 @@ abbrev pub IsSharedMap : {D : Type 0} → SharedMap D → Type 0
 IsSharedMap shared = ShareLog shared.log (lanes_of shared)
 
 -- no call is left with a lane, and it was told nothing
-pub record IsIdle (lane : MapLane) : Type 0 where
+pub record IsUnasked (lane : MapLane) : Type 0 where
   pub no_calls : (lane.calls).items ≡ []
   pub not_told : (lane.told).items ≡ []
 
@@ -64,7 +64,7 @@ pub record IsIdle (lane : MapLane) : Type 0 where
 -- no lane's has
 pub record IsSharedFrom {D : Type 0} (single : DurableMap D) (shared : SharedMap D) : Type 0 where
   pub log : shared.log ≡ log_under single
-  pub idle : All IsIdle (lanes_of shared)
+  pub idle : All IsUnasked (lanes_of shared)
   pub new : IsNewPass (view_under single)
       → All (λ lane. IsNewPass (view_in_lane lane)) (lanes_of shared)
 

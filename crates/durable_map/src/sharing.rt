@@ -11,7 +11,7 @@ ghost use Rattle.wal_log.specs.Sharing.{ShareNumbers};
 ghost use Rattle.wal_log_laws.specs.Growing.{IsNewPass};
 ghost use Rattle.durable_map.specs.Asked.{key_of_call};
 ghost use Rattle.durable_map.specs.Dealing.{lane_of_key};
-ghost use Rattle.durable_map.specs.Sharing.{AreLanesOf, ChangesLane, ClosesShared, GivesTold, HasCall, HasLogsOf, IsIdle, IsSameLane, IsSharedFrom, IsSharedMap, KeepsLanes, MakesItsCalls, ShareLog, WorkOff, WorksOff, lanes_of, view_in_lane};
+ghost use Rattle.durable_map.specs.Sharing.{AreLanesOf, ChangesLane, ClosesShared, GivesTold, HasCall, HasLogsOf, IsUnasked, IsSameLane, IsSharedFrom, IsSharedMap, KeepsLanes, MakesItsCalls, ShareLog, WorkOff, WorksOff, lanes_of, view_in_lane};
 ghost use Rattle.durable_map.specs.declared.sharing.MapLane.{MapLane};
 ghost use Rattle.durable_map.specs.Stores.{IsOpenMap, IsPartOfLog};
 
@@ -50,7 +50,7 @@ pub struct SharedMap<D: Disk> {
 impl MapLane {
     fn of(part: MapPart) -> MapLane
         ensures part { result.part ≡ part }
-        ensures idle { IsIdle result }
+        ensures idle { IsUnasked result }
     {
         MapLane {
             calls: Vec::new(part.alloc),
@@ -176,7 +176,7 @@ fn split_lanes<D: Disk>(
     requires spare { vec_len dealt ≤ pass.spare_end - pass.spare + 1 }
     requires some { 0 < vec_len dealt }
     ensures lanes { IfOk result (λ lanes. ShareLog log.now lanes.items) }
-    ensures idle { IfOk result (λ lanes. All IsIdle lanes.items) }
+    ensures idle { IfOk result (λ lanes. All IsUnasked lanes.items) }
     ensures new { IfOk result (λ lanes. IsNewPass (view_of_pass pass)
         → All (λ lane. IsNewPass (view_in_lane lane)) lanes.items) }
 {

@@ -4,7 +4,7 @@
 ghost use Rattle.std.specs.Prelude.{◌≡◌, All, IfSome, IsSome, IsSomeAnd, IsTrue};
 ghost use Rattle.flush_core.specs.Pages.{HoldsNothing};
 ghost use Rattle.durable_map.specs.Asked.{IsAnsweredOk};
-ghost use Rattle.durable_map.specs.Sharing.{IsIdle, IsSharedMap, lanes_of};
+ghost use Rattle.durable_map.specs.Sharing.{IsUnasked, IsSharedMap, lanes_of};
 ghost use Rattle.durable_map.specs.TwoLanes.{FindsBoth, MadeByTwo};
 
 use crate::asked::{MapCall, MapTold};
@@ -61,7 +61,7 @@ fn make_both<D: Disk + Send, R: Threads + Wait + Sync>(
     other: MapCall,
 ) -> bool
     requires kept { IsSharedMap shared.old }
-    requires idle { All IsIdle (lanes_of shared.old) }
+    requires idle { All IsUnasked (lanes_of shared.old) }
     ensures kept { IsSharedMap shared.new }
     ensures log { shared.new.log ≡ shared.old.log }
     ensures made { IsTrue result → MadeByTwo shared.old.log one other (lanes_of shared.old)

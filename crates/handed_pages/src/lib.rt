@@ -1,8 +1,8 @@
-//! A log that is read from pages which somebody else hands in: for a program that links the library,
-//! which opens no file.
+//! A log that is read from pages which somebody else hands in, for a program that links the
+//! library, which opens no file.
 //!
-//! `page` is a page as it was handed in, `pages` the disk of those that are held, and `reading` reads
-//! a log's records from it. `host_log` names the log, and `laws` says what was read of it.
+//! `page` is a page as it was handed in, `pages` the disk of those that are held, and `reading`
+//! reads a log's records from it. `host_log` names the log, and `laws` says what was read of it.
 #![tactic(auto)]
 
 mod host_log;

@@ -7,11 +7,12 @@ use byte_position::{Geometry, PAGE_SIZE, Page};
 use segment_disk::PageBytes;
 use wal_types::Lsn;
 
-/// Which page of which segment.
+/// Which page of 8,192 bytes of which segment.
 #[derive(Clone, Copy, Debug, PartialEq, Eq)]
 pub struct PageNumber {
+    /// The segment's number: its first address divided by its size.
     pub segment: u64,
-    /// Its number in its segment.
+    /// The page's number in it, from 0.
     pub page: u32,
 }
 

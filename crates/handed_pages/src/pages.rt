@@ -65,7 +65,7 @@ impl<L: HostLog> HandedPages<L> {
         self.pages.clear();
     }
 
-    /// Which page a read wanted that failed last.
+    /// Which page the last call that failed was about.
     pub fn wanted(&self) -> Option<PageNumber>
         ensures { handed_faults self.now ≢ 0 → IsTrue (is_some result) }
     {

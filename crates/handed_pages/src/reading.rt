@@ -1,6 +1,7 @@
 // A log's records, read one behind another from an address on. A read that wants a page leaves the
-// reader where it stands, so it goes on there once the page was handed in. Pages below the record
-// being read are forgotten: what is held is one record's pages.
+// reader before its record, which is taken up anew once the page was handed in: who hands in twice
+// as many pages each time spares most of it. Pages below the record being read are forgotten: what
+// is held is one record's pages, and those handed in ahead.
 ghost use Rattle.std.specs.Prelude.{◌≡◌, ℕ, [], List, IfOk, option_map};
 ghost use Rattle.wal_reader.specs.declared.found.FoundRecord.{FoundRecord};
 
@@ -18,7 +19,8 @@ use wal_types::Lsn;
 pub enum NextRecord {
     /// The next record.
     Record(FoundRecord),
-    /// The log ends here. Asked again, all pages are wanted anew: it may go on there by then.
+    /// The log ends here. Asked again, all pages are wanted anew, since it may go on by then; the
+    /// clauses speak of one log, and not of one that grew on a page that was read.
     End { at: Lsn },
     /// This page has to be handed in, or that the log has none such. Asked again it goes on.
     Wants(PageNumber),

@@ -22,12 +22,11 @@ use segment_disk::Disk;
 use segment_files::{Access, FileDisk};
 use sharing::share;
 use std::alloc::Global;
-use std::io;
 use std::io::{BufRead, BufReader, BufWriter, Write};
-use std::process;
 use std::process::ExitCode;
 use std::sync::Wait;
 use std::thread::Threads;
+use std::{io, process};
 use telling::tell;
 use trouble::PgmapErr;
 use wal_log::Setup;
@@ -103,7 +102,14 @@ fn obey<D: Disk, R: Wait>(
     let lines = BufReader::new(alloc, rt.reader())?.split(alloc, b'\n');
     for (index, line) in lines.enumerate() {
         let line = line?;
-        obey_line(waiting, alloc, &mut out, map, index as u64 + 1, line.as_slice())?;
+        obey_line(
+            waiting,
+            alloc,
+            &mut out,
+            map,
+            index as u64 + 1,
+            line.as_slice(),
+        )?;
     }
     Ok(())
 }

@@ -1,7 +1,7 @@
 //! A commit as C makes it: appended, flushed, its calls made, and told. The place and the moment
 //! are those of docs/FORMATS.md: a log's first record starts behind the long header of its first
-//! page, and its flush makes a segment, writes a page and syncs. A reader wants a page, and ends where
-//! there is none.
+//! page, and its flush makes a segment, writes a page and syncs. A reader wants a page, and ends
+//! where there is none.
 
 use crate::answers::{BEHIND, DONE, END_OF_LOG, WANTED};
 use crate::disk_handle::{ACKNOWLEDGE, CREATE, DiskCall, DiskHandle, SYNC, TAKE, WRITE, call_disk};
