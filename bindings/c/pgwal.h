@@ -54,7 +54,7 @@
   X(PGWAL_QUEUE, 13, "the queue has no room: the disk's calls have to be made first")           \
   X(PGWAL_WANTED, 14, "a page of the log has to be handed in")                                  \
   X(PGWAL_END, 15, "the log ends")                                                              \
-  X(PGWAL_DAMAGED, 16, "the log stops as none ends")                                            \
+  X(PGWAL_DAMAGED, 16, "the log is damaged there, or has a record that is not read")            \
   X(PGWAL_FOLDER, 100, "the folder cannot be made or opened")                                   \
   X(PGWAL_LOCKED, 101, "another program has the folder")                                        \
   X(PGWAL_THERE, 102, "the folder has a log already")
@@ -455,7 +455,7 @@ typedef struct {
   const char *damage;         /* at DAMAGED: which, met at `start` */
 } pgwal_found;
 
-/* Lets go what a reader holds, but for some 1000 bytes of its handle, which are never freed. */
+/* Lets go what a reader holds, but for its handle, which is never freed. */
 static inline void pgwal_read_end(pgwal_reader *reader) {
   reader->call.asked = PGWAL_ASK_CLOSE;
   if (reader->handle) pgwal_reader_call(reader->handle, &reader->call);

@@ -28,7 +28,7 @@ pub struct Found {
 /// Why no record was read.
 #[derive(Debug)]
 pub enum ReadError {
-    /// The log stops at this address as none ends. It is told again from then on.
+    /// The log is damaged at this address, or has a record there that is not read. It is told again from then on.
     Damaged { at: u64, kind: &'static str },
     /// A file could not be read.
     File(io::Error),
