@@ -18,6 +18,8 @@ mod finding;
 #[cfg(test)]
 mod folders;
 #[cfg(test)]
+mod generated;
+#[cfg(test)]
 mod listing;
 #[cfg(test)]
 mod pages;

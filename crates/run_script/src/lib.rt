@@ -7,8 +7,6 @@ mod blocks;
 mod fields;
 pub mod generated_laws;
 mod generated_records;
-#[cfg(test)]
-mod generated_sizes;
 mod generating;
 mod hexadecimal;
 mod images;

@@ -1,5 +1,6 @@
-use crate::generating::generate;
-use crate::line::{Action, Line};
+//! The sizes of generated records.
+
+use run_script::{Action, Line, generate};
 use std::alloc::{AllocError, Global};
 use std::test::Fail;
 
