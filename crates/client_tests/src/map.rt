@@ -159,10 +159,11 @@ fn the_longest_are_kept(rt: HostRuntime) -> Result<(), Fail> {
     assert_eq!(rt; map.set(&rt, b"a", longer), Err(ChangeErr::TooLong));
     let closed = map.close();
     let again = open(alloc, closed.disk)?;
-    assert_eq!(rt;
-        again.get(key.as_slice()).map(|value| value.len()),
-        Some(LONGEST)
-    );
+    let length = match again.get(key.as_slice()) {
+        Some(value) => value.len(),
+        None => 0,
+    };
+    assert_eq!(rt; length, LONGEST);
     Ok(())
 }
 

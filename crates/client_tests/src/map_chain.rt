@@ -18,7 +18,7 @@ const LIVES: u32 = 100;
 type Plain = [u8; 8];
 
 // The map behind a change that was begun, and the moment at which this was answered.
-#[derive(Clone, Copy, Debug)]
+#[derive(Clone, Copy)]
 struct Behind {
     moment: u64,
     plain: Plain,
@@ -110,6 +110,15 @@ fn change_some<R: Abort + Wait>(
     Ok(maps)
 }
 
+// Whether a map is one of these, from the last one on that was answered by a moment.
+fn may_be_found(maps: &[Behind], moment: u64, found: Plain) -> bool {
+    let mut may_be = false;
+    for behind in maps {
+        may_be = behind.plain == found || may_be && behind.moment > moment;
+    }
+    may_be
+}
+
 // A life: what a crash left is the map behind some change, and no answer by the crash's moment is
 // of a later one.
 fn live_on<R: Abort + Wait>(
@@ -120,7 +129,7 @@ fn live_on<R: Abort + Wait>(
 ) -> Result<MemDisk, Fail> {
     let mut map = open(alloc, disk)?;
     let maps = change_some(rt, alloc, &mut map, random)?;
-    assert_eq!(rt; Some(plain_of(&map)), maps.last().map(|last| last.plain));
+    assert!(rt; matches!(maps.last(), Some(last) if last.plain == plain_of(&map)));
     let disk = map.close().disk;
     let moment = next(random, disk.moment().saturating_add(1).max(1));
     let pick = match next(random, 3) {
@@ -128,11 +137,8 @@ fn live_on<R: Abort + Wait>(
         1 => Pick::Odd,
         _ => Pick::New,
     };
-    let answered = maps.iter().filter(|behind| behind.moment <= moment).count();
     let again = open(alloc, disk.crash(alloc, moment, pick)?)?;
-    let found = plain_of(&again);
-    let may_be = maps.iter().skip(answered.saturating_sub(1));
-    assert!(rt; may_be.into_iter().any(|behind| behind.plain == found));
+    assert!(rt; may_be_found(maps.as_slice(), moment, plain_of(&again)));
     Ok(again.close().disk)
 }
 

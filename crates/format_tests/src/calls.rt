@@ -1,4 +1,4 @@
-//! What calls of a disk have in common in tests: segments of 1 MiB.
+//! What tests have in common: segments of 1 MiB.
 ghost use Rattle.std.specs.Prelude.{◌≡◌};
 
 use byte_position::Geometry;

@@ -103,7 +103,7 @@ fn written(alloc: Global) -> Result<MemDisk, Memory> {
 }
 
 /// A pick; a list has so many zeros before these numbers.
-#[derive(Clone, Copy, Debug)]
+#[derive(Clone, Copy)]
 enum Left {
     Old,
     New,
@@ -176,13 +176,9 @@ static CRASHES: &[(u64, Left, Call, Answer)] = &[
 fn crashes_leave_what_is_picked(rt: HostRuntime) -> Result<(), Fail> {
     let alloc = rt.alloc();
     let disk = written(alloc)?;
-    for (moment, left, call, answer) in CRASHES {
+    for (row, (moment, left, call, answer)) in CRASHES.iter().enumerate() {
         let mut crashed = disk.crash(alloc, *moment, pick(alloc, *left)?)?;
-        assert_eq!(rt;
-            answer_of(&mut crashed, *call),
-            *answer,
-            "{moment} {left:?} {call:?}"
-        );
+        assert_eq!(rt; answer_of(&mut crashed, *call), *answer, "row {row}");
     }
     Ok(())
 }

@@ -52,7 +52,7 @@ fn segments_are_files_of_a_folder(rt: HostRuntime) -> Result<(), Fail> {
     Ok(())
 }
 
-#[derive(Clone, Copy, Debug)]
+#[derive(Clone, Copy)]
 enum Who {
     Writer,
     Syncer,
@@ -115,13 +115,13 @@ fn objects_share_a_folder(rt: HostRuntime) -> Result<(), Fail> {
     let mut writer = FileDisk::open(rt, alloc, folder.as_str(), 7, Access::Write)?;
     let mut syncer = FileDisk::open(rt, alloc, folder.as_str(), 8, Access::Sync)?;
     let mut reader = FileDisk::open(rt, alloc, folder.as_str(), 9, Access::Read)?;
-    for (who, call, answer) in SHARED {
+    for (row, (who, call, answer)) in SHARED.iter().enumerate() {
         let told = match who {
             Who::Writer => answer_of(&mut writer, *call),
             Who::Syncer => answer_of(&mut syncer, *call),
             Who::Reader => answer_of(&mut reader, *call),
         };
-        assert_eq!(rt; told, *answer, "{who:?} {call:?}");
+        assert_eq!(rt; told, *answer, "row {row}");
     }
     assert_eq!(rt;
         (writer.faults(), reader.faults(), reader.moment()),

@@ -1,6 +1,6 @@
 //! Logs that are found and judged, and settled.
+use crate::calls::smallest;
 use crate::pages::FIRST_HEADER;
-use crate::placing::smallest;
 use crate::reading::{Scene, TORN, TWO_COMMITS, disk_of};
 use byte_position::Geometry;
 use found_log::{FindFault, FoundLog, find, find_and_settle};

@@ -3,7 +3,7 @@
 ghost use Rattle.std.specs.Prelude.{IfOk};
 ghost use Rattle.waldump_text.specs.Listing.{IsListable};
 
-use crate::placing::smallest;
+use crate::calls::smallest;
 use crate::reading::{CROSSING, Scene, disk_of};
 use segment_disk::MemSink;
 use std::alloc::{AllocError, Global};
@@ -83,7 +83,7 @@ fn counted(
 #[test]
 fn nothing_is_read_behind_a_limit(rt: HostRuntime) -> Result<(), Fail> {
     let alloc = rt.alloc();
-    for (limit, failing, is_needed) in LIMITS {
+    for (row, (limit, failing, is_needed)) in LIMITS.iter().enumerate() {
         for asked in 0..4 {
             let wanted = if *is_needed {
                 Err(DumpErr::Read(ReadErr::Disk { faults: 1 }))
@@ -91,7 +91,7 @@ fn nothing_is_read_behind_a_limit(rt: HostRuntime) -> Result<(), Fail> {
                 Ok(*limit)
             };
             let counted = counted(alloc, *limit, failing, asked)?;
-            assert_eq!(rt; counted, wanted, "{limit} {failing:?} {asked}");
+            assert!(rt; counted == wanted, "row {row}, asked for {asked}");
         }
     }
     Ok(())

@@ -1,5 +1,5 @@
 //! Checks of a page.
-use crate::placing::smallest;
+use crate::calls::smallest;
 use byte_position::Page;
 use wal_page::{PageErr, PageInfo, check_page};
 use wal_types::Lsn;

@@ -1,9 +1,9 @@
 //! The words of a record at its place, with those of the page headers that it owns.
 ghost use Rattle.std.specs.Prelude.{◌≡◌, ◌+◌, ◌*◌};
 
+use crate::calls::smallest;
 use crate::pages::FIRST_HEADER;
 use crate::rows::{COMMIT, Filled, RECORD, RecordRow, record_of};
-use byte_position::Geometry;
 use std::process::Abort;
 use std::test::Fail;
 use wal_page::{Placed, header_word};
@@ -14,16 +14,6 @@ pub(crate) const SYSTEM_ID: u64 = 0x0123_4567_89ab_cdef;
 
 // The byte position of segment 1's first record, where segments have 1 MiB.
 const FIRST: u64 = 128 * 8168 - 16;
-
-/// Segments of 1 MiB.
-pub(crate) fn smallest() -> Geometry
-    ensures { result ≡ 1048576 }
-{
-    match Geometry::new(1 << 20) {
-        Some(geometry) => geometry,
-        None => unreachable!(),
-    }
-}
 
 /// A record in segment 1, behind others of so many words.
 pub(crate) fn placed<'a>(body: &'a Body<'a>, words: u16, prev: Lsn) -> Placed<'a>

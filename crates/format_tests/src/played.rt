@@ -6,7 +6,7 @@ use segment_disk::{Disk, Failed};
 use std::process::Abort;
 
 /// A call of a disk: its segment, which of its pages below 128, the byte that fills the page.
-#[derive(Clone, Copy, Debug)]
+#[derive(Clone, Copy)]
 pub(crate) enum Call {
     Create(u8),
     Write(u8, u8, u8),
@@ -48,8 +48,8 @@ fn words_of(disk: &mut impl Disk, segment: u8, page: u32) -> Answer
 
 /// Makes the calls one behind another, and compares their answers.
 pub(crate) fn play(rt: &impl Abort, disk: &mut impl Disk, calls: &[(Call, Answer)]) {
-    for (call, answer) in calls {
-        assert_eq!(rt; answer_of(disk, *call), *answer, "{call:?}");
+    for (row, (call, answer)) in calls.iter().enumerate() {
+        assert_eq!(rt; answer_of(disk, *call), *answer, "row {row}");
     }
 }
 

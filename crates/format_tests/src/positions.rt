@@ -1,6 +1,6 @@
 //! Sizes and names of segments, and positions round headers.
+use crate::calls::smallest;
 use byte_position::{Geometry, address_by_counting};
-use std::test::Fail;
 use wal_types::Lsn;
 
 #[test]
@@ -19,8 +19,8 @@ fn segment_sizes_are_powers_of_two_in_range(rt: HostRuntime) {
 }
 
 #[test]
-fn file_names_part_the_number(rt: HostRuntime) -> Result<(), Fail> {
-    let geometry = Geometry::new(1_048_576).ok_or("1 MiB is a segment's size")?;
+fn file_names_part_the_number(rt: HostRuntime) {
+    let geometry = smallest();
     assert_eq!(rt; geometry.pages(), 128);
     for (segment, name) in [
         (1, *b"000000010000000000000001"),
@@ -29,7 +29,6 @@ fn file_names_part_the_number(rt: HostRuntime) -> Result<(), Fail> {
     ] {
         assert_eq!(rt; geometry.file_name(segment), name, "segment {segment}");
     }
-    Ok(())
 }
 
 // The log's first byte position: behind the 128 pages of segment 0, each with 8168 bytes that are
@@ -47,8 +46,8 @@ static ADDRESSES: &[(u32, u64, u64)] = &[
 ];
 
 #[test]
-fn what_fills_a_page_ends_at_its_end(rt: HostRuntime) -> Result<(), Fail> {
-    let geometry = Geometry::new(1_048_576).ok_or("1 MiB is a segment's size")?;
+fn what_fills_a_page_ends_at_its_end(rt: HostRuntime) {
+    let geometry = smallest();
     for (position, end, start) in ADDRESSES {
         let far = u64::from(*position);
         let addresses = [
@@ -58,26 +57,23 @@ fn what_fills_a_page_ends_at_its_end(rt: HostRuntime) -> Result<(), Fail> {
         ];
         assert_eq!(rt; addresses, [*end, *start, *start], "{position}");
     }
-    Ok(())
 }
 
-static POSITIONS: &[(u64, Option<u32>)] = &[
-    (0x10_0000, Some(FIRST)),
+static POSITIONS: &[(u64, Option<u64>)] = &[
+    (0x10_0000, Some(FIRST as u64)),
     (0x10_0001, None),
     (0x10_0027, None),
-    (0x10_0028, Some(FIRST)),
-    (0x10_0029, Some(FIRST + 1)),
-    (0x10_2000, Some(FIRST + 8152)),
+    (0x10_0028, Some(FIRST as u64)),
+    (0x10_0029, Some(FIRST as u64 + 1)),
+    (0x10_2000, Some(FIRST as u64 + 8152)),
     (0x10_2017, None),
-    (0x10_2018, Some(FIRST + 8152)),
+    (0x10_2018, Some(FIRST as u64 + 8152)),
 ];
 
 #[test]
-fn addresses_inside_headers_have_no_position(rt: HostRuntime) -> Result<(), Fail> {
-    let geometry = Geometry::new(1_048_576).ok_or("1 MiB is a segment's size")?;
+fn addresses_inside_headers_have_no_position(rt: HostRuntime) {
+    let geometry = smallest();
     for (address, position) in POSITIONS {
-        let position = position.map(u64::from);
-        assert_eq!(rt; geometry.of_lsn(Lsn(*address)), position, "{address}");
+        assert_eq!(rt; geometry.of_lsn(Lsn(*address)), *position, "{address}");
     }
-    Ok(())
 }

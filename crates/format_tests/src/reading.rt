@@ -1,5 +1,6 @@
 //! Reading a log record by record.
-use crate::placing::{placed, smallest};
+use crate::calls::smallest;
+use crate::placing::placed;
 use crate::rows::{COMMIT, Filled, RECORD, RecordRow, record_of};
 use byte_position::Page;
 use segment_disk::{Disk, MemDisk};
@@ -43,7 +44,7 @@ fn put_word(page: &mut Page, lsn: Lsn, word: u64) {
 
 /// What a step tells. Of a record: its start, its end and the start of the one before, its size,
 /// its transaction and its manager.
-#[derive(Clone, Copy, Debug, PartialEq, Eq)]
+#[derive(Clone, Copy, PartialEq, Eq)]
 pub(crate) enum Told {
     Record([u64; 3], u32, u32, u8),
     End(u64),
@@ -75,7 +76,7 @@ pub(crate) struct Scene {
     pub(crate) changed: Option<(u8, u8)>,
     pub(crate) pages: u8,
     pub(crate) start: u64,
-    pub(crate) end: Option<u64>,
+    pub(crate) end: Option<Lsn>,
     pub(crate) failing: &'static [u64],
     pub(crate) told: &'static [Told],
 }
@@ -153,7 +154,7 @@ static SCENES: &[Scene] = &[
         ..TWO_COMMITS
     },
     Scene {
-        end: Some(0x10_0050),
+        end: Some(Lsn(0x10_0050)),
         told: &[FIRST_COMMIT, Told::End(0x10_0050)],
         ..TWO_COMMITS
     },
@@ -216,9 +217,9 @@ pub(crate) fn disk_of(alloc: Global, scene: &Scene) -> Result<MemDisk, Fail> {
 }
 
 fn read(rt: &impl Abort, alloc: Global, disk: &mut MemDisk, scene: &Scene) {
-    let mut reader = Reader::new(smallest(), Lsn(scene.start), scene.end.map(Lsn));
-    for step in scene.told {
-        assert_eq!(rt; told_by(reader.next(alloc, disk)), *step);
+    let mut reader = Reader::new(smallest(), Lsn(scene.start), scene.end);
+    for (number, step) in scene.told.iter().enumerate() {
+        assert!(rt; told_by(reader.next(alloc, disk)) == *step, "step {number}");
     }
 }
 

@@ -1,5 +1,5 @@
 //! Redo of a log's page images, whose puts fail one by one.
-use crate::placing::smallest;
+use crate::calls::smallest;
 use crate::reading::{Scene, TWO_COMMITS, disk_of};
 use crate::rows::{BLOCK, BlockRow, Filled, ImageRow, RECORD, RecordRow};
 use std::test::Fail;
@@ -58,14 +58,17 @@ const IMAGES: Scene = Scene {
 
 // The block at a place: its number, its page's first byte, and how many of the page's bytes are not
 // 0.
-fn filled(store: &MemBlocks, place: usize) -> Option<(u32, u8, usize)> {
+fn filled(store: &MemBlocks, place: usize) -> Option<(u32, u8, u32)> {
     let (block, page) = store.at(place)?;
-    let count = page.iter().filter(|byte| **byte != 0).count();
+    let mut count = 0u32;
+    for byte in page {
+        count = count.saturating_add(u32::from(*byte != 0));
+    }
     Some((block.blk, page[0], count))
 }
 
 // The put that fails, and what the last block is then.
-static FAILING: &[(u64, usize, Option<(u32, u8, usize)>)] = &[
+static FAILING: &[(u64, usize, Option<(u32, u8, u32)>)] = &[
     (1, 0, None),
     (2, 1, Some((7, 0x5a, 192))),
     (3, 2, Some((7, 0x5a, 192))),

@@ -3,7 +3,7 @@ use std::alloc::{AllocError, Global};
 use wal_types::{Block, BlockList, Bytes, Image, Record, Rel, Xid};
 
 /// Bytes: some, and behind them so many of one.
-#[derive(Clone, Copy, Debug)]
+#[derive(Clone, Copy)]
 pub(crate) struct Filled(pub(crate) &'static [u8], pub(crate) u8, pub(crate) usize);
 
 pub(crate) const NO_BYTES: Filled = Filled(b"", 0, 0);
@@ -31,14 +31,14 @@ pub(crate) fn joined(alloc: Global, pieces: &[Filled]) -> Result<Vec<u8>, AllocE
 }
 
 /// An image: where its hole begins, how long that is, and the bytes around it.
-#[derive(Clone, Copy, Debug)]
+#[derive(Clone, Copy)]
 pub(crate) struct ImageRow {
     pub(crate) apply: bool,
     pub(crate) hole: (u16, u16),
     pub(crate) bytes: Filled,
 }
 
-#[derive(Clone, Copy, Debug)]
+#[derive(Clone, Copy)]
 pub(crate) struct BlockRow {
     pub(crate) id: u8,
     pub(crate) rel: Rel,
@@ -63,13 +63,13 @@ pub(crate) const BLOCK: BlockRow = BlockRow {
     image: None,
 };
 
-#[derive(Clone, Copy, Debug)]
+#[derive(Clone, Copy)]
 pub(crate) struct RecordRow {
     pub(crate) xid: u32,
     pub(crate) rmid: u8,
     pub(crate) info: u8,
     pub(crate) origin: Option<u16>,
-    pub(crate) top_xid: Option<u32>,
+    pub(crate) top_xid: Option<Xid>,
     pub(crate) blocks: &'static [BlockRow],
     pub(crate) main: Filled,
 }
@@ -126,7 +126,7 @@ pub(crate) fn record_of(alloc: Global, row: &RecordRow) -> Result<Record, AllocE
         rmid: row.rmid,
         info: row.info,
         origin: row.origin,
-        top_xid: row.top_xid.map(Xid),
+        top_xid: row.top_xid,
         blocks: BlockList::of(blocks),
         main: row.main.to_bytes(alloc)?,
     })

@@ -6,7 +6,7 @@ use std::alloc::{AllocError, Global};
 use std::test::Fail;
 use wal_crc32c::crc32c_by_division;
 use wal_record::{Body, BodyErr, decode, refusal};
-use wal_types::{BlockList, Lsn, Record, Rel};
+use wal_types::{BlockList, Lsn, Record, Rel, Xid};
 
 // The bytes of a record's words, without the padding behind them.
 fn spelled_by(alloc: Global, body: &Body, prev: Lsn) -> Result<Vec<u8>, AllocError> {
@@ -93,7 +93,7 @@ static SPELLED: &[(RecordRow, &[Filled])] = &[
     (
         RecordRow {
             origin: Some(9),
-            top_xid: Some(8),
+            top_xid: Some(Xid(8)),
             blocks: &[BlockRow {
                 id: 3,
                 rel: Rel {
@@ -269,7 +269,7 @@ fn wrong_second_block_is_told(rt: HostRuntime) -> Result<(), Fail> {
         assert_eq!(rt;
             refusal_behind_another(rt.alloc(), block)?,
             *told,
-            "{block:?}"
+            "{id} {fork} {len}"
         );
     }
     Ok(())
@@ -291,7 +291,7 @@ fn wrong_image_is_told(rt: HostRuntime) -> Result<(), Fail> {
         assert_eq!(rt;
             refusal_behind_another(rt.alloc(), block)?,
             *told,
-            "{image:?}"
+            "{start} {len} {left}"
         );
     }
     Ok(())

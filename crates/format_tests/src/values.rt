@@ -33,10 +33,10 @@ fn sum_of_pieces(first: &[u8], second: &[u8]) -> u32 {
 
 #[test]
 fn sums_are_those_known(rt: HostRuntime) {
-    for (bytes, sum) in SUMS {
+    for (row, (bytes, sum)) in SUMS.iter().enumerate() {
         let (first, second) = bytes.split_at(bytes.len() / 3);
         let sums = [sum_of_pieces(first, second), crc32c_by_division(bytes)];
-        assert_eq!(rt; sums, [*sum; 2], "{bytes:?}");
+        assert_eq!(rt; sums, [*sum; 2], "row {row}");
     }
 }
 

@@ -65,7 +65,7 @@ fn a_log_has_a_shape_where_none_is_given(rt: HostRuntime) {
 
 #[test]
 fn the_word_of_each_option_has_its_meaning(rt: HostRuntime) {
-    assert_eq!(rt; manager("Custom255"), Some(255));
+    assert_eq!(rt; [manager("Custom255"), fork("init")], [Some(255), Some(3)]);
     assert_eq!(rt; lsn("1/a"), Some(Lsn(4_294_967_306)));
     let plain = Rel {
         spc: 1663,
@@ -73,22 +73,40 @@ fn the_word_of_each_option_has_its_meaning(rt: HostRuntime) {
         rel: 16384,
     };
     assert_eq!(rt; relation("1663/5/16384"), Some(plain));
-    assert_eq!(rt; fork("init"), Some(3));
     assert!(rt; matches!(crash("odd"), Some(CrashPick::Odd)));
     assert_eq!(rt; xid("4294967295"), Some(Xid(4_294_967_295)));
-    assert_eq!(rt; block_number("4294967294"), Some(4_294_967_294));
     assert_eq!(rt; limit("00000000000000000007"), Some(7));
-    assert_eq!(rt; ring_pages("4"), Some(4));
-    assert_eq!(rt; cap_segments("4096"), Some(4096));
-    assert_eq!(rt; line_count("100000"), Some(100_000));
-    assert_eq!(rt; writer_lines("1000"), Some(1000));
     assert!(rt; segment_size("1073741824").is_some());
 }
 
 #[test]
+fn numbers_of_options_have_their_values(rt: HostRuntime) {
+    let numbers = [
+        block_number("4294967294"),
+        cap_segments("4096"),
+        line_count("100000"),
+        writer_lines("1000"),
+        ring_pages("4"),
+    ];
+    assert_eq!(rt;
+        numbers,
+        [
+            Some(4_294_967_294),
+            Some(4096),
+            Some(100_000),
+            Some(1000),
+            Some(4)
+        ]
+    );
+}
+
+#[test]
 fn numbers_and_digits_have_their_values(rt: HostRuntime) {
-    assert_eq!(rt; number(b"18446744073709551615", u64::MAX), Some(u64::MAX));
-    assert_eq!(rt; number(b"18446744073709551616", u64::MAX), None);
-    assert_eq!(rt; time(b"-9223372036854775808"), Some(1 << 63));
+    let numbers = [
+        number(b"18446744073709551615", u64::MAX),
+        number(b"18446744073709551616", u64::MAX),
+        time(b"-9223372036854775808"),
+    ];
+    assert_eq!(rt; numbers, [Some(u64::MAX), None, Some(1 << 63)]);
     assert_eq!(rt; hexadecimal_digit(b'f'), Some(15));
 }

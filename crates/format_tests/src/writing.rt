@@ -10,7 +10,7 @@ use wal_types::Lsn;
 
 /// A call of a writer, up to where: of the page in which the written position lies, filled with a
 /// byte.
-#[derive(Clone, Copy, Debug)]
+#[derive(Clone, Copy)]
 enum Step {
     Put(u64, u8),
     Harden(u64),
@@ -74,8 +74,8 @@ static RUNS: &[Run] = &[
 ];
 
 fn make(rt: &impl Abort, writer: &mut Writer<MemDisk>, run: &Run) {
-    for (step, answer) in run.answers {
-        assert_eq!(rt; moment_behind(writer, *step), *answer, "{step:?}");
+    for (row, (step, answer)) in run.answers.iter().enumerate() {
+        assert_eq!(rt; moment_behind(writer, *step), *answer, "row {row}");
     }
     assert_eq!(rt;
         (writer.moment(), writer.written().0, writer.fault()),

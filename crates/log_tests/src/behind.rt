@@ -143,7 +143,7 @@ fn is_told<R: Wait>(
     Ok(match step {
         Step::Insert(len, end) => {
             let body = record(alloc, 1, len)?;
-            log.insert(rt, pass, &body).map(|receipt| receipt.end) == Ok(end)
+            matches!(log.insert(rt, pass, &body), Ok(receipt) if receipt.end == end)
         }
         Step::Commit(told) => {
             let body = transaction(alloc, 1)?;

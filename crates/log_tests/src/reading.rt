@@ -8,7 +8,7 @@ use wal_reader::{ReadErr, Reader, Step};
 use wal_types::Lsn;
 
 /// Where a record starts, and its transaction.
-#[derive(Clone, Copy, Debug, PartialEq, Eq, PartialOrd, Ord)]
+#[derive(Clone, Copy, PartialEq, Eq, PartialOrd, Ord)]
 pub struct ReadBack {
     pub start: u64,
     pub xid: u32,

@@ -10,12 +10,9 @@ use wal_types::Lsn;
 /// Where the record of a job starts that was inserted, told to be durable, or a segment switch.
 pub fn start_told(job: &Job) -> Option<Lsn> {
     match job.told? {
-        LogAnswer::Inserted(told) => told.ok().map(|receipt| receipt.start),
-        LogAnswer::Committed(told) => told.ok().map(|sealed| sealed.start),
-        LogAnswer::Switched(told) => match told {
-            Ok(Switch::Done { start, .. }) => Some(start),
-            _ => None,
-        },
+        LogAnswer::Inserted(Ok(receipt)) => Some(receipt.start),
+        LogAnswer::Committed(Ok(sealed)) => Some(sealed.start),
+        LogAnswer::Switched(Ok(Switch::Done { start, .. })) => Some(start),
         _ => None,
     }
 }

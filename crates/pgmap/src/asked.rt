@@ -11,7 +11,7 @@ const FOLDER: &str = "pg_map";
 pub const MOST_THREADS: u32 = 64;
 
 /// What is done once the map is open.
-#[derive(Clone, Copy, Debug, PartialEq, Eq)]
+#[derive(Clone, Copy)]
 pub enum Wish {
     /// The commands of the standard input, each answered before the next is read.
     Obey,

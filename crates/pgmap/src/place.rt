@@ -4,7 +4,7 @@ use std::fmt;
 use wal_types::Lsn;
 
 /// An LSN as two hexadecimal numbers, as `0/00100028`.
-#[derive(Clone, Copy, Debug, PartialEq, Eq)]
+#[derive(Clone, Copy, Debug)]
 pub struct ShownPlace(pub Lsn);
 
 impl fmt::Display for ShownPlace {

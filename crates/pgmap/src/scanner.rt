@@ -1,13 +1,13 @@
 //! The words of a line. They are parted by blanks. A word is plain bytes, or stands in quotes,
 //! where `\"`, `\\` and `\x00` to `\xff` stand for one byte each.
 
-use crate::word::is_plain;
+use crate::word::{are_plain_or, is_plain};
 use std::alloc::{AllocError, AllocFailed, Global};
 use std::mem;
 use thiserror::Error;
 
 /// Why a line has no meaning.
-#[derive(Clone, Copy, Debug, PartialEq, Eq, Error)]
+#[derive(Clone, Copy, Debug, Error)]
 pub enum LineFault {
     #[error("out of memory")]
     Memory,
@@ -36,7 +36,7 @@ impl<T: Drop> From<AllocFailed<T>> for LineFault {
 }
 
 // What stands before the next byte.
-#[derive(Clone, Copy, Debug, PartialEq, Eq)]
+#[derive(Clone, Copy)]
 enum Before {
     Blank,
     Plain,
@@ -120,7 +120,7 @@ fn digit(byte: u8) -> Result<u8, LineFault> {
 
 /// The words of a line.
 pub fn words_of(alloc: Global, line: &[u8]) -> Result<Vec<Vec<u8>>, LineFault> {
-    if line.iter().all(|byte| *byte == b' ' || is_plain(*byte)) {
+    if are_plain_or(line, b' ') {
         return plain_words(alloc, line);
     }
     let mut scanner = Scanner::new(alloc);

@@ -12,7 +12,7 @@ use wal_log::OpenFaultKind;
 use wal_reader::Stopped;
 use wal_types::{Cause, Refused};
 
-#[derive(Clone, Copy, Debug, PartialEq, Eq, Error)]
+#[derive(Clone, Copy, Debug, Error)]
 pub enum PgmapErr {
     #[error("out of memory")]
     Memory,

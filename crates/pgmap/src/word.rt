@@ -11,13 +11,23 @@ pub fn is_plain(byte: u8) -> bool {
     matches!(byte, b'!' | b'#'..=b'~')
 }
 
+/// Whether each byte is plain, or this one.
+pub fn are_plain_or(bytes: &[u8], other: u8) -> bool {
+    for byte in bytes {
+        if *byte != other && !is_plain(*byte) {
+            return false;
+        }
+    }
+    true
+}
+
 /// Bytes that are shown as a word.
 #[derive(Clone, Copy)]
 pub struct ShownWord<'a>(pub &'a [u8]);
 
 impl<'a> ShownWord<'a> {
     fn is_plain(&self) -> bool {
-        !self.0.is_empty() && self.0 != NONE.as_bytes() && self.0.iter().all(|byte| is_plain(*byte))
+        !self.0.is_empty() && self.0 != NONE.as_bytes() && are_plain_or(self.0, b'!')
     }
 }
 

@@ -1,6 +1,6 @@
 //! Runs that go on, each with the log that a crash of the run before it left.
 
-use crate::listed::{DUMP, front_listed};
+use crate::listed::{DUMP, front_listed, has_all};
 use crate::meeting::{NOBODY, THREE};
 use crate::picks::{Words, pick};
 use crate::played::{Run, play};
@@ -175,7 +175,7 @@ fn is_front<R: Abort>(rt: &R, left: &Run, order: &[Lsn], durable: &[Lsn], listin
     let text = left.out.taken();
     assert!(rt; text.starts_with(listing));
     let front = front_listed(text, order).expect(rt, "a front of the order");
-    assert!(rt; durable.iter().all(|start| front.contains(start)));
+    assert!(rt; has_all(front, durable));
 }
 
 // The run's log is the whole order, of which what a crash left is a front.

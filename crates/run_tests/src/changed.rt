@@ -90,9 +90,18 @@ pub fn is_zero(disk: &mut MemDisk, from: u64, upto: u64) -> Result<bool, Fail> {
         let start = number * PAGE_SIZE;
         let page = page_at(disk, start)?;
         let below = from.saturating_sub(start).min(PAGE_SIZE) as usize;
-        if page[below..].iter().any(|byte| *byte != 0) {
+        if !are_zeros(&page[below..]) {
             return Ok(false);
         }
     }
     Ok(true)
+}
+
+fn are_zeros(bytes: &[u8]) -> bool {
+    for byte in bytes {
+        if *byte != 0 {
+            return false;
+        }
+    }
+    true
 }

@@ -1,6 +1,6 @@
 //! Backends on a disk that fails, and what crashes of it leave.
 
-use crate::listed::{DUMP, front_listed};
+use crate::listed::{DUMP, front_listed, has_all};
 use crate::meeting::{NOBODY, THREE, TWO};
 use crate::played::{Run, play};
 use crate::rows::{Lines, NO_CALL, ROW, Row, ended, played};
@@ -269,7 +269,7 @@ fn fails_at<R: Abort + Threads + Wait + Sync>(
 fn all_are_down_at_last<R: Abort>(rt: &R, run: &Run) {
     for backend in 0..run.told.len() {
         let last = run.told.of(backend).last();
-        assert!(rt; last.and_then(cause_of) == Some(DOWN));
+        assert!(rt; matches!(last, Some(last) if cause_of(last) == Some(DOWN)));
     }
 }
 
@@ -320,5 +320,5 @@ fn has_front<R: Threads + Wait + Sync>(
     let Some(front) = front_listed(dumped.out.taken(), all) else {
         return Ok(false);
     };
-    Ok(durable.iter().all(|start| front.contains(start)))
+    Ok(has_all(front, durable))
 }

@@ -35,6 +35,16 @@ pub fn front_listed<'a>(listing: &[u8], starts: &'a [Lsn]) -> Option<&'a [Lsn]> 
     starts.get(..count)
 }
 
+/// Whether records that are durable are among these.
+pub fn has_all(found: &[Lsn], durable: &[Lsn]) -> bool {
+    for start in durable {
+        if !found.contains(start) {
+            return false;
+        }
+    }
+    true
+}
+
 // Whether a disk's log comes to a clean end, and a command lists just the records that start here;
 // and the disk.
 fn lists<R: Threads + Wait + Sync>(

@@ -288,10 +288,10 @@ fn may_crash<R: Abort + Threads + Wait + Sync>(
     } else {
         row.durable
     };
-    for words in WORDS {
-        let left = stopped.crash(alloc, stopped.moment(), pick(alloc, words, random)?)?;
+    for (number, words) in WORDS.iter().enumerate() {
+        let left = stopped.crash(alloc, stopped.moment(), pick(alloc, *words, random)?)?;
         let count = opens_again(rt, alloc, row, left)?;
-        assert!(rt; count >= durable, "{}, call {call}, {words:?}", row.what);
+        assert!(rt; count >= durable, "{}, call {call}, {number}", row.what);
     }
     Ok(())
 }
@@ -333,7 +333,10 @@ fn opens_again<R: Abort + Threads + Wait + Sync>(
     let count = front_listed(listing.taken(), row.starts)
         .expect(rt, row.what)
         .len();
-    let end = row.starts.get(count).map_or(row.end, |next| next.0);
+    let end = match row.starts.get(count) {
+        Some(next) => next.0,
+        None => row.end,
+    };
     let run = play(rt, alloc, &APPEND, Vec::new(alloc), before.disk, NOBODY)?;
     let found = found_text(alloc, count, end, row.segments)?;
     let is_found = run.status == 0 && run.out.taken() == found.as_bytes();

@@ -235,8 +235,14 @@ pub fn ended<R: Abort + Threads + Wait + Sync>(
     fail: u64,
 ) -> Result<Run, Fail> {
     let run = played(rt, alloc, row, fail)?;
-    let is_printed = row.out.is_none_or(|out| run.out.taken() == out);
-    let is_counted = row.calls.is_none_or(|calls| run.disk.moment() == calls);
+    let is_printed = match row.out {
+        Some(out) => run.out.taken() == out,
+        None => true,
+    };
+    let is_counted = match row.calls {
+        Some(calls) => run.disk.moment() == calls,
+        None => true,
+    };
     let count = count_told(&run.told, row.refused);
     let found = (run.status, run.told.len(), count, is_printed && is_counted);
     assert!(rt;
