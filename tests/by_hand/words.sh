@@ -37,7 +37,7 @@ refuses 'get "a"b' 'a quoted word is not followed by a blank'
 refuses 'get "a' 'no closing quote'
 refuses 'get "\y"' "$escape"
 refuses 'get "\x0g"' "$escape"
-behind='502018 502048 5020F0'
+behind='502018 502048 5020F0 502118 5021A0'
 places -s 0/500060 "500060 500098 5000C0 500150 $behind 0"
 places -s 0/00500098 "500098 5000C0 500150 $behind 0"
 places -s 0/5000c0 "5000C0 500150 $behind 0"

@@ -1,30 +1,19 @@
 -- A reader whose records are handed on, one behind another.
-use Rattle.std.proofs.Common.{◌≡◌, ℕ, ◌+◌, true, false, List, [], ◌∷◌, ◌++◌, length, map, Option, Some, None, Ok, refl, sym, ap, subst, ◌∙◌, append_assoc, length-append, arith}
+use Rattle.std.proofs.Common.{◌≡◌, ℕ, ◌+◌, true, false, List, [], ◌∷◌, ◌++◌, length, map, Option, Some, refl, sym, ap, subst, ◌∙◌, append_assoc, length-append, arith}
 use Rattle.std.proofs.lemmas.List.{append-nil, map-append}
 use Rattle.std.proofs.lemmas.List.Elements.{filter-append}
-use Rattle.wal_reader.specs.Standings.{given_as}
-use Rattle.wal_reader.specs.LogReader.{ReaderState, GivesRecords, IsNext}
+use Rattle.wal_reader.specs.LogReader.{ReaderState}
 use Rattle.wal_reader.specs.Pages.{Pages}
 use Rattle.wal_reader.specs.declared.found.FoundRecord.{FoundRecord}
 use Rattle.wal_reader.specs.SoFar.{unbegun}
 use Rattle.wal_reader.specs.declared.found.Answer.{Answer}
-use Rattle.wal_reader.specs.declared.found.Answer.TheVariants as answers
-use Rattle.wal_reader.specs.declared.found.Stopped.TheVariants as stops
 use Rattle.waldump_filter.specs.declared.Filter.{Filter}
 use Rattle.waldump_filter.specs.declared.listed.Listed.{Listed}
 use Rattle.waldump_filter.specs.Keeping.{is_reached, keeps}
 use Rattle.waldump_text.specs.Listing.{IsLimitListed, kept_by, listed_by, listed_of, up_to}
 use Rattle.waldump_text.proofs.ListingLaws.{IsWithin, is_limit_listed, is_limit_unreached, kept, passed_over, listed_by-reached, listed_by-short, up_to-parts}
-use Rattle.wal_types.specs.declared.lsn.Lsn.{Lsn}
-use Rattle.cluster_listing.specs.Past.{GivesPast, IsLast, gives_all, gives_behind, gives_front, page_behind}
+use Rattle.cluster_listing.specs.Past.{GivesPast}
 use Rattle.cluster_listing.specs.Walk.{records_listed}
-
--- what a reader still gives behind a record stands behind that record
-pub gives_one_more : (pages : Pages) (now next : ReaderState) (f : FoundRecord) → next ≡ record now { standing = next.standing } → IsNext pages now next (Ok (given_as f)) → (others : List FoundRecord) (told : Option Answer) → GivesPast pages next others told → GivesPast pages now (f ∷ others) told
-gives_one_more pages now next f same is others (Some answer) (gives_all _ _ _ gives last) = gives_all now (f ∷ others) answer (is others answer gives) last
-gives_one_more pages now next f same is others None (gives_front _ _ behind answer gives) = gives_front now (f ∷ others) behind answer (is (others ++ behind) answer gives)
-gives_one_more pages now next f same is _ told (gives_behind _ found others at _ gives anew) =
-    gives_behind now (f ∷ found) others at told (is found (answers.Stopped (stops.Overwritten at)) gives) (subst (λ (s : ReaderState). GivesPast pages (unbegun s.size (page_behind at.0) s.end) others told) same anew)
 
 -- those that a filter keeps, as they are listed
 abbrev pub records_kept : Filter → List FoundRecord → List Listed
@@ -55,10 +44,10 @@ module _ (by : Filter) (pages : Pages) (start : ReaderState) where
           (map listed_of parts.0, ap (map listed_of) all ∙ map-append listed_of (kept_by by underway.given) parts.0)
 
       -- where the reader stops all is taken
-      pub taken_all : (answer : Answer) → IsLast answer → GivesRecords pages now [] answer → GivesPast pages start underway.given (Some answer) × Took (records_listed by underway.given) × (count ≡ length (listed_by by underway.given))
-      taken_all answer last ends =
+      pub taken_all : (answer : Answer) → GivesPast pages now [] (Some answer) → GivesPast pages start underway.given (Some answer) × Took (records_listed by underway.given) × (count ≡ length (listed_by by underway.given))
+      taken_all answer ends =
           let all = listed_by-short by underway.given given_within in (
-            subst (λ (found : List FoundRecord). GivesPast pages start found (Some answer)) (append-nil underway.given) (underway.whole [] (Some answer) (gives_all now [] answer ends last)),
+            subst (λ (found : List FoundRecord). GivesPast pages start found (Some answer)) (append-nil underway.given) (underway.whole [] (Some answer) ends),
             subst (λ (fs : List FoundRecord). Took (map listed_of fs)) (sym all) underway.taken,
             sym underway.counted ∙ ap length (sym all),
           )
@@ -78,18 +67,18 @@ module _ (by : Filter) (pages : Pages) (start : ReaderState) where
     pub limit_unlisted : is_reached by.limit count ≡ false → IsLimitListed by underway.given → ⊥
     limit_unlisted unreached listed = is_limit_unreached by.limit (length (kept_by by underway.given)) (ap (is_reached by.limit) underway.counted ∙ unreached) listed
 
-    -- behind an overwritten record it goes on with the next page
-    pub IsUnderway-anew : (at : Lsn) → GivesRecords pages now [] (answers.Stopped (stops.Overwritten at)) → IsUnderway by pages start (unbegun now.size (page_behind at.0) now.end) Took count
-    IsUnderway-anew at ends = record {
+    -- where reading begins again it goes on there
+    pub IsUnderway-anew : (from : ℕ) → ((others : List FoundRecord) (told : Option Answer) → GivesPast pages (unbegun now.size from now.end) others told → GivesPast pages now others told) → IsUnderway by pages start (unbegun now.size from now.end) Took count
+    IsUnderway-anew from anew = record {
       given = underway.given;
-      whole = λ others told gives. underway.whole others told (gives_behind now [] others at told ends gives);
+      whole = λ others told gives. underway.whole others told (anew others told gives);
       taken = underway.taken;
       counted = underway.counted;
     }
 
-    module _ (next : ReaderState) (same : next ≡ record now { standing = next.standing }) (f : FoundRecord) (is : IsNext pages now next (Ok (given_as f))) where
+    module _ (next : ReaderState) (f : FoundRecord) (is : (others : List FoundRecord) (told : Option Answer) → GivesPast pages next others told → GivesPast pages now (f ∷ others) told) where
       whole_behind : (others : List FoundRecord) (told : Option Answer) → GivesPast pages next others told → GivesPast pages start ((underway.given ++ f ∷ []) ++ others) told
-      whole_behind others told gives = subst (λ (found : List FoundRecord). GivesPast pages start found told) (sym (append_assoc underway.given (f ∷ []) others)) (underway.whole (f ∷ others) told (gives_one_more pages now next f same is others told gives))
+      whole_behind others told gives = subst (λ (found : List FoundRecord). GivesPast pages start found told) (sym (append_assoc underway.given (f ∷ []) others)) (underway.whole (f ∷ others) told (is others told gives))
 
       kept_more : (kept : List FoundRecord) → kept_by by (f ∷ []) ≡ kept → kept_by by (underway.given ++ f ∷ []) ≡ kept_by by underway.given ++ kept
       kept_more kept kept_is = filter-append (λ g. keeps by (listed_of g)) underway.given (f ∷ []) ∙ ap (λ (fs : List FoundRecord). kept_by by underway.given ++ fs) kept_is

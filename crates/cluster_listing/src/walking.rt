@@ -6,7 +6,8 @@ ghost use Rattle.waldump_filter.specs.declared.listed.Listed.{Listed};
 ghost use Rattle.cluster_listing.specs.Taking.{CutMore, TookMore};
 ghost use Rattle.wal_reader.specs.declared.standing.ReadErr.{ReadErr};
 ghost use Rattle.wal_reader.specs.declared.standing.ReadErr.TheVariants.{Memory};
-ghost use Rattle.cluster_listing.specs.Past.{behind_at, goes_on_at, goes_on_behind, page_behind, past_of};
+ghost use Rattle.wal_reader.specs.LogReader.{reader_state};
+ghost use Rattle.cluster_listing.specs.Past.{HasPastCause, IsListablePast, StepsPast, behind_at, compressed_at, passed_as, goes_on_at, goes_on_behind, page_behind, past_of};
 ghost use Rattle.cluster_listing.specs.Walk.{HasWalkCause, IsWalk};
 
 use crate::taking::{TakeErr, TakesRecords};
@@ -99,7 +100,7 @@ fn goes_on_behind(stopped: Stopped) -> Result<Lsn, ReadErr>
     }
 }
 
-/// What comes of a log that is read on behind overwritten records.
+/// What comes of a log that is read on behind overwritten records and compressed images.
 #[derive(Clone, Copy)]
 pub(crate) enum Past {
     Record(RecordHead),
@@ -128,6 +129,56 @@ fn behind_at(from: Result<Lsn, ReadErr>) -> Result<Past, ReadErr>
     }
 }
 
+// The record with compressed images at which a step stopped.
+fn compressed_at(comes: Result<Comes, ReadErr>) -> Option<Lsn>
+    ensures { result ≡ compressed_at comes }
+{
+    match comes {
+        Ok(_) => None,
+        Err(ReadErr::Memory) => None,
+        Err(ReadErr::Disk { .. }) => None,
+        Err(ReadErr::Stopped(Stopped::Damaged { .. })) => None,
+        Err(ReadErr::Stopped(Stopped::Compressed { at })) => Some(at),
+        Err(ReadErr::Stopped(Stopped::Overwritten { .. })) => None,
+    }
+}
+
+// What comes where such a record is passed over.
+fn passed_as(comes: Result<Comes, ReadErr>) -> Result<Past, ReadErr>
+    ensures { result ≡ passed_as comes }
+{
+    match comes {
+        Ok(Comes::Record(head)) => Ok(Past::Record(head)),
+        Ok(Comes::End { at }) => Ok(Past::End { at }),
+        Err(error) => Err(error),
+    }
+}
+
+/// The next record that comes, put into `value`, or what stands in its place for who reads on. One
+/// with compressed images comes as it is stored.
+fn next_past<D: Disk>(
+    reader: &mut Reader,
+    alloc: Global,
+    disk: &mut D,
+    value: &mut Record,
+) -> Result<Past, ReadErr>
+    ensures steps { StepsPast (D.tape disk.old) reader.old reader.new value.new result }
+    ensures leaves { ((reader_state reader.new).size ≡ (reader_state reader.old).size)
+        × ((reader_state reader.new).end ≡ (reader_state reader.old).end) }
+    ensures listable { IfOk result (IsListablePast value.new) }
+    ensures uncalled { IsUncalled D.tape D.moment disk.old disk.new }
+    ensures cause { HasPastCause (D.faults disk.old) (D.faults disk.new) result }
+{
+    let comes = reader.next_into(alloc, disk, value);
+    match compressed_at(comes) {
+        None => read_on(comes),
+        Some(at) => {
+            let passed = reader.pass_over(alloc, disk, at, value);
+            passed_as(passed)
+        }
+    }
+}
+
 // One turn more; no log has so many that their count has no room.
 fn turn_behind(turns: u64) -> Result<u64, ReadErr>
     ensures more { IfOk result (λ more. (more ≡ turns + 1) × (more < 2 ^ 64)) }
@@ -142,7 +193,8 @@ fn turn_behind(turns: u64) -> Result<u64, ReadErr>
 /// Hands the records that a filter keeps to what takes them, up to its limit. Once that many are
 /// taken, nothing is read any more. Behind an overwritten record reading goes on, as by
 /// PostgreSQL's reader (xlogreader.c, `overwrittenRecPtr`), with the first record that starts on a
-/// page behind; which record that one names before it is not checked.
+/// page behind; which record that one names before it is not checked. A record with compressed
+/// images is handed on with the bytes that are stored of them.
 pub(crate) fn walk<D: Disk, V: TakesRecords>(
     alloc: Global,
     disk: &mut D,
@@ -162,7 +214,7 @@ pub(crate) fn walk<D: Disk, V: TakesRecords>(
     let mut turns = 0;
     'records: while !filter.is_full(count) {
         turns = turn_behind(turns)?;
-        let head = match read_on(reader.next_into(alloc, disk, &mut listed.value))? {
+        let head = match next_past(&mut reader, alloc, disk, &mut listed.value)? {
             Past::Record(head) => head,
             Past::End { at } => {
                 return Ok(Walked {

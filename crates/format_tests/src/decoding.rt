@@ -1,7 +1,8 @@
 //! Records as they are read from their bytes.
 use std::alloc::{AllocError, Global};
 use std::test::Fail;
-use wal_record::{RecErr, RecKind, decode};
+use wal_record::{RecErr, RecKind, decode, decode_stored};
+use wal_types::Record;
 
 // A block's header without image and data: number 0, main fork, relation 1/2/3, block 4.
 const BLOCK: [u8; 20] = [0, 0, 0, 0, 1, 0, 0, 0, 2, 0, 0, 0, 3, 0, 0, 0, 4, 0, 0, 0];
@@ -194,6 +195,36 @@ fn length_and_compression_are_told(rt: HostRuntime) -> Result<(), Fail> {
         told,
         [LENGTH, LENGTH, Some(RecErr::Compressed { block: 7 })]
     );
+    Ok(())
+}
+
+// An image's header of four bytes, and which check of a record with that image as it is stored
+// fails: with a hole and without; a hole at the page's start, one of no length, one that is not
+// told; as long as a page; a flag that means nothing; one that is not compressed.
+static STORED: &[(&[u8], Option<RecKind>)] = &[
+    (&[4, 0, 56, 0, 0x0b, 88, 27], None),
+    (&[4, 0, 0, 0, 0x06], None),
+    (&[4, 0, 0, 0, 0x0b, 88, 27], Some(RecKind::Image)),
+    (&[4, 0, 56, 0, 0x0b, 0, 0], Some(RecKind::Image)),
+    (&[4, 0, 56, 0, 0x06], Some(RecKind::Image)),
+    (&[0, 0x20, 0, 0, 0x12], Some(RecKind::Image)),
+    (&[4, 0, 0, 0, 0x26], Some(RecKind::Image)),
+    (&[4, 0, 1, 0, 0x03], None),
+];
+
+#[test]
+fn compressed_images_are_read_as_stored(rt: HostRuntime) -> Result<(), Fail> {
+    let alloc = rt.alloc();
+    let mut record = Record::blank(alloc);
+    for (header, kind) in STORED {
+        let mut items = Vec::from_slice(alloc, header)?;
+        items.extend_from_slice(&BLOCK[4..])?;
+        items.extend_from_slice(&[9; 4])?;
+        let bytes = spelled(alloc, 1, &[0, 0x10, 0, 0], &items)?;
+        let wrong = decode_stored(alloc, &mut Vec::new(alloc), &mut record, &bytes).err();
+        let told = kind.map(|kind| RecErr::Malformed { at: 28, kind });
+        assert_eq!(rt; wrong, told, "{header:?}");
+    }
     Ok(())
 }
 

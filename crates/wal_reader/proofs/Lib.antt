@@ -10,6 +10,7 @@ pub mod PagesLaws
 pub mod RecordAt
 pub mod NextPositionLaws
 pub mod RecordReads
+pub mod StoredReads
 pub mod RecordStages
 pub mod ReadyLaws
 pub mod RowLaws
@@ -21,3 +22,4 @@ pub mod ReachLaws
 pub mod ReadAtLaws
 pub mod SoundLaws
 pub mod FindsLaws
+pub mod PassingLaws

@@ -68,7 +68,7 @@ module _ (size : ℕ) (pages : Pages) (end : Option ℕ) (place : RecordPlace) w
         pub size_in_page : number_at w32 (bytes_from size pages 8 place.position) 0 ≡ number_at w32 page cursor.offset
         size_in_page = ap (λ (bs : List ℕ). number_at w32 bs 0) word_bytes ∙ number_at-take w32 (drop cursor.offset page) 8 0 (omega arith)
 
-        word_in_page : number_at w64 (bytes_from size pages 24 place.position) 0 ≡ number_at w64 page cursor.offset
+        pub word_in_page : number_at w64 (bytes_from size pages 24 place.position) 0 ≡ number_at w64 page cursor.offset
         word_in_page =
             sym (number_at-take w64 (bytes_from size pages 24 place.position) 8 0 (omega arith))
             ∙ ap (λ (bs : List ℕ). number_at w64 bs 0) (take-bytes_from size pages 8 24 place.position (omega arith) ∙ word_bytes)

@@ -22,6 +22,7 @@ pub mod Standings
 pub mod Buffers
 pub mod LogReader
 pub mod StepIn
+pub mod PassingOver
 pub mod SoFar
 pub mod Settled
 pub mod Finds

@@ -1,5 +1,5 @@
 -- What it means that the page in which a record is to start is opened.
-use Rattle.std.specs.Prelude.{◌≡◌, ℕ, ◌+◌, ◌/◌, ◌≤◌, Option, Some, None, Result, IfOk}
+use Rattle.std.specs.Prelude.{◌≡◌, ◌+◌, ◌/◌, ◌≤◌, Option, Some, None, Result, IfOk}
 use Rattle.byte_position.specs.Position.{address_of}
 use Rattle.segment_disk.specs.Tape.{Tape}
 use Rattle.wal_reader.specs.declared.page_cache.PageCache.{PageCache}

@@ -15,6 +15,7 @@ mod log_reader;
 mod page_cache;
 mod page_checks;
 mod page_cursor;
+mod passing_over;
 mod read_failure;
 mod ready;
 mod record_checks;

@@ -14,6 +14,7 @@ ghost use Rattle.wal_reader.specs.Standings.{IsOnWay, IsOnWay-prop};
 use crate::buffers::{Buffers, set_up};
 use crate::given::next_given;
 use crate::page_cursor::PageCursor;
+use crate::passing_over::{place_again, read_stored};
 use crate::read_failure::ReadFailure;
 use crate::standing::{Comes, ReadErr, Standing, Step, step_with, told};
 use byte_position::Geometry;
@@ -45,6 +46,7 @@ impl Reader {
     ghost use Rattle.wal_reader.specs.declared.standing.Standing.TheVariants.{NotBegun};
     ghost use Rattle.wal_reader.specs.Pages.{Pages};
     ghost use Rattle.wal_reader.specs.PageCursor.{IsLogOf};
+    ghost use Rattle.wal_reader.specs.PassingOver.{GivesStored, IsPassedOver};
     ghost use Rattle.wal_reader.specs.LogReader.{HoldsNoPage, Knows, LeavesReader, NeedsNoPage, OnEnd, StandsAfter, reader_page, reader_state};
     ghost use Rattle.wal_reader.specs.Filled.{step_with};
     ghost use Rattle.wal_reader.specs.Spelled.{GivesSpelled};
@@ -164,6 +166,52 @@ impl Reader {
                 // What is written behind an end later stands in this page too.
                 buffers.forget_page();
                 self.standing = self.standing.after(answer);
+                told(answer)
+            }
+            Err(ReadFailure::Memory) => Err(ReadErr::Memory),
+            Err(ReadFailure::Disk) => Err(ReadErr::Disk {
+                faults: disk.faults(),
+            }),
+        }
+    }
+
+    /// Passes over the record that starts at an address, at which the reader has stopped for its
+    /// compressed images: it is put into `value` with the bytes that are stored of them, and the
+    /// reader stands behind it. Where the pages are damaged by now, or the record is malformed so
+    /// too, that is told, and the reader stays where it is.
+    #[tactic(auto, using(crate::proofs::PassingLaws::ready_unknown))]
+    pub fn pass_over<D: Disk>(
+        &mut self,
+        alloc: Global,
+        disk: &mut D,
+        at: Lsn,
+        value: &mut Record,
+    ) -> Result<Comes, ReadErr>
+        // It gives what is stored in the pages at that address, as long as the disk holds them.
+        ensures gives { (pages : Pages) → IsLogOf (D.tape disk.old)
+            (reader_state self.old).size pages → Knows self.old pages
+            → IsPassedOver pages self.old self.new at.0 (step_with value.new result) }
+        ensures leaves { reader_state self.new
+            ≡ record (reader_state self.old) { standing = (reader_state self.new).standing } }
+        ensures stored { IfOk (step_with value.new result) GivesStored }
+
+        ensures uncalled { IsUncalled D.tape D.moment disk.old disk.new }
+        ensures cause { HasReadCause (D.faults disk.old) (D.faults disk.new)
+            (step_with value.new result) }
+    {
+        self.ready = None;
+        set_up(&mut self.buffers, alloc, self.geometry)?;
+        let place = place_again(self.geometry, at);
+        let Some(buffers) = &mut self.buffers else {
+            unreachable!()
+        };
+        match read_stored(alloc, value, buffers, disk, self.end, place) {
+            Ok((head, behind)) => {
+                self.standing = Standing::At(behind);
+                Ok(Comes::Record(head))
+            }
+            Err(ReadFailure::Told(answer)) => {
+                buffers.forget_page();
                 told(answer)
             }
             Err(ReadFailure::Memory) => Err(ReadErr::Memory),

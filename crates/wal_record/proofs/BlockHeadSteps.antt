@@ -31,13 +31,13 @@ bytes_left s more = ltb-true _ _ (and_parts (has_header s) (begins_block s.rest)
 
 -- ---- each header is at least a byte long
 
-record Shrinks (s next : HeaderCursor) : Type 0 where
+pub record Shrinks (s next : HeaderCursor) : Type 0 where
   pub left : length next.rest ≤ length s.rest
 
-skip_shrinks : (n : ℕ) (s : HeaderCursor) → Shrinks s (skip n s)
+pub skip_shrinks : (n : ℕ) (s : HeaderCursor) → Shrinks s (skip n s)
 skip_shrinks n s = record { left = omega (arith, length-drop n s.rest) }
 
-fork_shrinks : (s : HeaderCursor) (x : ItemRead (ForkFlags × ℕ)) → fork_item s ≡ Ok x → Shrinks s x.next
+pub fork_shrinks : (s : HeaderCursor) (x : ItemRead (ForkFlags × ℕ)) → fork_item s ≡ Ok x → Shrinks s x.next
 unfolding fork_item
 fork_shrinks s x e =
     let byte = get_or s.rest 0 0 in
@@ -48,7 +48,7 @@ fork_shrinks s x e =
     let made : ItemRead (ForkFlags × ℕ) = record { value = (fork_flags byte, len); next = skip 3 s } in
     subst (λ (y : ItemRead (ForkFlags × ℕ)). Shrinks s y.next) (ok_is made x c.1) (skip_shrinks 3 s)
 
-image_shrinks : (has : Bool) (id : ℕ) (s : HeaderCursor) (x : ItemRead (Option ImageHead)) → image_item has id s ≡ Ok x → Shrinks s x.next
+pub image_shrinks : (has : Bool) (id : ℕ) (s : HeaderCursor) (x : ItemRead (Option ImageHead)) → image_item has id s ≡ Ok x → Shrinks s x.next
 unfolding image_item
 image_shrinks true id s x e =
     let len = number_at w16 s.rest 0 in
@@ -64,7 +64,7 @@ image_shrinks false id s x e =
     let made : ItemRead (Option ImageHead) = record { value = None; next = s } in
     subst (λ (y : ItemRead (Option ImageHead)). Shrinks s y.next) (ok_is made x e) (record { left = omega arith })
 
-relation_shrinks : (same : Bool) (before : Option BlockHead) (s : HeaderCursor) (x : ItemRead Rel) → relation_item same before s ≡ Ok x → Shrinks s x.next
+pub relation_shrinks : (same : Bool) (before : Option BlockHead) (s : HeaderCursor) (x : ItemRead Rel) → relation_item same before s ≡ Ok x → Shrinks s x.next
 unfolding relation_item
 relation_shrinks true None s x e = absurd cc
 relation_shrinks true (Some b) s x e =
@@ -76,7 +76,7 @@ relation_shrinks false before s x e =
     let made : ItemRead Rel = record { value = rel; next = skip 12 s } in
     subst (λ (y : ItemRead Rel). Shrinks s y.next) (ok_is made x a.1) (skip_shrinks 12 s)
 
-number_shrinks : (s : HeaderCursor) (x : ItemRead ℕ) → number_item s ≡ Ok x → Shrinks s x.next
+pub number_shrinks : (s : HeaderCursor) (x : ItemRead ℕ) → number_item s ≡ Ok x → Shrinks s x.next
 unfolding number_item
 number_shrinks s x e =
     let a = not_refused (ltb (length s.rest) 4) _ _ x e in

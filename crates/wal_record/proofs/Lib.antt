@@ -15,7 +15,9 @@ pub mod HeaderLists
 pub mod Readings
 pub mod BlockHeadSteps
 pub mod BlockHeads
+pub mod StoredSteps
 pub mod Payload
+pub mod StoredBlocks
 pub mod SpelledBlocks
 pub mod HeaderBytes
 pub mod SpellingReads

@@ -4,5 +4,6 @@ pub mod Filled
 pub mod Unread
 pub mod Headers
 pub mod Items
+pub mod Stored
 pub mod Spells
 pub mod Fails

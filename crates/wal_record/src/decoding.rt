@@ -5,6 +5,7 @@ mod cursor;
 mod items;
 mod keeping;
 mod payload;
+mod stored;
 mod unread;
 
 ghost use Rattle.std.specs.Prelude.{◌≡◌, ◌+◌, ◌<◌, ◌≤◌, ◌^◌, length, IfErr, IfOk, Ok, Err};
@@ -23,6 +24,7 @@ use cursor::malformed;
 use items::{main_item, optional_u16, optional_u32};
 pub use keeping::{Headers, KeepsRecord};
 use std::alloc::Global;
+pub use stored::decode_stored;
 use unread::Unread;
 use wal_spelling::is_free_manager;
 use wal_spelling::layout::*;

@@ -9,7 +9,7 @@ pub mod laws;
 pub mod reading_laws;
 mod unkept;
 
-pub use decoding::{Headers, KeepsRecord, decode, decode_into};
+pub use decoding::{Headers, KeepsRecord, decode, decode_into, decode_stored};
 pub use fault::{RecErr, RecKind};
 pub use head::{BlockHead, ImageHead};
 pub use unkept::Unkept;

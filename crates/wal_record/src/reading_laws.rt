@@ -1,14 +1,16 @@
 //! What holds of each list of bytes that a reader meets. The functions do nothing: their contracts
 //! are the laws.
 
-ghost use Rattle.std.specs.Prelude.{◌≡◌, ℕ, ◌^◌, ◌<◌, ◌≤◌, ◌⊎◌, length, All, Err, List, Ok, ◌↔◌, slice_index, sum_by};
+ghost use Rattle.std.specs.Prelude.{◌≡◌, ℕ, ◌^◌, ◌<◌, ◌≤◌, ◌⊎◌, length, All, Err, List, Ok, false, ◌↔◌, slice_index, sum_by};
 ghost use Rattle.wal_types.specs.declared.record.Record.{Record};
 ghost use Rattle.wal_spelling.specs.Layout.{info_offset, last_fork, manager_offset};
+ghost use Rattle.wal_spelling.specs.Record.{is_free_manager};
 ghost use Rattle.wal_spelling.specs.Spelling.{image_bytes};
 ghost use Rattle.wal_record.specs.declared.fault.RecErr.{RecErr};
 ghost use Rattle.wal_record.specs.Fails.{FailsAt};
 ghost use Rattle.wal_record.specs.Reading.{reading_of};
 ghost use Rattle.wal_record.specs.Spells.{Spells};
+ghost use Rattle.wal_record.specs.Stored.{stored_of};
 
 /// Each list of bytes spells one record, or one check of it fails first.
 pub fn spells_or_fails()
@@ -37,6 +39,16 @@ pub fn spelled_blocks()
     ensures forks { (bytes : List ℕ) (r : Record) → Spells bytes r
         → All (λ b. b.fork ≤ last_fork) r.blocks }
     ensures images { (bytes : List ℕ) (r : Record) → Spells bytes r
+        → sum_by (λ b. length (image_bytes b.image)) r.blocks ≤ length bytes }
+{}
+
+/// The blocks of a record that was read as it is stored, compressed images and all: the same.
+pub fn stored_blocks()
+    ensures manager { (bytes : List ℕ) (r : Record) → stored_of bytes ≡ Ok r
+        → is_free_manager r.rmid ≡ false }
+    ensures forks { (bytes : List ℕ) (r : Record) → stored_of bytes ≡ Ok r
+        → All (λ b. b.fork ≤ last_fork) r.blocks }
+    ensures images { (bytes : List ℕ) (r : Record) → stored_of bytes ≡ Ok r
         → sum_by (λ b. length (image_bytes b.image)) r.blocks ≤ length bytes }
 {}
 

@@ -26,7 +26,7 @@ fn fork_flags(byte: u8) -> ForkFlags
 
 // The fork byte and the length of the block's data.
 #[tactic(auto, unfolding(crate::specs::Reading::fork_item))]
-fn fork_item<'a>(unread: Unread<'a>) -> Result<((ForkFlags, u16), Unread<'a>), RecErr>
+pub(super) fn fork_item<'a>(unread: Unread<'a>) -> Result<((ForkFlags, u16), Unread<'a>), RecErr>
     ensures { GivesItem result (fork_item (cursor_of unread.entry)) }
 {
     let Some((group, rest)) = unread.bytes.split_first_chunk::<3>() else {
@@ -48,7 +48,7 @@ fn fork_item<'a>(unread: Unread<'a>) -> Result<((ForkFlags, u16), Unread<'a>), R
     Ok(((flags, content_len), behind))
 }
 
-fn image_flags(byte: u8) -> ImageFlags
+pub(super) fn image_flags(byte: u8) -> ImageFlags
     ensures { result ≡ image_flags byte }
 {
     ImageFlags {
@@ -74,7 +74,7 @@ fn is_wrong_hole(len: u16, hole_offset: u16, has_hole: bool) -> bool
 }
 
 #[tactic(auto, unfolding(crate::specs::Reading::image_item))]
-fn image_item<'a>(
+pub(super) fn image_item<'a>(
     has_image: bool,
     id: u8,
     unread: Unread<'a>,
@@ -114,7 +114,7 @@ fn image_item<'a>(
 }
 
 #[tactic(auto, unfolding(crate::specs::Reading::relation_item))]
-fn relation_item<'a>(
+pub(super) fn relation_item<'a>(
     same: bool,
     before: Option<BlockHead>,
     unread: Unread<'a>,
@@ -144,7 +144,7 @@ fn relation_item<'a>(
 }
 
 #[tactic(auto, unfolding(crate::specs::Reading::number_item))]
-fn number_item<'a>(unread: Unread<'a>) -> Result<(u32, Unread<'a>), RecErr>
+pub(super) fn number_item<'a>(unread: Unread<'a>) -> Result<(u32, Unread<'a>), RecErr>
     ensures { GivesItem result (number_item (cursor_of unread.entry)) }
 {
     let Some((group, rest)) = unread.bytes.split_first_chunk::<4>() else {
