@@ -60,14 +60,16 @@ try() {
 try_postgres() {
   local programs words=("$program")
   if ! programs=$(pg_config --bindir 2>/dev/null) || [ ! -x "$programs/initdb" ]; then
-    skip with_postgres.sh "there is no PostgreSQL server"
+    skip "with_postgres.sh, cluster_with_postgres.sh" "there is no PostgreSQL server"
     return
   elif [ "$(id -u)" = 0 ] && ! id postgres >/dev/null 2>&1; then
-    skip with_postgres.sh "there is no user postgres"
+    skip "with_postgres.sh, cluster_with_postgres.sh" "there is no user postgres"
     return
   fi
   [[ $("$programs/postgres" --version) == *' 16.'* ]] || words=(--other-version "$program")
   try 'setpriv python3' with_postgres.sh "${words[@]}"
+  unset 'words[-1]'
+  try 'setpriv python3' cluster_with_postgres.sh "${words[@]}"
 }
 
 # prove SCRIPT: one that proves a copy of the repository
