@@ -1,4 +1,5 @@
-/* Eight threads commit records, and each prints where its last one stands. From this folder:
+/* Eight threads commit records behind those that are there, and each prints where its last one stands. From this
+ * folder:
  *
  *     cc -std=c11 -O2 -o commits commits.c -L../../crates/pgwal_c/out -lpgwal_c \
  *        -L"$(dirname "$(rt doc)")/c" -los_c -llibc_c -pthread && ./commits [FOLDER [RECORDS [places]]]
@@ -37,11 +38,10 @@ static void *commit_all(void *p) {
 int main(int count, char **words) {
   pgwal_setup setup = {.seg_size = 16 << 20, .sysid = 1, .ring_pages = 64, .cap_segments = 64, .sessions = THREADS + 1};
   static pgwal_log log;
-  uint32_t answer = pgwal_open(count > 1 ? words[1] : "pg_wal", &setup, &log);
-  if (answer != PGWAL_DONE) {
-    fprintf(stderr, "%s\n", pgwal_name(answer));
-    return 1;
-  }
+  pgwal_log_found found;
+  uint32_t answer = pgwal_open(count > 1 ? words[1] : "pg_wal", &setup, &log, &found);
+  fprintf(stderr, "%s; %s found %" PRIu64 " end %" PRIX64 "\n", pgwal_name(answer), found.damage, found.count, found.end);
+  if (answer != PGWAL_DONE) return 1;
   pthread_t threads[THREADS];
   static work works[THREADS];
   for (uint32_t i = 0; i < THREADS; i++) {

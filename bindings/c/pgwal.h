@@ -1,9 +1,10 @@
 /* A write-ahead log for programs in C11: the calls of libpgwal_c.a, forms of them that wait, and the disk of files.
  * Below, pgwal_next reads a log back record by record.
  *
- * A log is opened anew, in a folder without segments; one that is there cannot be gone on with yet. Each thread has a
- * session of its own. Calls named pgwal_try_ try once and never wait for another thread but for one that is in the
- * midst of a copy; the others wait for the caller, by `pause` of the log between tries. No call prints or aborts.
+ * pgwal_open begins a log, or goes on with the one that is in the folder: while it is opened all of it is in memory.
+ * Each thread has a session of its own. Calls named pgwal_try_ try once and never wait for another thread but for one
+ * that is in the midst of a copy; the others wait for the caller, by `pause` of the log between tries. No call prints
+ * or aborts.
  *
  * The caller's duties, which nothing checks:
  *  - a session is in one call at a time. It may go from thread to thread, where that is ordered (a lock, a join);
@@ -55,9 +56,10 @@
   X(PGWAL_WANTED, 14, "a page of the log has to be handed in")                                  \
   X(PGWAL_END, 15, "the log ends")                                                              \
   X(PGWAL_DAMAGED, 16, "the log is damaged there, or has a record that is not read")            \
-  X(PGWAL_FOLDER, 100, "the folder cannot be made or opened")                                   \
+  X(PGWAL_BEYOND, 17, "a segment is there behind the last one that the log may have")           \
+  X(PGWAL_FOLDER, 100, "the folder cannot be made, opened or read")                             \
   X(PGWAL_LOCKED, 101, "another program has the folder")                                        \
-  X(PGWAL_THERE, 102, "the folder has a log already")
+  X(PGWAL_OTHERS, 102, "the folder has segments that are not from the first one on, or of another size")
 
 #define PGWAL_ANSWER_(name, number, words) name = number,
 enum pgwal_answer { PGWAL_ANSWERS(PGWAL_ANSWER_) };
@@ -108,14 +110,27 @@ typedef struct {
   uint8_t *session;
 } pgwal_asked;
 
-enum { PGWAL_ASK_TAKE, PGWAL_ASK_ACKNOWLEDGE, PGWAL_ASK_FAIL, PGWAL_ASK_LEAVE };
+enum {
+  PGWAL_ASK_TAKE, PGWAL_ASK_ACKNOWLEDGE, PGWAL_ASK_FAIL, PGWAL_ASK_LEAVE, PGWAL_ASK_HAND_IN_FIRST, PGWAL_ASK_OPEN
+};
 enum { PGWAL_CREATE, PGWAL_WRITE, PGWAL_SYNC };
 
+/* A disk is made without a log. Its pages are handed in (or with `there` 0 that there is none such) until OPEN does
+ * not answer WANTED: then it has a log, whose first session it tells, and its calls are taken. At QUEUE the setup's
+ * `calls` are too few for what settles the log. */
 typedef struct {
   uint32_t asked, kind;
   uint64_t count, segment, seg_size, page;
   uint8_t bytes[8192];
+  uint32_t there, damage;
+  uint64_t end;
+  pgwal_setup setup;
+  uint8_t *session;
 } pgwal_disk_asked;
+
+typedef struct {
+  uint8_t *disk;
+} pgwal_disk_made;
 
 enum { PGWAL_ASK_BEGIN, PGWAL_ASK_NEXT, PGWAL_ASK_HAND_IN, PGWAL_ASK_DATA, PGWAL_ASK_CLOSE };
 
@@ -136,6 +151,7 @@ typedef struct {
 uint32_t pgwal_make_reader(pgwal_made *made);
 uint32_t pgwal_reader_call(uint8_t *reader, pgwal_reader_asked *asked);
 uint32_t pgwal_begin(const pgwal_setup *setup, pgwal_opened *opened);
+uint32_t pgwal_make_disk(pgwal_disk_made *made);
 uint32_t pgwal_session_call(uint8_t *session, const uint8_t *data, size_t len, pgwal_asked *asked);
 uint32_t pgwal_disk_call(uint8_t *disk, pgwal_disk_asked *asked);
 
@@ -278,22 +294,27 @@ static inline void pgwal_make_calls(pgwal_log *log) {
   }
 }
 
-static inline bool pgwal_folder_has_log(int folder) {
+/* How many segments' names the folder has, of whatever log; or -1. */
+static inline long pgwal_count_names(int folder) {
   int copy = openat(folder, ".", O_RDONLY | O_DIRECTORY | O_CLOEXEC);
   DIR *names = copy < 0 ? NULL : fdopendir(copy);
   if (!names) {
     if (copy >= 0) close(copy);
-    return true;
+    return -1;
   }
-  bool found = false;
+  long count = 0;
   for (struct dirent *name; (name = readdir(names));)
-    found = found || (strlen(name->d_name) == 24 && strspn(name->d_name, "0123456789ABCDEF") == 24);
+    count += strlen(name->d_name) == 24 && strspn(name->d_name, "0123456789ABCDEF") == 24;
   closedir(names);
-  return found;
+  return count;
 }
 
 /* Gives back what of a log was taken. */
 static inline uint32_t pgwal_let_go(pgwal_log *log, uint32_t answer) {
+  pgwal_asked end = {.asked = PGWAL_ASK_END};
+  if (log->session) pgwal_session_call(log->session, (const uint8_t *)"", 0, &end);
+  log->call.asked = PGWAL_ASK_LEAVE;
+  if (log->disk) pgwal_disk_call(log->disk, &log->call);
   if (log->file >= 0) close(log->file);
   if (log->folder >= 0) close(log->folder);
   free(log->idle);
@@ -303,28 +324,118 @@ static inline uint32_t pgwal_let_go(pgwal_log *log, uint32_t answer) {
   return answer;
 }
 
-/* Opens a log anew in a folder, which is made if it is missing and locked until the close. */
-static inline uint32_t pgwal_open(const char *folder, const pgwal_setup *setup, pgwal_log *log) {
-  *log = (pgwal_log){.folder = -1, .file = -1};
-  pthread_mutex_init(&log->turn_lock, NULL);
-  pthread_cond_init(&log->turn_passed, NULL);
-  pthread_mutex_init(&log->idle_lock, NULL);
-  if (mkdir(folder, 0700) < 0 && errno != EEXIST) return pgwal_let_go(log, PGWAL_FOLDER);
+/* Hands in the page of the call, as its file has it. */
+static inline uint32_t pgwal_hand_in_first(pgwal_log *log, int file) {
+  pgwal_disk_asked *call = &log->call;
+  call->there = 0;
+  for (size_t have = 0; file >= 0 && !call->there;) {
+    off_t at = (off_t)(call->page * sizeof call->bytes + have);
+    ssize_t n = pread(file, call->bytes + have, sizeof call->bytes - have, at);
+    if (n < 0 && errno == EINTR) continue;
+    if (n < 0) return PGWAL_FOLDER;
+    if (n == 0) break;
+    have += (size_t)n;
+    call->there = have == sizeof call->bytes;
+  }
+  call->asked = PGWAL_ASK_HAND_IN_FIRST;
+  return pgwal_disk_call(log->disk, call);
+}
+
+/* Opens a segment to be read, if it is there: DONE; OTHERS where it is no file of the segments' size. */
+static inline uint32_t pgwal_open_segment(pgwal_log *log, uint64_t segment, uint64_t seg_size, int *file) {
+  char name[25];
+  struct stat about;
+  pgwal_segment_name(name, segment, seg_size);
+  *file = openat(log->folder, name, O_RDONLY | O_CLOEXEC | O_NONBLOCK);
+  if (*file < 0) return errno == ENOENT ? PGWAL_DONE : PGWAL_FOLDER;
+  if (fstat(*file, &about) == 0 && S_ISREG(about.st_mode) && (uint64_t)about.st_size == seg_size) return PGWAL_DONE;
+  close(*file);
+  return PGWAL_OTHERS;
+}
+
+/* Hands in so many pages of a segment from its first one on, or that it is not there. */
+static inline uint32_t pgwal_hand_in_segment(pgwal_log *log, uint64_t segment, const pgwal_setup *setup, bool *there) {
+  int file;
+  uint32_t answer = pgwal_open_segment(log, segment, setup->seg_size, &file);
+  uint64_t pages = answer != PGWAL_DONE ? 0 : file < 0 ? 1 : setup->seg_size / sizeof log->call.bytes;
+  *there = answer == PGWAL_DONE && file >= 0;
+  for (uint64_t page = 0; answer == PGWAL_DONE && page < pages; page++) {
+    log->call.segment = segment, log->call.page = page;
+    answer = pgwal_hand_in_first(log, file);
+  }
+  if (*there) close(file);
+  return answer;
+}
+
+/* Hands in all segments from 1 on, and that no other one is there. */
+static inline uint32_t pgwal_hand_in_folder(pgwal_log *log, const pgwal_setup *setup) {
+  uint64_t segment = 0, size = setup->seg_size;
+  bool there = true;
+  if (size < 1 << 20 || size > 1 << 30 || (size & (size - 1))) return PGWAL_SETUP;
+  while (there && segment <= setup->cap_segments) {
+    uint32_t answer = pgwal_hand_in_segment(log, ++segment, setup, &there);
+    if (answer != PGWAL_DONE) return answer;
+  }
+  long names = pgwal_count_names(log->folder);
+  if (names < 0) return PGWAL_FOLDER;
+  return (uint64_t)names == segment - !there ? PGWAL_DONE : PGWAL_OTHERS;
+}
+
+/* Opens the log of a folder whose pages were handed in: what else is wanted is not there. */
+static inline uint32_t pgwal_open_disk(pgwal_log *log, const pgwal_setup *setup) {
+  log->call.setup = *setup;
+  for (;;) {
+    log->call.asked = PGWAL_ASK_OPEN;
+    uint32_t answer = pgwal_disk_call(log->disk, &log->call);
+    uint32_t *room = &log->call.setup.calls;
+    if (answer == PGWAL_WANTED) answer = pgwal_hand_in_first(log, -1);
+    else if (answer == PGWAL_QUEUE && *room < UINT32_MAX / 2) *room = *room ? 2 * *room : 256, answer = PGWAL_DONE;
+    else return answer;
+    if (answer != PGWAL_DONE) return answer;
+  }
+}
+
+/* Locks a folder, which is made if it is missing, and puts its name on the disk. */
+static inline uint32_t pgwal_take_folder(pgwal_log *log, const char *folder) {
+  if (mkdir(folder, 0700) < 0 && errno != EEXIST) return PGWAL_FOLDER;
   log->folder = open(folder, O_RDONLY | O_DIRECTORY | O_CLOEXEC);
-  if (log->folder < 0) return pgwal_let_go(log, PGWAL_FOLDER);
-  if (flock(log->folder, LOCK_EX | LOCK_NB) < 0) return pgwal_let_go(log, PGWAL_LOCKED);
-  if (pgwal_folder_has_log(log->folder)) return pgwal_let_go(log, PGWAL_THERE);
+  if (log->folder < 0) return PGWAL_FOLDER;
+  if (flock(log->folder, LOCK_EX | LOCK_NB) < 0) return PGWAL_LOCKED;
   int above = openat(log->folder, "..", O_RDONLY | O_DIRECTORY | O_CLOEXEC);
   bool settled = above >= 0 && fsync(log->folder) == 0 && fsync(above) == 0;
   if (above >= 0) close(above);
-  if (!settled) return pgwal_let_go(log, PGWAL_FOLDER);
-  log->idle = calloc(setup->sessions ? setup->sessions : 1, sizeof *log->idle);
-  if (!log->idle) return pgwal_let_go(log, PGWAL_MEMORY);
-  pgwal_opened opened = {0};
-  uint32_t answer = pgwal_begin(setup, &opened);
+  return settled ? PGWAL_DONE : PGWAL_FOLDER;
+}
+
+/* What was found of a log: how many records it has, and where it ends; at DAMAGED where it stops, and by what. */
+typedef struct {
+  uint64_t count, end;
+  const char *damage;
+} pgwal_log_found;
+
+/* Begins a log in a folder, or goes on with the one that is there (which is settled as `pgwal run --append` settles
+ * one: what stands behind its end is cleared). The folder is made if it is missing, and locked until the close. */
+static inline uint32_t pgwal_open(const char *folder, const pgwal_setup *setup, pgwal_log *log,
+                                  pgwal_log_found *found) {
+  *log = (pgwal_log){.folder = -1, .file = -1};
+  *found = (pgwal_log_found){.damage = ""};
+  pthread_mutex_init(&log->turn_lock, NULL);
+  pthread_cond_init(&log->turn_passed, NULL);
+  pthread_mutex_init(&log->idle_lock, NULL);
+  uint32_t answer = pgwal_take_folder(log, folder);
   if (answer != PGWAL_DONE) return pgwal_let_go(log, answer);
-  log->session = opened.session, log->disk = opened.disk;
-  return PGWAL_DONE;
+  log->idle = calloc(setup->sessions ? setup->sessions : 1, sizeof *log->idle);
+  pgwal_disk_made made = {0};
+  if (!log->idle || pgwal_make_disk(&made) != PGWAL_DONE) return pgwal_let_go(log, PGWAL_MEMORY);
+  log->disk = made.disk;
+  answer = pgwal_hand_in_folder(log, setup);
+  if (answer == PGWAL_DONE) answer = pgwal_open_disk(log, setup);
+  *found = (pgwal_log_found){log->call.count, log->call.end, ""};
+  if (answer == PGWAL_DAMAGED) found->damage = pgwal_damage_name(log->call.damage);
+  if (answer != PGWAL_DONE) return pgwal_let_go(log, answer);
+  log->session = log->call.session;
+  pgwal_make_calls(log);
+  return log->error ? pgwal_let_go(log, PGWAL_DOWN) : PGWAL_DONE;
 }
 
 /* A session for one thread. One that ended is taken up again, else it is split off the log's own. */
@@ -426,9 +537,6 @@ static inline uint32_t pgwal_close(pgwal_log *log) {
   pgwal_asked end = {.asked = PGWAL_ASK_END};
   while (log->idle_count > 0)
     pgwal_session_call(log->idle[--log->idle_count], (const uint8_t *)"", 0, &end);
-  pgwal_session_call(log->session, (const uint8_t *)"", 0, &end);
-  log->call.asked = PGWAL_ASK_LEAVE;
-  pgwal_disk_call(log->disk, &log->call);
   return pgwal_let_go(log, answer);
 }
 

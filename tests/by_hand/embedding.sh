@@ -1,8 +1,8 @@
 #!/usr/bin/env bash
 # Links the log into a program in C and one in Rust, which `rt ci` cannot: eight threads commit records side by
 # side, and each record stands in the log where its thread was told; so `pgwal dump` lists them, and so a program of
-# the same language reads them back. Then each program is killed at random moments, and no record that was told is
-# missing there. A log that is there cannot be opened again yet, so that is not tried.
+# the same language reads them back. Then each program goes on with that log; and it is killed at random moments, again
+# and again over one log, of which no record that was told in any of its lives is missing.
 #
 #     tests/by_hand/embedding.sh                              100,000 records a thread, 20 kills of each program
 #     tests/by_hand/embedding.sh RECORDS KILLS [PROGRAM]      and lists by another build
@@ -37,25 +37,38 @@ commits() {
   equal "$1: they are what is listed" $? 0
   "$3" pg_wal 2>err | sort | cmp -s - sorted
   equal "$1: they are what is read back" $? 0
-  "$2" pg_wal 1 >/dev/null 2>err
-  equal "$1: a log that is there" "$? $(grep -ciE 'has a log already|AlreadyExists' err)" '1 1'
+  "$2" pg_wal 1 places >more 2>err
+  equal "$1: the status over a log that is there" $? 0
+  sort told more >sorted
+  listed | cmp -s - sorted
+  equal "$1: it is gone on with" $? 0
+  equal "$1: a folder that is locked" "$(flock pg_wal "$2" pg_wal 1 2>&1 | grep -ciE 'another program|WouldBlock')" 1
+  touch pg_wal/000000010000000000000050
+  equal "$1: a later segment" "$("$2" pg_wal 1 2>&1 | grep -ciE 'segments that are not|Others')" 1
+  rm pg_wal/000000010000000000000050
+  printf X | dd of=pg_wal/000000010000000000000001 conv=notrunc status=none
+  equal "$1: a damaged log" "$("$2" pg_wal 1 2>&1 | grep -ci 'damaged.*magic')" 1
 }
 
-# killed NAME COMMAND READ: of a program that was killed each record that was told is listed, and read back
+# killed NAME COMMAND READ: of a program that was killed, and went on with its log and was killed again, each record that
+# was told in any of its lives is listed, and read back
 killed() {
   local number
+  rm -rf pg_wal
+  : >lives
   for ((number = 0; number < kills; number++)); do
-    rm -rf pg_wal
     "$2" pg_wal 1000000 places >told 2>err &
     sleep "0.$((RANDOM % 10))$((RANDOM % 10))"
     kill -KILL $! && wait $! 2>/dev/null
     # A line that was cut is not told.
-    sed '$d' told | sort >sorted
+    sed '$d' told >>lives
+    sort lives >sorted
     listed >all
     equal "$1, kill $number: records told and not listed" "$(comm -23 sorted all | wc -l)" 0
     "$3" pg_wal 2>err | sort >all
     equal "$1, kill $number: records told and not read back" "$(comm -23 sorted all | wc -l)" 0
   done
+  equal "$1: records told in several lives" "$(($(wc -l <lives) > 0))" 1
 }
 
 tried() {

@@ -12,7 +12,8 @@ static void appends(uint32_t ring, uint32_t sessions, size_t len, int rounds) {
       .seg_size = 16 << 20, .sysid = 1, .ring_pages = ring, .cap_segments = 64, .sessions = sessions + 1};
   static pgwal_log log;
   pgwal_session session[MOST];
-  uint32_t answer = pgwal_open("pg_ends", &setup, &log);
+  pgwal_log_found found;
+  uint32_t answer = pgwal_open("pg_ends", &setup, &log, &found);
   for (uint32_t i = 0; i < sessions && answer == PGWAL_DONE; i++) answer = pgwal_session_new(&log, &session[i]);
   pgwal_record record = {.xid = 1, .rmid = 128, .data = data, .len = len};
   pgwal_place place;

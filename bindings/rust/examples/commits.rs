@@ -1,4 +1,4 @@
-//! Eight threads commit records, and each prints where its last one stands.
+//! Eight threads commit records behind those that are there, and each prints where its last one stands.
 //!
 //!     cargo run --release --example commits [FOLDER [RECORDS [places]]]
 
@@ -30,6 +30,7 @@ fn main() -> Result<(), Error> {
     let places = words.get(3).is_some();
     let setup = Setup { seg_size: 16 << 20, sysid: 1, ring_pages: 64, cap_segments: 64, sessions: THREADS + 1 };
     let log = Log::open(folder, setup)?;
+    eprintln!("{:x?}", log.found());
     thread::scope(|scope| {
         let (log, mut threads) = (&log, Vec::new());
         for number in 0..THREADS {

@@ -1,5 +1,6 @@
 //! The calls of libpgwal_c.a, as the header of C has them.
 
+#[derive(Clone, Copy)]
 #[repr(C)]
 pub struct Setup {
     pub seg_size: u64,
@@ -8,12 +9,6 @@ pub struct Setup {
     pub cap_segments: u32,
     pub sessions: u32,
     pub calls: u32,
-}
-
-#[repr(C)]
-pub struct Opened {
-    pub session: *mut u8,
-    pub disk: *mut u8,
 }
 
 pub const SPLIT: u32 = 0;
@@ -46,6 +41,8 @@ pub const TAKE: u32 = 0;
 pub const ACKNOWLEDGE: u32 = 1;
 pub const FAIL: u32 = 2;
 pub const LEAVE: u32 = 3;
+pub const HAND_IN_FIRST: u32 = 4;
+pub const OPEN: u32 = 5;
 
 pub const CREATE: u32 = 0;
 pub const WRITE: u32 = 1;
@@ -59,6 +56,16 @@ pub struct DiskAsked {
     pub seg_size: u64,
     pub page: u64,
     pub bytes: [u8; 8192],
+    pub there: u32,
+    pub damage: u32,
+    pub end: u64,
+    pub setup: Setup,
+    pub session: *mut u8,
+}
+
+#[repr(C)]
+pub struct DiskMade {
+    pub disk: *mut u8,
 }
 
 pub const BEGIN: u32 = 0;
@@ -96,7 +103,7 @@ pub struct Made {
 unsafe extern "C" {
     pub fn pgwal_make_reader(made: *mut Made) -> u32;
     pub fn pgwal_reader_call(reader: *mut u8, asked: *mut ReaderAsked) -> u32;
-    pub fn pgwal_begin(setup: *const Setup, opened: *mut Opened) -> u32;
+    pub fn pgwal_make_disk(made: *mut DiskMade) -> u32;
     pub fn pgwal_session_call(session: *mut u8, data: *const u8, len: usize, asked: *mut Asked) -> u32;
     pub fn pgwal_disk_call(disk: *mut u8, asked: *mut DiskAsked) -> u32;
 }

@@ -1,12 +1,12 @@
-//! A write-ahead log for programs in Rust, over libpgwal_c.a. A log is opened anew, in a folder without segments; each
-//! thread has a [`Session`] of its own. A [`Records`] reads a log back. See the README of the bindings for what is proved of it, and what is trusted.
+//! A write-ahead log for programs in Rust, over libpgwal_c.a. [`Log::open`] begins one, or goes on with the one that is
+//! in the folder; each thread has a [`Session`] of its own. A [`Records`] reads a log back. See the README of the bindings for what is proved of it, and what is trusted.
 
 mod calls;
 mod disk;
 mod reading;
 
-use calls::{APPEND, Asked, END, FLUSH, Opened, SPLIT};
-use disk::Disk;
+use calls::{APPEND, Asked, DiskAsked, END, FLUSH, SPLIT};
+use disk::{Disk, Unopened};
 use std::io;
 use std::path::Path;
 use std::sync::{Arc, Condvar, Mutex, MutexGuard, PoisonError};
@@ -50,8 +50,14 @@ pub enum Error {
     Manager,
     /// As many sessions as the setup allows are there.
     Sessions,
-    /// What the folder answered: AlreadyExists where it has a log, WouldBlock where it is locked.
+    /// What the folder or a file of it answered: WouldBlock where it is locked.
     Folder(io::Error),
+    /// The log that is there is damaged at this address, or has a record there that is not read.
+    Damaged { at: u64, kind: &'static str },
+    /// A segment is there behind the last one that the log may have.
+    Beyond { segment: u64 },
+    /// The folder has segments that are not from the first one on, or of another size.
+    Others,
     /// An answer that should not come.
     Other(u32),
 }
@@ -82,6 +88,24 @@ fn error_of(answer: u32, asked: &Asked) -> Error {
         10 => Error::Sessions,
         other => Error::Other(other),
     }
+}
+
+fn unopened_error(why: Unopened, call: &DiskAsked) -> Error {
+    match why {
+        Unopened::Answer(16) => Error::Damaged { at: call.end, kind: reading::damage_name(call.damage) },
+        Unopened::Answer(17) => Error::Beyond { segment: call.segment },
+        Unopened::Answer(answer) => error_of(answer, &Asked::new(0)),
+        Unopened::Others => Error::Others,
+        Unopened::File(e) => Error::Folder(e),
+    }
+}
+
+/// What was found of a log when it was opened.
+#[derive(Clone, Copy, Debug, PartialEq, Eq)]
+pub struct LogFound {
+    /// How many records it has, and where it ends.
+    pub count: u64,
+    pub end: u64,
 }
 
 /// A record of main data alone.
@@ -209,25 +233,36 @@ impl Drop for Shared {
 /// A log. What is not flushed when it and all its sessions are dropped is not durable: [`Log::flush`] it before.
 pub struct Log {
     shared: Arc<Shared>,
+    found: LogFound,
 }
 
 impl Log {
-    /// Opens a log anew in a folder, which is made if it is missing, and locked until the log and all its sessions
-    /// are dropped. No segment may lie in it.
+    /// Begins a log in a folder, or goes on with the one that is there (which is settled as `pgwal run --append` settles
+    /// one: what stands behind its end is cleared). The folder is made if it is missing, and locked until the log and
+    /// all its sessions are dropped.
     pub fn open(folder: impl AsRef<Path>, setup: Setup) -> Result<Log, Error> {
         let taken = disk::take_folder(folder.as_ref()).map_err(Error::Folder)?;
         let path = folder.as_ref().canonicalize().map_err(Error::Folder)?;
         let Setup { seg_size, sysid, ring_pages, cap_segments, sessions } = setup;
         let setup = calls::Setup { seg_size, sysid, ring_pages, cap_segments, sessions, calls: 0 };
-        let mut opened = Opened { session: std::ptr::null_mut(), disk: std::ptr::null_mut() };
-        match unsafe { calls::pgwal_begin(&setup, &mut opened) } {
-            0 => {}
-            answer => return Err(error_of(answer, &Asked::new(0))),
+        let mut disk = Disk::new(&path, taken, setup).map_err(|_| Error::Memory)?;
+        let (opened, call) = disk.open();
+        if let Err(why) = opened {
+            let error = unopened_error(why, call);
+            disk.leave();
+            return Err(error);
         }
-        let disk = Mutex::new(Disk::new(opened.disk, &path, taken));
-        let idle = Mutex::new(Idle { own: Handle(opened.session), ended: Vec::new() });
-        let turns = Mutex::new((0, 0));
-        Ok(Log { shared: Arc::new(Shared { disk, idle, turns, turn_passed: Condvar::new() }) })
+        let (found, own) = (LogFound { count: call.count, end: call.end }, Handle(call.session));
+        let idle = Mutex::new(Idle { own, ended: Vec::new() });
+        let failed = disk.error.is_some();
+        let (disk, turns) = (Mutex::new(disk), Mutex::new((0, 0)));
+        let log = Log { shared: Arc::new(Shared { disk, idle, turns, turn_passed: Condvar::new() }), found };
+        if failed { Err(Error::Down) } else { Ok(log) }
+    }
+
+    /// What was found when it was opened.
+    pub fn found(&self) -> LogFound {
+        self.found
     }
 
     /// A session for one thread.

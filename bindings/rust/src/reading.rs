@@ -54,6 +54,10 @@ const DAMAGES: [&str; 20] = [
     "overwritten",
 ];
 
+pub fn damage_name(damage: u32) -> &'static str {
+    (damage as usize).checked_sub(1).and_then(|n| DAMAGES.get(n)).copied().unwrap_or("")
+}
+
 const DONE: u32 = 0;
 const WANTED: u32 = 14;
 const END_OF_LOG: u32 = 15;
@@ -170,8 +174,7 @@ impl Records {
                     return Ok(None);
                 }
                 DAMAGED => {
-                    let kind = DAMAGES.get(self.call.damage as usize - 1).copied().unwrap_or("");
-                    return Err(ReadError::Damaged { at: self.call.start, kind });
+                    return Err(ReadError::Damaged { at: self.call.start, kind: damage_name(self.call.damage) });
                 }
                 MEMORY => return Err(ReadError::Memory),
                 answer => return Err(ReadError::Other(answer)),

@@ -3,3 +3,4 @@ mod Appends
 mod Sessions
 mod Survival
 mod Soles
+mod Reopenings

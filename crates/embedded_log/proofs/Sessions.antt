@@ -1,6 +1,10 @@
 -- A session stays open, and a record that it appends stays so, from call to call.
 use Rattle.std.specs.Prelude.{Ok, Err}
-use Rattle.std.proofs.Common.{◌≡◌, ℕ, inl, refl, sym, subst}
+use Rattle.std.proofs.Common.{◌≡◌, ℕ, List, Some, inl, refl, sym, subst}
+use Rattle.segment_disk.specs.Tape.{empty_state}
+use Rattle.handed_pages.specs.Handed.{read_tape}
+use Rattle.handed_pages.specs.declared.page.HandedPage.{HandedPage}
+use Rattle.hosted_disk.specs.HostSegments.{HostSegment, host_state}
 use Rattle.wal_spelling.specs.Spelling.{Assembled}
 use Rattle.wal_page.specs.Order.{Entry}
 use Rattle.wal_types.specs.declared.answers.Receipt.{Receipt}
@@ -21,12 +25,15 @@ use Rattle.wal_log.specs.Inserting.{HasReserved}
 use Rattle.wal_log.specs.Logs.{IsPassOfLog}
 use Rattle.wal_log.specs.Opening.{IsOpened}
 use Rattle.wal_log.specs.PassLogs.{PassLog, log_of_pass}
+use Rattle.wal_log.specs.Reopening.{IsReopened}
+use Rattle.wal_log.specs.declared.reopening.Found.{Found}
 use Rattle.wal_log.specs.Standing.{KeepsPass, entry_in_flight}
 use Rattle.wal_log.proofs.Keeping.{further_pass, same_pass}
 use Rattle.wal_log_laws.specs.Growing.{GrowsTo}
 use Rattle.wal_log_laws.proofs.Grown.{begin_grows, grows_itself}
 use Rattle.embedded_log.specs.Appended.{IsAppended, IsBegunBy, IsGoing, wal_of_appending}
 use Rattle.embedded_log.specs.Opened.{IsFirstOn, OpensWithHost}
+use Rattle.embedded_log.specs.Reopened.{HasHanded, ReopensWithHost}
 use Rattle.embedded_log.specs.Sessions.{GoesOnOpen, IsOpenSession, setup_of_session, view_of_helper, view_of_session, wal_of_session}
 use Rattle.embedded_log.specs.declared.appending.Appending.{Appending}
 use Rattle.embedded_log.specs.declared.session.LogSession.{LogSession}
@@ -183,25 +190,56 @@ module _ {H : Type 0} where
 
   -- ---- a log is opened
 
+  -- the first session is on the log that it is of
+  begins_there : (wal : Wal HostedDisk) (first : Pass) (session : LogSession H)
+      → IsFirstOn wal first session → IsFirstOn (wal_of_session session) first session
+  begins_there wal first session begins = record {
+    log = refl;
+    pass = begins.pass;
+    helper = begins.helper;
+    kept = begins.kept;
+  }
+
   pub opens : (setup : Setup) (disk : HostedDisk) (wal : Wal HostedDisk) (first : Pass)
       (session : LogSession H) (calls : HostCalls H) → HasNoCalls disk
+      → hosted_tape disk ≡ Some (read_tape empty_state)
       → IsOpened hosted_tape hosted_moment hosted_faults setup disk wal first
       → IsFirstOn wal first session → HasBothEnds disk calls
       → OpensWithHost setup session calls
-  opens setup disk wal first session calls untouched opened begins ends = record {
+  opens setup disk wal first session calls untouched nothing opened begins ends = record {
     opens = record {
       disk = disk;
       untouched = untouched;
+      nothing = nothing;
       first = first;
       opened = subst (λ (w : Wal HostedDisk).
           IsOpened hosted_tape hosted_moment hosted_faults setup disk w first) (sym begins.log)
           opened;
-      begins = record {
-        log = refl;
-        pass = begins.pass;
-        helper = begins.helper;
-        kept = begins.kept;
-      };
+      begins = begins_there wal first session begins;
     };
     ends = ends;
   }
+
+  -- ---- a log is gone on with
+
+  pub reopens : (setup : Setup) (segments : List HostSegment) (pages : List HandedPage)
+      (disk : HostedDisk) (wal : Wal HostedDisk) (first : Pass) (found : Found)
+      (session : LogSession H) (calls : HostCalls H) → HasNoCalls disk
+      → (HasHanded segments pages → hosted_tape disk ≡ Some (read_tape (host_state segments)))
+      → IsReopened hosted_tape hosted_moment hosted_faults setup disk wal first found
+      → IsFirstOn wal first session → HasBothEnds disk calls
+      → ReopensWithHost setup segments pages session calls found
+  reopens setup segments pages disk wal first found session calls untouched tells reopened begins
+      ends = record {
+        reopens = record {
+          disk = disk;
+          untouched = untouched;
+          first = first;
+          reopened = subst (λ (w : Wal HostedDisk).
+              IsReopened hosted_tape hosted_moment hosted_faults setup disk w first found)
+              (sym begins.log) reopened;
+          begins = begins_there wal first session begins;
+        };
+        tells = tells;
+        ends = ends;
+      }

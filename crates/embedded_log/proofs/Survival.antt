@@ -1,11 +1,11 @@
 -- A record that was told to be durable survives each crash from the moment told on.
 use Rattle.std.proofs.Common.{◌≡◌, ℕ, ◌<◌, ◌≤◌, ◌^◌, List, Contains, refl, sym, subst}
-use Rattle.std.specs.Prelude.{None}
+use Rattle.std.specs.Prelude.{Option, Some}
 use Rattle.std.proofs.lemmas.List.Elements.{Contains-append_left}
-use Rattle.segment_disk.specs.declared.disk.Call.{Call}
-use Rattle.segment_disk.specs.Tape.{Tape, after_calls, empty_state}
+use Rattle.segment_disk.specs.Tape.{Tape, empty_state}
+use Rattle.handed_pages.specs.Handed.{read_tape}
 use Rattle.flush_core.specs.Pages.{HoldsNothing}
-use Rattle.hosted_disk.specs.Hosted.{HasNoCalls, hosted_faults, hosted_moment, hosted_tape}
+use Rattle.hosted_disk.specs.Hosted.{hosted_faults, hosted_moment, hosted_tape}
 use Rattle.hosted_disk.specs.declared.disk.HostedDisk.{HostedDisk}
 use Rattle.wal_spelling.specs.Spelling.{Assembled}
 use Rattle.wal_page.specs.Order.{Entry, finish_of}
@@ -29,10 +29,10 @@ use Rattle.embedded_log.specs.Sessions.{setup_of_session, wal_of_session}
 use Rattle.embedded_log.specs.Surviving.{ToldRecordsSurvive, WasTold}
 use Rattle.embedded_log.specs.declared.session.LogSession.{LogSession}
 
-holds_nothing : (disk : HostedDisk) → HasNoCalls disk → HoldsNothing (hosted_tape disk)
-holds_nothing disk none = λ segment.
-    subst (λ (calls : List Call). after_calls empty_state calls segment ≡ None) (sym none.calls)
-    refl
+holds_nothing : (disk : HostedDisk) → hosted_tape disk ≡ Some (read_tape empty_state)
+    → HoldsNothing (hosted_tape disk)
+holds_nothing disk nothing =
+    subst (λ (tape : Option Tape). HoldsNothing tape) (sym nothing) (λ segment. refl)
 
 -- the laws of a log that is closed, and of the entries that it keeps
 abbrev LeavesOrders : Type 0
@@ -89,7 +89,7 @@ survive leaves_orders keeps_entries = λ setup first last closed opens narrow sa
     let v = view_of_pass closes.pass in
     let leaves = leaves_orders setup opens.disk wal closes.pass closed
     (closed_from setup first last closed opens same closes) narrow in
-    let keeps = (leaves.1).keeps (holds_nothing opens.disk opens.untouched) t is in (
+    let keeps = (leaves.1).keeps (holds_nothing opens.disk opens.nothing) t is in (
       leaves.0,
       λ body receipt hard told.
           let e = (told.appended).entry in let p = (told.promised).promise in

@@ -2,4 +2,5 @@ pub mod Promised
 pub mod Sessions
 pub mod Appended
 pub mod Opened
+pub mod Reopened
 pub mod Surviving

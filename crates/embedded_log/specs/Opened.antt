@@ -1,5 +1,7 @@
 -- How a log begins and ends, by its first session and its last one.
-use Rattle.std.specs.Prelude.{◌≡◌, ◌<◌}
+use Rattle.std.specs.Prelude.{◌≡◌, ◌<◌, Some}
+use Rattle.segment_disk.specs.Tape.{empty_state}
+use Rattle.handed_pages.specs.Handed.{read_tape}
 use Rattle.hosted_disk.specs.Hosted.{HasBothEnds, HasNoCalls, hosted_faults, hosted_moment, hosted_tape}
 use Rattle.hosted_disk.specs.declared.calls.HostCalls.{HostCalls}
 use Rattle.hosted_disk.specs.declared.disk.HostedDisk.{HostedDisk}
@@ -30,10 +32,12 @@ module _ {H : Type 0} where
     pub helper : view_of_helper session ≡ split_off (view_of_pass first)
     pub kept : IsOpenSession session
 
-  -- .. of a log that was opened on a hosted disk of which nobody had called anything
+  -- .. of a log that was opened on a hosted disk that held nothing, and of which nobody had called
+  -- anything
   pub record OpensSession (setup : Setup) (session : LogSession H) : Type 0 where
     pub disk : HostedDisk
     pub untouched : HasNoCalls disk
+    pub nothing : hosted_tape disk ≡ Some (read_tape empty_state)
     pub first : Pass
     pub opened : IsOpened hosted_tape hosted_moment hosted_faults setup disk
         (wal_of_session session) first

@@ -1,7 +1,9 @@
 //! What a program that links the log may count on, proved by functions that do nothing.
 
 ghost use Rattle.machine_state.specs.declared.setup.Setup.{Setup};
+ghost use Rattle.wal_log.specs.declared.reopening.Found.{Found};
 ghost use Rattle.embedded_log.specs.Opened.{OpensSession};
+ghost use Rattle.embedded_log.specs.Reopened.{ReopensSession};
 ghost use Rattle.embedded_log.specs.Sessions.{GoesOnOpen, IsSole};
 ghost use Rattle.embedded_log.specs.Surviving.{ToldRecordsSurvive};
 ghost use Rattle.embedded_log.specs.declared.session.LogSession.{LogSession};
@@ -29,6 +31,8 @@ pub fn told_records_survive<H: Rule>()
 pub fn first_sessions_are_sole<H: Rule>()
     ensures opened { (setup : Setup) (session : LogSession H) → OpensSession setup session
         → IsSole session }
+    ensures reopened { (setup : Setup) (session : LogSession H) (found : Found)
+        → ReopensSession setup session found → IsSole session }
     ensures kept { (old new : LogSession H) → GoesOnOpen old new → IsSole old → IsSole new }
 {
     seats_keep_numbers();

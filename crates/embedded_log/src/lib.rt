@@ -2,8 +2,9 @@
 //! program makes the calls of the disk.
 //!
 //! `session` is what one thread calls with, and `shared` what all sessions share. A log is opened
-//! by `opening`, and its first session split by `splitting`. A record is appended by `appending`;
-//! `flushing` tells that it is durable. `closing` ends the log. `laws` says what all this comes to.
+//! by `opening`, or gone on with by `reopening`, and its first session split by `splitting`. A
+//! record is appended by `appending`; `flushing` tells that it is durable. `closing` ends the log.
+//! `laws` says what all this comes to.
 #![tactic(auto)]
 
 mod appending;
@@ -11,6 +12,7 @@ mod closing;
 mod flushing;
 mod laws;
 mod opening;
+mod reopening;
 mod session;
 mod shared;
 mod splitting;
@@ -19,5 +21,6 @@ pub use appending::{Append, Appending};
 pub use flushing::FlushRefusal;
 pub use laws::{first_sessions_are_sole, told_records_survive};
 pub use opening::{OpenRefusal, open};
+pub use reopening::{ReopenRefusal, ReopenStop, reopen};
 pub use session::LogSession;
 pub use shared::{FlushBusy, SharedLog};

@@ -46,13 +46,13 @@ pub fn open<H: Rule>(
     if setup.passes < 2 {
         return Err(OpenRefusal::Passes);
     }
-    let calls_of_flush = setup.ring_pages.saturating_add(CALLS_BESIDE_RING);
-    let Ok((disk, calls, host)) = hosted_disk(alloc, calls.max(calls_of_flush as usize)) else {
+    let of_flush = calls_of_flush(setup);
+    let Ok((disk, calls, host)) = hosted_disk(alloc, calls.max(of_flush as usize)) else {
         return Err(OpenRefusal::Memory);
     };
     match Wal::open(alloc, disk, setup) {
         Ok((wal, pass)) => {
-            match first_session(alloc, wal, pass, host, u64::from(calls_of_flush)) {
+            match first_session(alloc, wal, pass, host, u64::from(of_flush)) {
                 Ok(session) => Ok((session, calls)),
                 Err(_) => Err(OpenRefusal::Memory),
             }
@@ -61,8 +61,13 @@ pub fn open<H: Rule>(
     }
 }
 
+// How many calls one flush adds at most.
+pub(crate) fn calls_of_flush(setup: Setup) -> u32 {
+    setup.ring_pages.saturating_add(CALLS_BESIDE_RING)
+}
+
 // The first session, of the log's first pass and one that is split off it.
-fn first_session<H: Rule>(
+pub(crate) fn first_session<H: Rule>(
     alloc: Global,
     wal: Wal<HostedDisk>,
     mut pass: Pass,

@@ -13,6 +13,6 @@ mod reading;
 
 pub use host_log::HostLog;
 pub use laws::records_read_come_first;
-pub use page::{HandedPage, PageNumber};
+pub use page::{HandedPage, PageNumber, read_ordered};
 pub use pages::HandedPages;
 pub use reading::{HandedReader, NextRecord};

@@ -42,7 +42,7 @@ pub struct HandedPage {
 
 impl HandedPage {
     /// A page, or none, by its number.
-    pub(crate) fn of(number: PageNumber, page: Option<&Page>) -> HandedPage
+    pub fn of(number: PageNumber, page: Option<&Page>) -> HandedPage
         ensures number { result.number ≡ number }
         ensures bytes { bytes_handed result ≡ option_map (λ p. p.now) page.entry }
     {
@@ -83,4 +83,19 @@ pub(crate) fn read_held(pages: &[HandedPage], number: PageNumber, bytes: &mut Pa
         }
     }
     None
+}
+
+/// Reads a page, if it is held, without a look at all others where they stand in order.
+pub fn read_ordered(pages: &[HandedPage], number: PageNumber, bytes: &mut Page) -> Option<bool>
+    ensures { (state : DiskState) → has_pages state pages.now ≡ true
+        → IfSome result (λ there. IsPageRead (page_of_log state number) there bytes.new) }
+{
+    let at = pages.partition_point(|page| page.number.comes_before(number));
+    if at < pages.len() {
+        let held = &pages[at];
+        if number.segment == held.number.segment && number.page == held.number.page {
+            return Some(held.read_into(bytes));
+        }
+    }
+    read_held(pages, number, bytes)
 }

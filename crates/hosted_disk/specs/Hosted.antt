@@ -1,18 +1,31 @@
--- A disk whose calls a host makes: what was queued, and what the host has taken of it.
-use Rattle.std.specs.Prelude.{◌≡◌, ℕ, Bool, List, [], length, Option, Some}
+-- A disk whose calls a host makes: what it held at first, what was queued, and what the host has
+-- taken of it.
+use Rattle.std.specs.Prelude.{◌≡◌, ℕ, Bool, List, [], length, Option, Some, None, IfSome, option_map, refl}
 use Rattle.rtrb.specs.Ring.{IsPair, SameConsumer, known_items, received, sent}
 use Rattle.segment_disk.specs.declared.disk.Call.{Call}
-use Rattle.segment_disk.specs.Tape.{Tape, empty_state}
+use Rattle.segment_disk.specs.Tape.{Tape}
 use Rattle.hosted_disk.specs.declared.calls.HostCalls.{HostCalls}
 use Rattle.hosted_disk.specs.declared.disk.HostedDisk.{HostedDisk}
+use Rattle.hosted_disk.specs.HostSegments.{HostSegment, host_state}
 
 -- each call that was queued, in order
 abbrev pub calls_queued : HostedDisk → List Call
 calls_queued disk = sent disk.queue
 
--- the disk's tape: it held nothing, and each call was made as it was asked for
+-- these segments at first, where they are told, and these calls since
+abbrev pub tape_since : Option (List HostSegment) → List Call → Option Tape
+tape_since first calls =
+    option_map (λ segments. record { at_first = host_state segments; calls = calls }) first
+
+pub counts_calls : (first : Option (List HostSegment)) (calls : List Call)
+    → IfSome (tape_since first calls) (λ t. length calls ≡ length t.calls)
+counts_calls None calls = tt
+counts_calls (Some segments) calls = refl
+
+-- the disk's tape: what the host's disk held at first, as long as that has the pages as they were
+-- handed in, and each call as it was asked for
 abbrev pub hosted_tape : HostedDisk → Option Tape
-hosted_tape disk = Some (record { at_first = empty_state; calls = calls_queued disk })
+hosted_tape disk = tape_since ((disk.first).held).segments (calls_queued disk)
 
 -- how many calls were queued
 abbrev pub hosted_moment : HostedDisk → ℕ

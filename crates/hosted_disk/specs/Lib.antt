@@ -1,1 +1,2 @@
+pub mod HostSegments
 pub mod Hosted

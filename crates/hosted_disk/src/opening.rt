@@ -1,10 +1,12 @@
 // A disk is made with both ends of its queue.
-ghost use Rattle.std.specs.Prelude.{◌≡◌, [], false, IfOk};
+ghost use Rattle.std.specs.Prelude.{◌≡◌, [], false, IfOk, Some};
 ghost use Rattle.segment_disk.specs.Tape.{empty_state};
+ghost use Rattle.handed_pages.specs.Handed.{read_tape};
 ghost use Rattle.hosted_disk.specs.Hosted.{HasBothEnds, HasNoCalls, calls_taken, hosted_faults, hosted_tape};
 
 use crate::calls::HostCalls;
 use crate::disk::HostedDisk;
+use crate::first_pages::FirstPages;
 use crate::progress::HostProgress;
 use crate::words::QueueWords;
 use rtrb::RingBuffer;
@@ -21,6 +23,7 @@ pub fn hosted_disk<H: Rule>(
 ) -> Result<(HostedDisk, HostCalls<H>, HostProgress<H>), Memory>
     requires { H.invariant 0 }
     ensures disk { IfOk result (λ r. HasNoCalls r.0) }
+    ensures nothing { IfOk result (λ r. hosted_tape r.0 ≡ Some (read_tape empty_state)) }
     ensures calls { IfOk result (λ r. (calls_taken r.1 ≡ []) × (r.1.acknowledged ≡ 0)
         × (r.1.failed ≡ false)) }
     ensures ends { IfOk result (λ r. HasBothEnds r.0 r.1) }
@@ -36,6 +39,8 @@ pub fn hosted_disk<H: Rule>(
     let disk = HostedDisk {
         queue: producer,
         words: Arc::try_clone(&words)?,
+        first: FirstPages::nothing(alloc),
+        wanted: None,
         moment: 0,
         faults: 0,
     };

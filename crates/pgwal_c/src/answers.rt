@@ -34,3 +34,5 @@ pub const WANTED: u32 = 14;
 pub const END_OF_LOG: u32 = 15;
 /// The log stops at `start`, by `damage`.
 pub const DAMAGED: u32 = 16;
+/// A segment is there behind the last one that the log may have: `segment`.
+pub const BEYOND: u32 = 17;

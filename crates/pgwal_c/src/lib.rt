@@ -3,7 +3,7 @@
 //!
 //! `session_handle` is what threads call with, `disk_handle` what the disk's owner has, and
 //! `reader_handle` what a log is read with. `answers` has the numbers that all calls answer,
-//! `damages` those of what stops a log, and `opening` begins a log.
+//! `damages` those of what stops a log, `opening` begins a log, and `reopening` goes on with one.
 #![tactic(auto)]
 
 ghost use Rattle.std.specs.Prelude.{ℕ};
@@ -21,6 +21,7 @@ mod damages;
 mod disk_handle;
 mod opening;
 mod reader_handle;
+mod reopening;
 mod said;
 mod session_handle;
 #[cfg(test)]
@@ -29,6 +30,7 @@ mod tests;
 use disk_handle::{DiskCall, DiskHandle, call_disk};
 use opening::{LogHandles, LogSetup, ReaderMade, hand_out, hand_out_reader};
 use reader_handle::{ReaderCall, ReaderHandle, call_reader};
+use reopening::{DiskMade, hand_out_disk};
 use session_handle::{SessionCall, SessionHandle, call_session};
 use std::alloc::Global;
 
@@ -36,6 +38,12 @@ use std::alloc::Global;
 #[unsafe(no_mangle)]
 pub extern "C" fn pgwal_begin(alloc: Global, setup: &LogSetup, opened: &mut LogHandles) -> u32 {
     hand_out(alloc, setup, opened)
+}
+
+/// Makes the owner's end of a disk, on which a log can be opened.
+#[unsafe(no_mangle)]
+pub extern "C" fn pgwal_make_disk(alloc: Global, made: &mut DiskMade) -> u32 {
+    hand_out_disk(alloc, made)
 }
 
 /// A call of a session.

@@ -1,17 +1,21 @@
-// A log is begun: its first session and the disk's queue are handed out.
+// A log is begun: its first session and the disk's queue are handed out. For one that is there the
+// disk is handed out before it (reopening.rt).
+ghost use Rattle.embedded_log.specs.Sessions.{IsOpenSession};
+
 use crate::answers::{DONE, MEMORY, SETUP};
 use crate::disk_handle::DiskHandle;
 use crate::reader_handle::ReaderHandle;
 use crate::said::ProgramSaid;
 use crate::session_handle::SessionHandle;
 use byte_position::PAGE_SIZE;
-use embedded_log::{OpenRefusal, open};
+use embedded_log::{LogSession, OpenRefusal, open};
 use std::alloc::Global;
 use wal_log::{OpenFaultKind, Setup};
 
 /// What a log is begun with: the bytes of a segment, the system id, pages of the ring, segments
 /// that it may fill, sessions, and calls that the disk's queue has room for.
 #[repr(C)]
+#[derive(Clone, Copy)]
 pub struct LogSetup {
     pub seg_size: u64,
     pub sysid: u64,
@@ -40,32 +44,53 @@ fn refusal_answer(e: OpenRefusal) -> u32 {
     }
 }
 
-// The first session of a log that is begun, and the disk's queue.
-pub(crate) fn begin_log(
-    alloc: Global,
-    setup: &LogSetup,
-) -> Result<(SessionHandle, DiskHandle), u32> {
-    let log = Setup {
+// A session has two passes.
+pub(crate) fn setup_of(setup: &LogSetup) -> Setup {
+    Setup {
         seg_size: setup.seg_size,
         ring_pages: setup.ring_pages,
         cap_segments: setup.cap_segments,
         sysid: setup.sysid,
         passes: setup.sessions.saturating_mul(2),
-    };
-    let (session, calls) = match open::<ProgramSaid>(alloc, log, setup.calls as usize) {
-        Ok(parts) => parts,
-        Err(e) => return Err(refusal_answer(e)),
-    };
+    }
+}
+
+// The first session of a log, which ends there.
+pub(crate) fn session_of(
+    alloc: Global,
+    setup: &LogSetup,
+    session: LogSession<ProgramSaid>,
+    end: u64,
+) -> SessionHandle
+    requires { IsOpenSession session }
+{
     let half = u64::from(setup.ring_pages) * PAGE_SIZE / 2;
-    let session = SessionHandle {
+    SessionHandle {
         alloc,
         session: Some(session),
         half,
         share: half.saturating_sub(PAGE_SIZE) / u64::from(setup.sessions.max(1)),
-        end: 0,
-        written: 0,
-    };
-    Ok((session, DiskHandle { calls: Some(calls) }))
+        end,
+        written: end,
+    }
+}
+
+// The first session of a log that is begun, and the disk's queue.
+pub(crate) fn begin_log(
+    alloc: Global,
+    setup: &LogSetup,
+) -> Result<(SessionHandle, DiskHandle), u32> {
+    match open::<ProgramSaid>(alloc, setup_of(setup), setup.calls as usize) {
+        Ok((session, calls)) => {
+            let disk = DiskHandle {
+                alloc,
+                calls: Some(calls),
+                pages: Vec::new(alloc),
+            };
+            Ok((session_of(alloc, setup, session, 0), disk))
+        }
+        Err(e) => Err(refusal_answer(e)),
+    }
 }
 
 pub(crate) fn hand_out(alloc: Global, setup: &LogSetup, opened: &mut LogHandles) -> u32 {

@@ -1,10 +1,12 @@
 //! A commit as C makes it: appended, flushed, its calls made, and told. The place and the moment
 //! are those of docs/FORMATS.md: a log's first record starts behind the long header of its first
 //! page, and its flush makes a segment, writes a page and syncs. A reader wants a page, and ends
-//! where there is none.
+//! where there is none; so does a log that is opened want those that it has to know of.
 
-use crate::answers::{BEHIND, DONE, END_OF_LOG, WANTED};
-use crate::disk_handle::{ACKNOWLEDGE, CREATE, DiskCall, DiskHandle, SYNC, TAKE, WRITE, call_disk};
+use crate::answers::{BEHIND, DONE, END_OF_LOG, MISUSE, NONE, WANTED};
+use crate::disk_handle::{
+    ACKNOWLEDGE, CREATE, DiskCall, DiskHandle, HAND_IN_FIRST, OPEN, SYNC, TAKE, WRITE, call_disk,
+};
 use crate::opening::{LogSetup, begin_log};
 use crate::reader_handle::{BEGIN, HAND_IN, NEXT, ReaderCall, ReaderHandle, call_reader};
 use crate::session_handle::{APPEND, END, FLUSH, SessionCall, call_session};
@@ -19,6 +21,23 @@ const LOG: LogSetup = LogSetup {
     sessions: 1,
     calls: 0,
 };
+
+fn disk_call() -> DiskCall {
+    DiskCall {
+        asked: TAKE,
+        kind: 0,
+        count: 0,
+        segment: 0,
+        seg_size: 0,
+        page: 0,
+        bytes: [0; 8192],
+        there: 0,
+        damage: 0,
+        end: 0,
+        setup: LOG,
+        session: null_mut(),
+    }
+}
 
 // What was answered to the next call, and which call it was.
 fn made(disk: &mut DiskHandle, call: &mut DiskCall) -> (u32, u32, u64) {
@@ -50,15 +69,7 @@ fn a_commit_is_told_once_its_calls_are_made(rt: HostRuntime) -> Result<(), Fail>
     call.asked = FLUSH;
     call.upto = call.end;
     assert_eq!(rt; call_session(&mut session, b"", &mut call), BEHIND);
-    let mut page = DiskCall {
-        asked: TAKE,
-        kind: 0,
-        count: 0,
-        segment: 0,
-        seg_size: 0,
-        page: 0,
-        bytes: [0; 8192],
-    };
+    let mut page = disk_call();
     assert_eq!(rt; made(&mut disk, &mut page), (DONE, CREATE, 1));
     assert_eq!(rt; made(&mut disk, &mut page), (DONE, WRITE, 2));
     assert_eq!(rt; made(&mut disk, &mut page), (DONE, SYNC, 3));
@@ -67,6 +78,36 @@ fn a_commit_is_told_once_its_calls_are_made(rt: HostRuntime) -> Result<(), Fail>
     call.asked = END;
     assert_eq!(rt; call_session(&mut session, b"", &mut call), DONE);
     assert_eq!(rt; call_session(&mut session, b"", &mut call), DONE);
+    Ok(())
+}
+
+// Each page that is wanted of segment 1 is zeros, and no other segment is there.
+#[test]
+fn a_log_is_opened_by_what_is_handed_in(rt: HostRuntime) -> Result<(), Fail> {
+    let alloc = rt.alloc();
+    let mut disk = DiskHandle {
+        alloc,
+        calls: None,
+        pages: Vec::new(alloc),
+    };
+    let mut call = disk_call();
+    assert_eq!(rt; call_disk(&mut disk, &mut call), MISUSE);
+    call.asked = OPEN;
+    assert_eq!(rt; call_disk(&mut disk, &mut call), WANTED);
+    assert_eq!(rt; (call.segment, call.page), (4, 0));
+    for _ in 0..200 {
+        call.asked = HAND_IN_FIRST;
+        call.there = u32::from(call.segment == 1);
+        assert_eq!(rt; call_disk(&mut disk, &mut call), DONE);
+        call.asked = OPEN;
+        if call_disk(&mut disk, &mut call) != WANTED {
+            break;
+        }
+    }
+    assert_eq!(rt; (call.count, call.end), (0, 0x10_0000));
+    assert_eq!(rt; made(&mut disk, &mut call), (DONE, SYNC, 1));
+    call.asked = TAKE;
+    assert_eq!(rt; call_disk(&mut disk, &mut call), NONE);
     Ok(())
 }
 
