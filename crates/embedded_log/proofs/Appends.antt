@@ -1,5 +1,5 @@
 -- A record that was begun stays so while it is copied, and is appended once it is whole.
-use Rattle.std.proofs.Common.{◌≡◌, [], ◌∷◌, refl, sym, ap, ◌∙◌, subst, arith}
+use Rattle.std.proofs.Common.{◌≡◌, ℕ, List, [], ◌∷◌, refl, sym, ap, ◌∙◌, subst, arith}
 use mathlib.Core.Option.{Option, some}
 use Rattle.wal_spelling.specs.Spelling.{Assembled}
 use Rattle.wal_page.specs.Order.{Entry}
@@ -11,7 +11,7 @@ use Rattle.wal_rule.specs.declared.pass.Pass.{Pass}
 use Rattle.wal_rule.specs.Passes.{view_of_pass}
 use Rattle.wal_log.specs.declared.in_flight.Inflight.{Inflight}
 use Rattle.wal_log.specs.declared.wal.Wal.{Wal}
-use Rattle.wal_log.specs.Beginning.{IsPlaceBegun}
+use Rattle.wal_log.specs.Beginning.{IsBegunUnder}
 use Rattle.wal_log.specs.Flights.{Finishes, KeepsLog, view_of_flight}
 use Rattle.wal_log.specs.Inserting.{HasReserved}
 use Rattle.wal_log.specs.PassLogs.{PassLog, log_with_entry}
@@ -36,19 +36,19 @@ grown_by_entry e l m is = subst (λ (x : PassLog). GrowsTo l x) (sym is) (record
 })
 
 module _ (setup : Setup) (body : Assembled) (old : View) where
-  pub begins : (flight : Inflight)
-      → IsPlaceBegun setup body old (view_of_flight flight) flight.begun
+  pub begins : (flight : Inflight) (locks : List ℕ)
+      → IsBegunUnder setup body locks old (view_of_flight flight) (flight.begun).start.0
+      (flight.begun).end.0 (flight.begun).placed
       → KeepsPass old (view_of_flight flight) → IsBegunBy setup body old flight
-  begins flight place keeps =
-      let b = flight.begun in let now = view_of_flight flight in
-      let began = place.place in record {
+  begins flight locks began keeps =
+      let b = flight.begun in let now = view_of_flight flight in record {
         entry = began.entry;
         reserved = began.reserved;
         keeps = keeps;
         in_flight = began.in_flight;
         start_is = began.start_is;
-        end_is = ends_there setup body (b.lock.0 ∷ []) old now now b.start.0 b.end.0 b.placed
-            began keeps (same_pass now) refl;
+        end_is = ends_there setup body locks old now now b.start.0 b.end.0 b.placed began keeps
+            (same_pass now) refl;
       }
 
   -- what a call keeps of a pass and its log keeps an entry reserved

@@ -61,7 +61,7 @@ module _ {H : Type 0} where
       let began = subst (λ (x : SharedLog H). AnswersTryBegin x.wal body old (Ok flight)) is answers
       in
       let begun : IsBegunBy (setup_of_session s) body old flight =
-      begins (setup_of_session s) body old flight began.1 began.2 in record {
+      begins (setup_of_session s) body old flight _ (began.1).place began.2 in record {
         same_log = refl;
         kept = record {
           flight = began.0;

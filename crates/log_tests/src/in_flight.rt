@@ -207,7 +207,7 @@ fn is_hard<R: Abort>(rt: &R, log: &Log, pass: &mut Pass, told: Hard)
 }
 
 // Its words are copied that are left, so many, and its lock is given back.
-fn finished<'a, R: Abort>(
+pub(crate) fn finished<'a, R: Abort>(
     rt: &R,
     log: &Log,
     mut flight: Inflight<'a>,

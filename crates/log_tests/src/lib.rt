@@ -31,6 +31,8 @@ mod steps;
 #[cfg(test)]
 mod stuck;
 #[cfg(test)]
+mod switch_tries;
+#[cfg(test)]
 mod tables;
 #[cfg(test)]
 mod told;

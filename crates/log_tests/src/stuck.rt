@@ -88,7 +88,7 @@ const BEHIND: &[Step] = &[
 ];
 
 // A pass that is split off the first one.
-fn split(log: &Log, first: &mut Pass) -> Result<Pass, Fail>
+pub(crate) fn split(log: &Log, first: &mut Pass) -> Result<Pass, Fail>
     requires first { IsPassOfLog log.now first.old }
     ensures first { IsPassOfLog log.now first.new }
     ensures second { IfOk result (λ pass. IsPassOfLog log.now pass) }

@@ -1,5 +1,5 @@
 -- A record in flight, with its pass seated at the log's table and put back from there.
-use Rattle.std.proofs.Common.{◌≡◌, ◌≢◌, ◌≤◌, inl, ℕ, List, [], ◌∷◌, refl, sym, ap, ◌∙◌, subst, arith}
+use Rattle.std.proofs.Common.{◌≡◌, ◌≢◌, ◌≤◌, inl, ℕ, List, [], length, refl, sym, ap, ◌∙◌, subst, arith}
 use Rattle.byte_position.specs.Position.{address_of}
 use Rattle.wal_spelling.specs.Spelling.{Assembled}
 use Rattle.wal_types.specs.declared.answers.Receipt.{Receipt}
@@ -19,19 +19,24 @@ use Rattle.wal_rule.specs.Passes.{view_of_pass}
 use Rattle.wal_rule.specs.SeatedPasses.{HasView, Steps, setup_of, view_of}
 use Rattle.wal_rule.specs.Stepping.{Meets}
 use Rattle.wal_rule.specs.Tables.{IsPassOn, setup_of_table}
-use Rattle.insert_locks.specs.Holding.{NothingLeft}
-use Rattle.insert_locks.proofs.Runs.{one_lock}
+use Rattle.insert_locks.specs.Holding.{AreLocks, NothingLeft}
+use Rattle.insert_locks.proofs.Runs.{one_lock, run_locks}
+use Rattle.reserve_lock.specs.declared.reserving.Reserved.{Reserved}
 use Rattle.word_ring.proofs.CopyLaws.{words-left}
 use Rattle.wal_log.specs.declared.beginning.Begun.{Begun}
+use Rattle.wal_log.specs.declared.held_locks.Held.{Held}
+use Rattle.wal_log.specs.declared.held_locks.Held.TheVariants.{One, All}
 use Rattle.wal_log.specs.declared.in_flight.Inflight.{Inflight}
 use Rattle.wal_log.specs.declared.wal.Wal.{Wal}
-use Rattle.wal_log.specs.Beginning.{IsPlaceBegun}
+use Rattle.wal_log.specs.Beginning.{IsBegunUnder, IsPlaceBegun}
 use Rattle.wal_log.specs.Copying.{CopyGoesOn}
 use Rattle.wal_log.specs.Downs.{KnowsNoFault, MeetsDown}
-use Rattle.wal_log.specs.Flights.{Finishes, GivesUpCopy, IsHandedBack, IsInFlightOf, KeepsLog, view_of_flight}
-use Rattle.wal_log.specs.Logs.{setup_of_log, table_of}
+use Rattle.wal_log.specs.Flights.{BeginsFlight, Finishes, GivesUpCopy, IsHandedBack, IsInFlightOf, KeepsLog, view_of_flight}
+use Rattle.wal_log.specs.HeldLocks.{locks_of}
+use Rattle.wal_log.specs.Logs.{IsPassOfLog, setup_of_log, table_of}
 use Rattle.wal_log.specs.PassLogs.{log_of_pass}
-use Rattle.wal_log.specs.Standing.{CopiesAlone, CopiesUnder, GoesOnSeated, KeepsPass, entry_in_flight, entry_of_flight}
+use Rattle.wal_log.specs.Standing.{CopiesAlone, CopiesUnder, KeepsPass, entry_in_flight, entry_of_flight}
+use Rattle.wal_log.specs.Switching.{IsSwitchBegun}
 use Rattle.wal_log.specs.Whole.{CopiesWhole}
 use Rattle.wal_log.proofs.CopyLaws.{alone_rest, alone_whole}
 use Rattle.wal_log.proofs.Keeping.{copies_stay, down_met_keeps, none_loaded, same_pass}
@@ -46,6 +51,22 @@ same_start : (setup : Setup) (c : Copy) (placed : PlacedState) (start at : ℕ)
     → (c.entry).start ≡ placed.start → start ≡ address_of setup.seg_size (c.entry).start
 same_start setup c placed start at is there same =
     is ∙ ap (address_of setup.seg_size) (sym (same ∙ there))
+
+-- an insert has one lock, a switch all: one at least
+locks_some : (held : Held) → 1 ≤ length (locks_of held)
+locks_some (One lock) = omega arith
+locks_some All = omega arith
+
+-- a pass copies under one lock what was begun so, or a switch under all
+abbrev pub insert_flight : Pass → Begun → Inflight
+insert_flight pass b = record {
+  pass = pass;
+  held = One b.lock;
+  begun = record { start = b.start; end = b.end; placed = b.placed };
+}
+
+abbrev pub switch_flight : Pass → Reserved → Inflight
+switch_flight pass r = record { pass = pass; held = All; begun = r }
 
 module _ {D : Type 0} (wal : Wal D) (pass : Pass) (seated : SeatedPass D)
     (view : (seated.seat).me ≡ (view_of_pass pass, [])) (table : (seated.table).now ≡ table_of wal)
@@ -62,51 +83,90 @@ module _ {D : Type 0} (wal : Wal D) (pass : Pass) (seated : SeatedPass D)
         (subst (λ (v : View). Answers (setup_of_log wal) v new) (seen_is wal pass seated view)
         (subst (λ (s : Setup). Answers s (view_of seated) new) own answers))
 
-    -- ---- a place was begun
+    module _ (new : SeatedPass D) (same : new.table ≡ seated.table) (after : Pass)
+        (back : view_of_pass after ≡ view_of new) (put : IsPassOn (new.table).now after) where
+      -- ---- a place was begun
 
-    module _ (body : Assembled) (new : SeatedPass D) (begun : Begun)
-        (place : IsPlaceBegun (setup_of seated) body (view_of seated) (view_of new) begun)
-        (goes_on : GoesOnSeated seated new) (after : Pass) (back : view_of_pass after ≡ view_of new)
-        (put : IsPassOn (new.table).now after) where
-      begun_so : IsPlaceBegun (setup_of_log wal) body (view_of_pass pass) (view_of_pass after) begun
-      begun_so = moved (λ setup old w. IsPlaceBegun setup body old w begun) (view_of new) after
-          back place
+      flight_so : (body : Assembled) (held : Held) (r : Reserved) → AreLocks (locks_of held)
+          → IsBegunUnder (setup_of_log wal) body (locks_of held) (view_of_pass pass)
+          (view_of_pass after) r.start.0 r.end.0 r.placed
+          → IsInFlightOf wal (record { pass = after; held = held; begun = r })
+      flight_so body held r are b = record {
+        of_log = back_on wal pass seated view new same table after put;
+        are = are;
+        copies = b.copies;
+        start_is = same_start (setup_of_log wal) (b.copies).copy r.placed r.start.0 (b.entry).start
+            b.start_is (ap (λ (p : PlacedState). p.start) b.placed_is)
+            (sym (ap (λ (p : PlacedState). p.start) (b.copies).rest));
+        end_is = b.end_is;
+      }
 
-      flight_so : IsInFlightOf wal (record { pass = after; begun = begun })
-      flight_so =
-          let b = begun_so.place in record {
-            of_log = back_on wal pass seated view new (goes_on.stays).same_table table after put;
-            lock_low = begun_so.lock_low;
-            copies = b.copies;
-            start_is = same_start (setup_of_log wal) (b.copies).copy begun.placed begun.start.0
-                (b.entry).start b.start_is (ap (λ (p : PlacedState). p.start) b.placed_is)
-                (sym (ap (λ (p : PlacedState). p.start) (b.copies).rest));
-            end_is = b.end_is;
-          }
+      kept_so : KeepsPass (view_of seated) (view_of new)
+          → KeepsPass (view_of_pass pass) (view_of_pass after)
+      kept_so keeps = moved (λ setup old w. KeepsPass old w) (view_of new) after back keeps
 
-      pub flight_begins : IsInFlightOf wal (record { pass = after; begun = begun })
-          × IsPlaceBegun (setup_of_log wal) body (view_of_pass pass) (view_of_pass after) begun
+      pub flight_begins : (body : Assembled) (begun : Begun)
+          → IsPlaceBegun (setup_of seated) body (view_of seated) (view_of new) begun
+          → KeepsPass (view_of seated) (view_of new)
+          → IsInFlightOf wal (insert_flight after begun)
+          × BeginsFlight (setup_of_log wal) body (view_of_pass pass) (insert_flight after begun)
           × KeepsPass (view_of_pass pass) (view_of_pass after)
-      flight_begins = (
-        flight_so,
-        begun_so,
-        moved (λ setup old w. KeepsPass old w) (view_of new) after back goes_on.keeps,
+      flight_begins body begun place keeps =
+          let b : IsPlaceBegun (setup_of_log wal) body (view_of_pass pass) (view_of_pass after)
+          begun = moved (λ setup old w. IsPlaceBegun setup body old w begun) (view_of new) after
+          back place in (
+            flight_so body (One begun.lock) (insert_flight after begun).begun
+                (one_lock begun.lock.0 b.lock_low) b.place,
+            record { lock = begun.lock; one = refl; place = b.place },
+            kept_so keeps,
+          )
+
+      pub switch_begins : (body : Assembled) (r : Reserved)
+          → IsSwitchBegun (setup_of seated) body (view_of seated) (view_of new) r
+          → KeepsPass (view_of seated) (view_of new)
+          → IsInFlightOf wal (switch_flight after r)
+          × ((All ≡ All)
+          × IsSwitchBegun (setup_of_log wal) body (view_of_pass pass) (view_of_pass after) r)
+          × KeepsPass (view_of_pass pass) (view_of_pass after)
+      switch_begins body r switches keeps =
+          let b : IsSwitchBegun (setup_of_log wal) body (view_of_pass pass) (view_of_pass after) r =
+          moved (λ setup old w. IsSwitchBegun setup body old w r) (view_of new) after back switches
+          in (
+            flight_so body All r (run_locks 8 (omega arith)) b.place,
+            (refl, b),
+            kept_so keeps,
+          )
+
+      -- ---- nothing was begun
+
+      pub told_back : IsResting (view_of new) → (Told : Setup → View → View → Type 0)
+          → Told (setup_of seated) (view_of seated) (view_of new)
+          → KeepsPass (view_of seated) (view_of new)
+          → IsPassOfLog wal after × Told (setup_of_log wal) (view_of_pass pass) (view_of_pass after)
+          × KeepsPass (view_of_pass pass) (view_of_pass after)
+      told_back rests Told told keeps = (
+        record {
+          of_log = back_on wal pass seated view new same table after put;
+          rests = subst IsResting (sym back) rests;
+        },
+        moved Told (view_of new) after back told,
+        kept_so keeps,
       )
 
 module _ {D : Type 0} (wal : Wal D) (flight : Inflight) (is : IsInFlightOf wal flight)
     (seated : SeatedPass D) (view : (seated.seat).me ≡ (view_of_pass flight.pass, []))
     (table : (seated.table).now ≡ table_of wal) where
   abbrev locks : List ℕ
-  locks = (flight.begun).lock.0 ∷ []
+  locks = locks_of flight.held
 
   abbrev placed : PlacedState
   placed = (flight.begun).placed
 
-  -- seated, it copies under its lock
+  -- seated, it copies under its locks
   pub flight_copies : CopiesAlone locks placed seated
   flight_copies = record {
-    some = omega arith;
-    are = one_lock (flight.begun).lock.0 is.lock_low;
+    some = locks_some flight.held;
+    are = is.are;
     under = subst (λ (v : View). CopiesUnder (setup_of seated) locks placed v)
         (sym (seen_is wal flight.pass seated view))
         (subst (λ (s : Setup). CopiesUnder s locks placed (view_of_flight flight))
@@ -129,12 +189,13 @@ module _ {D : Type 0} (wal : Wal D) (flight : Inflight) (is : IsInFlightOf wal f
 
     pub flight_goes_on : IsInFlightOf wal (record {
       pass = after;
+      held = flight.held;
       begun = record flight.begun { placed = further };
     })
     flight_goes_on = record {
       of_log = back_on wal flight.pass seated view new ((on.goes_on).stays).same_table table after
           put;
-      lock_low = is.lock_low;
+      are = is.are;
       copies = still_under;
       start_is = same_start (setup_of_log wal) (still_under.copy) further (flight.begun).start.0
           ((is.copies).copy.entry).start is.start_is
@@ -233,11 +294,11 @@ module _ {D : Type 0} (wal : Wal D) (flight : Inflight) (is : IsInFlightOf wal f
     -- none was met
     pub flight_comes_back : faults ≡ 0 → (after : Pass) → view_of_pass after ≡ view_of loaded
         → IsPassOn (loaded.table).now after
-        → IsHandedBack wal flight (record { pass = after; begun = flight.begun })
+        → IsHandedBack wal flight (record flight { pass = after })
     flight_comes_back none after back put = record {
       flight_is = record {
         of_log = back_on wal flight.pass seated view loaded load.same_table table after put;
-        lock_low = is.lock_low;
+        are = is.are;
         copies = moved wal flight.pass seated view table
             (λ setup old w. CopiesUnder setup locks placed w) (view_of loaded) after back
             loaded_under;
@@ -252,7 +313,7 @@ module _ {D : Type 0} (wal : Wal D) (flight : Inflight) (is : IsInFlightOf wal f
             loaded_under).rest));
         end_is = is.end_is;
       };
-      begun = refl;
+      same = refl;
       entry = moved wal flight.pass seated view table
           (λ setup old w. entry_in_flight w ≡ entry_in_flight old) (view_of loaded) after back
           (ap (λ (v : View). entry_in_flight v) (view_is load));

@@ -33,3 +33,4 @@ mod Having
 mod SwitchLaws
 pub mod Seated
 pub mod Lanes
+mod SwitchTryLaws

@@ -121,7 +121,7 @@ module _ {D : Type 0} where
   }
 
   -- a step of a pass that leaves this view
-  steps_on : (old new : SeatedPass D) (v : View) → HasView v old new → KeepsPass (view_of old) v
+  pub steps_on : (old new : SeatedPass D) (v : View) → HasView v old new → KeepsPass (view_of old) v
       → v.async_met ≡ (view_of old).async_met
       → log_of_pass v ≡ log_of_pass (view_of old) → (locks : List ℕ) → HasLocks locks v
       → HoldsOn locks old new
@@ -378,7 +378,7 @@ module _ (setup : Setup) (body : Assembled) (old between new : View)
     up = f.up;
   }
 
-  no_room_since : (free : ℕ) → FindsNoRoom setup body free between new
+  pub no_room_since : (free : ℕ) → FindsNoRoom setup body free between new
       → FindsNoRoom setup body free old new
   no_room_since free f = record {
     full = full_since setup body old between new keeps same free f.full;
@@ -452,7 +452,7 @@ module _ (setup : Setup) (body : Assembled) (old v new : View) (is : new ≡ res
     up = record { met = (f.up).met; set = (f.up).set };
   })
 
-  room_rests : (free : ℕ) → FindsNoRoom setup body free old v → FindsNoRoom setup body free old new
+  pub room_rests : (free : ℕ) → FindsNoRoom setup body free old v → FindsNoRoom setup body free old new
   room_rests free told = subst (FindsNoRoom setup body free old) (sym is) (record {
     full = full_rests setup body free old v told.full;
     some = told.some;

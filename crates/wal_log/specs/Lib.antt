@@ -21,3 +21,4 @@ pub mod Committing
 pub mod Flights
 pub mod Closing
 pub mod Sharing
+pub mod SwitchTries

@@ -4,7 +4,8 @@
 // the same steps. Meanwhile the pass has one insertion lock, with the record in flight under it:
 // other passes insert and flush beside it. While the lock tells nothing, each flush of an address
 // that is not flushed yet ends at it, also one below the record; once it tells an address, flushes
-// pass up to there. Behind a failed disk the copy may be given up, as an insert does it.
+// pass up to there. Behind a failed disk the copy may be given up, as an insert does it. A segment
+// switch goes on by the same calls, under all eight locks (switch_tries.rt).
 ghost use Rattle.std.specs.Prelude.{◌≡◌, false, IsErrAnd};
 ghost use Rattle.wal_spelling.specs.Spelling.{is_assembled_switch};
 ghost use Rattle.wal_rule.specs.Downs.{KnowsDown};
@@ -14,21 +15,23 @@ ghost use Rattle.wal_log.specs.Copying.{CopiesFront};
 ghost use Rattle.wal_log.specs.Flights.{AnswersFinish, AnswersGiveUp, AnswersTryBegin, IsInFlightOf, StaysInFlight, view_of_flight};
 ghost use Rattle.wal_log.specs.Logs.{IsPassOfLog, setup_of_log};
 
-use crate::beginning::{Begun, TryErr, try_begin};
+use crate::beginning::{TryErr, try_begin};
 use crate::copying::{Copied, copy_front};
-use crate::held_locks::Held;
+use crate::held_locks::{Held, release_held};
 use crate::wal::Wal;
-use insert_locks::release;
+use reserve_lock::Reserved;
 use segment_disk::Disk;
 use wal_rule::Pass;
 use wal_spelling::Body;
 use wal_types::Receipt;
 
-/// A record whose place is reserved, with the pass that copies it under an insertion lock. Who has
-/// it spends it by `finish`, or behind a failed disk by `give_up`: it cannot be dropped.
+/// A record whose place is reserved, with the pass that copies it under an insertion lock, or a
+/// segment switch under all eight. Who has it spends it by `finish`, or behind a failed disk by
+/// `give_up`: it cannot be dropped.
 pub struct Inflight<'a> {
     pub(crate) pass: Pass,
-    pub(crate) begun: Begun<'a>,
+    pub(crate) held: Held,
+    pub(crate) begun: Reserved<'a>,
 }
 
 impl<D: Disk> Wal<D> {
@@ -55,7 +58,15 @@ impl<D: Disk> Wal<D> {
         let tried = try_begin(&mut seated, body);
         pass.put_back(seated);
         match tried {
-            Ok(begun) => Ok(Inflight { pass, begun }),
+            Ok(begun) => Ok(Inflight {
+                pass,
+                held: Held::One(begun.lock),
+                begun: Reserved {
+                    start: begun.start,
+                    end: begun.end,
+                    placed: begun.placed,
+                },
+            }),
             Err(e) => Err((e, pass)),
         }
     }
@@ -63,7 +74,7 @@ impl<D: Disk> Wal<D> {
 
 impl<'a> Inflight<'a> {
     /// Copies the record's next words, at most `n`, and maps pages for them where that can be done.
-    /// It does not wait. Where words are left it tells under the lock how far it came, unless `n`
+    /// It does not wait. Where words are left it tells under its locks how far it came, unless `n`
     /// is 0.
     pub fn copy<D: Disk>(&mut self, wal: &Wal<D>, n: u32) -> Copied
         requires flight { IsInFlightOf wal.now self.old }
@@ -75,13 +86,14 @@ impl<'a> Inflight<'a> {
         ensures stays { StaysInFlight self.old self.new }
     {
         let mut seated = self.pass.seat(&wal.table);
-        let Begun { lock, end, .. } = self.begun;
-        let copied = copy_front(&mut seated, Held::One(lock), end, &mut self.begun.placed, n);
+        let held = self.held;
+        let Reserved { end, .. } = self.begun;
+        let copied = copy_front(&mut seated, held, end, &mut self.begun.placed, n);
         self.pass.put_back(seated);
         copied
     }
 
-    /// Gives the record's lock back, where no word of it is left, and tells its place.
+    /// Gives the record's locks back, where no word of it is left, and tells its place.
     pub fn finish<D: Disk>(self, wal: &Wal<D>) -> Result<(Receipt, Pass), Inflight<'a>>
         requires flight { IsInFlightOf wal.now self }
         // Each word of the record was copied, and the pass is about nothing. Or words are left, and
@@ -91,9 +103,13 @@ impl<'a> Inflight<'a> {
         if self.begun.placed.next_lsn().0 < self.begun.end.0 {
             return Err(self);
         }
-        let Inflight { mut pass, begun } = self;
+        let Inflight {
+            mut pass,
+            held,
+            begun,
+        } = self;
         let mut seated = pass.seat(&wal.table);
-        release(&mut seated, begun.lock);
+        release_held(&mut seated, held);
         pass.company.note(begun.start, begun.end);
         pass.put_back(seated);
         let receipt = Receipt {
@@ -104,19 +120,23 @@ impl<'a> Inflight<'a> {
     }
 
     /// Loads down, and behind a failed disk gives the copy up: the record keeps its place, and its
-    /// lock stays held for good.
+    /// locks stay held for good.
     pub fn give_up<D: Disk>(self, wal: &Wal<D>) -> Result<Pass, Inflight<'a>>
         requires flight { IsInFlightOf wal.now self }
         // The down value was met, and the pass is about nothing. Or none was, and it is handed
         // back, the record as it was.
         ensures gives_up { AnswersGiveUp wal.now self.entry result }
     {
-        let Inflight { mut pass, begun } = self;
+        let Inflight {
+            mut pass,
+            held,
+            begun,
+        } = self;
         let mut seated = pass.seat(&wal.table);
         let faults = seated.load_down();
         if faults == 0 {
             pass.put_back(seated);
-            return Err(Inflight { pass, begun });
+            return Err(Inflight { pass, held, begun });
         }
         seated.give_up();
         pass.put_back(seated);

@@ -4,10 +4,11 @@
 //!
 //! `wal` says what a pass may hold at once. An insert is `inserting`: its place is reserved in
 //! `beginning`, its words are copied in `copying`, its lock is given back in `landing`. Its steps
-//! are calls of their own in `in_flight`. `switching` ends a segment. A flush is `flushing`;
-//! `promised` tells what is durable without one. `ahead` answers a commit before it is durable, and
-//! `behind` flushes behind such commits. `writing` and `turns` serve a flush, and an insert that
-//! needs a buffer; `held_locks` has the locks under which a record is copied.
+//! are calls of their own in `in_flight`. `switching` ends a segment, `switch_tries` by one try. A
+//! flush is `flushing`; `promised` tells what is durable without one. `ahead` answers a commit
+//! before it is durable, and `behind` flushes behind such commits. `writing` and `turns` serve a
+//! flush, and an insert that needs a buffer; `held_locks` has the locks under which a record is
+//! copied.
 #![tactic(auto)]
 
 mod ahead;
@@ -30,6 +31,7 @@ mod reopening;
 mod room;
 pub mod shared_numbers;
 mod splitting;
+mod switch_tries;
 mod switching;
 mod turns;
 mod wal;
@@ -47,6 +49,7 @@ pub use inserting::{InsertErr, InsertErr as SwitchErr};
 pub use machine_state::Setup;
 pub use opening::{OpenFault, OpenFaultKind};
 pub use reopening::Found;
+pub use switch_tries::{SwitchBegun, TrySwitchErr};
 pub use switching::Switch;
 pub use wal::Wal;
 pub use wal_rule::Pass;

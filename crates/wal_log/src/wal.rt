@@ -3,12 +3,13 @@
 // docs/COMMIT.md has a list of who may change which word, and when.
 //
 // Between two calls a `Pass` holds nothing, and an `Inflight` one insertion lock, with its record
-// in flight. A call seats the pass, and puts it back where it is about nothing again, or about just
-// that. In an insert it takes an insertion lock, then locks the position, and unlocks that before
-// it copies. While it copies, under that lock, it may take the turn to map or the turn to write,
-// and never has both. A segment switch does so under all eight insertion locks. A flush takes the
-// turn to write alone, and no insertion lock. A call that waits holds nothing but the locks of a
-// record that it is copying, or those that a switch has taken so far.
+// in flight, or all with a segment switch. A call seats the pass, and puts it back where it is
+// about nothing again, or about just that. In an insert it takes an insertion lock, then locks the
+// position, and unlocks that before it copies. While it copies, under that lock, it may take the
+// turn to map or the turn to write, and never has both. A segment switch does so under all eight
+// insertion locks. A flush takes the turn to write alone, and no insertion lock. A call that waits
+// holds nothing but the locks of a record that it is copying, or those that a switch has taken so
+// far.
 
 use segment_disk::Disk;
 use wal_rule::LogTable;

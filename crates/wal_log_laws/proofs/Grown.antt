@@ -23,6 +23,10 @@ use Rattle.wal_log.specs.declared.behind.Caught.TheVariants.{Flushed, Idle}
 use Rattle.wal_log.specs.declared.flushing.FlushErr.{FlushErr}
 use Rattle.wal_log.specs.declared.flushing.TryFlushErr.{TryFlushErr}
 use Rattle.wal_log.specs.declared.in_flight.Inflight.{Inflight}
+use Rattle.wal_log.specs.declared.switch_tries.SwitchBegun.{SwitchBegun}
+use Rattle.wal_log.specs.declared.switch_tries.SwitchBegun.TheVariants as switches
+use Rattle.wal_log.specs.declared.switch_tries.TrySwitchErr.{TrySwitchErr}
+use Rattle.wal_log.specs.declared.switch_tries.TrySwitchErr.TheVariants as switching
 use Rattle.wal_log.specs.declared.wal.Wal.{Wal}
 use Rattle.wal_log.specs.Beginning.{TellsBeginTry}
 use Rattle.wal_log.specs.Behind.{AnswersBehind, AnswersBehindTry, TellsCaught}
@@ -37,8 +41,9 @@ use Rattle.wal_log.specs.declared.switching.Switch.TheVariants.{Done, Stayed}
 use Rattle.wal_log.specs.PassLogs.{PassLog, log_of_pass, log_with_entry, log_with_full, log_with_promise}
 use Rattle.wal_log.specs.Standing.{KeepsPass}
 use Rattle.wal_log.specs.Switching.{AnswersSwitch}
+use Rattle.wal_log.specs.SwitchTries.{AnswersTrySwitch, TellsSwitchTry}
 use Rattle.wal_log.proofs.Refusals.{switch_refused}
-use Rattle.wal_log_laws.specs.Growing.{GrowsTo, HasGrown, HasLog, IsFrontOf, view_behind_try}
+use Rattle.wal_log_laws.specs.Growing.{GrowsTo, HasGrown, HasLog, IsFrontOf, view_behind_switch, view_behind_try}
 
 -- ---- fronts
 
@@ -189,6 +194,29 @@ begin_grows wal body old (Ok flight) told =
     (begun.place.reserved).log_is (with_entry begun.place.entry (log_of_pass old))
 begin_grows wal body old (Err refused) told =
     vain_grows (setup_of_log wal) body old (view_of_pass refused.1) refused.0 told.1
+
+module _ (setup : Setup) (body : Assembled) (old new : View) where
+  vain_switch_grows : (e : TrySwitchErr) → TellsSwitchTry setup body old new e
+      → GrowsTo (log_of_pass old) (log_of_pass new)
+  vain_switch_grows (switching.Busy seen) told = same_grows old new (told.1).log_is
+  vain_switch_grows (switching.Taken lock word) told = same_grows old new (told.1).log_is
+  vain_switch_grows (switching.Full free) told =
+      let full = (told.0).full in grows_so (log_of_pass old) _ (log_of_pass new) full.log_is
+      (with_full full.at (log_of_pass old))
+  vain_switch_grows (switching.Down faults) told = same_grows old new told.1
+
+pub try_switch_grows : {D : Type 0} → (wal : Wal D) (body : Assembled) (old : View)
+    (answer : Result SwitchBegun (TrySwitchErr × Pass)) → AnswersTrySwitch wal body old answer
+    → GrowsTo (log_of_pass old) (log_of_pass (view_behind_switch answer))
+try_switch_grows wal body old (Ok (switches.Going flight)) told =
+    let begun = (told.1).1 in
+    grows_so (log_of_pass old) _ (log_of_pass (view_of_flight flight))
+    (begun.place.reserved).log_is (with_entry begun.place.entry (log_of_pass old))
+try_switch_grows wal body old (Ok (switches.Stayed end pass)) told =
+    grows_so (log_of_pass old) _ (log_of_pass (view_of_pass pass)) (told.1).log_is
+    (with_stay (told.1).at (log_of_pass old))
+try_switch_grows wal body old (Err refused) told =
+    vain_switch_grows (setup_of_log wal) body old (view_of_pass refused.1) refused.0 told.1
 
 pub flush_try_grows : (asked : ℕ) (old new : View) (answer : Result Hard TryFlushErr)
     → AnswersFlushTry asked old answer new → GrowsTo (log_of_pass old) (log_of_pass new)

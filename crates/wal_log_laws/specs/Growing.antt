@@ -7,6 +7,9 @@ use Rattle.wal_rule.specs.declared.pass.Pass.{Pass}
 use Rattle.wal_rule.specs.Passes.{view_of_pass}
 use Rattle.wal_log.specs.declared.beginning.TryErr.{TryErr}
 use Rattle.wal_log.specs.declared.in_flight.Inflight.{Inflight}
+use Rattle.wal_log.specs.declared.switch_tries.SwitchBegun.{SwitchBegun}
+use Rattle.wal_log.specs.declared.switch_tries.SwitchBegun.TheVariants.{Going, Stayed}
+use Rattle.wal_log.specs.declared.switch_tries.TrySwitchErr.{TrySwitchErr}
 use Rattle.wal_log.specs.Flights.{view_of_flight}
 use Rattle.wal_log.specs.PassLogs.{PassLog, log_of_pass}
 
@@ -14,6 +17,12 @@ use Rattle.wal_log.specs.PassLogs.{PassLog, log_of_pass}
 abbrev pub view_behind_try : Result Inflight (TryErr × Pass) → View
 view_behind_try (Ok flight) = view_of_flight flight
 view_behind_try (Err refused) = view_of_pass refused.1
+
+-- .. and one to end the segment
+abbrev pub view_behind_switch : Result SwitchBegun (TrySwitchErr × Pass) → View
+view_behind_switch (Ok (Going flight)) = view_of_flight flight
+view_behind_switch (Ok (Stayed end pass)) = view_of_pass pass
+view_behind_switch (Err refused) = view_of_pass refused.1
 
 -- a list has all of another one first, and then more
 abbrev pub IsFrontOf : {A : Type 0} → List A → List A → Type 0

@@ -25,6 +25,7 @@ ghost use Rattle.wal_log.specs.Logs.{setup_of_log};
 ghost use Rattle.wal_log.specs.PassLogs.{PassLog, log_of_pass, log_with_entry};
 ghost use Rattle.wal_log.specs.Standing.{KeepsPass};
 ghost use Rattle.wal_log.specs.Switching.{AnswersSwitch};
+ghost use Rattle.wal_log.specs.SwitchTries.{AnswersTrySwitch};
 ghost use Rattle.wal_log.specs.declared.behind.Caught.{Caught};
 ghost use Rattle.wal_log.specs.declared.closing.Closed.{Closed};
 ghost use Rattle.wal_log.specs.declared.beginning.TryErr.{TryErr};
@@ -32,9 +33,11 @@ ghost use Rattle.wal_log.specs.declared.flushing.FlushErr.{FlushErr};
 ghost use Rattle.wal_log.specs.declared.flushing.TryFlushErr.{TryFlushErr};
 ghost use Rattle.wal_log.specs.declared.in_flight.Inflight.{Inflight};
 ghost use Rattle.wal_log.specs.declared.inserting.InsertErr.{InsertErr};
+ghost use Rattle.wal_log.specs.declared.switch_tries.SwitchBegun.{SwitchBegun};
+ghost use Rattle.wal_log.specs.declared.switch_tries.TrySwitchErr.{TrySwitchErr};
 ghost use Rattle.wal_log.specs.declared.switching.Switch.{Switch};
 ghost use Rattle.wal_log.specs.declared.wal.Wal.{Wal};
-ghost use Rattle.wal_log_laws.specs.Growing.{GrowsTo, HasGrown, HasLog, IsNewPass, logs_of_pass, view_behind_try};
+ghost use Rattle.wal_log_laws.specs.Growing.{GrowsTo, HasGrown, HasLog, IsNewPass, logs_of_pass, view_behind_switch, view_behind_try};
 ghost use Rattle.wal_log_laws.specs.Keeping.{IsClosedFrom, KeepsPromises, LeavesOrder};
 ghost use Rattle.wal_log_laws.specs.Surviving.{Survives};
 ghost use Rattle.wal_log_laws.specs.Told.{HasEntry, HasPromise, Promises, promise_to};
@@ -58,6 +61,9 @@ pub fn logs_only_grow<D: Disk>()
     ensures begins { (wal : Wal D) (body : Assembled) (old : View)
         (answer : Result Inflight (TryErr × Pass)) → AnswersTryBegin wal body old answer
         → GrowsTo (log_of_pass old) (log_of_pass (view_behind_try answer)) }
+    ensures switch_tries { (wal : Wal D) (body : Assembled) (old : View)
+        (answer : Result SwitchBegun (TrySwitchErr × Pass)) → AnswersTrySwitch wal body old answer
+        → GrowsTo (log_of_pass old) (log_of_pass (view_behind_switch answer)) }
     ensures tries { (asked : ℕ) (old new : View) (answer : Result Hard TryFlushErr)
         → AnswersFlushTry asked old answer new → GrowsTo (log_of_pass old) (log_of_pass new) }
     ensures hard { (upto moment : ℕ) (old new : View) → TellsHard upto moment old new

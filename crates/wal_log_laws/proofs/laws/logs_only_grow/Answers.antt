@@ -1,4 +1,4 @@
-use Rattle.wal_log_laws.proofs.Grown.{begin_grows, behind_grows, behind_try_grows, commit_grows, flush_try_grows, hard_grows, has_after_join, insert_grows, switch_grows}
+use Rattle.wal_log_laws.proofs.Grown.{begin_grows, behind_grows, behind_try_grows, commit_grows, flush_try_grows, hard_grows, has_after_join, insert_grows, switch_grows, try_switch_grows}
 use Rattle.wal_log_laws.proofs.laws.logs_only_grow.Goals as goal
 
 pub returns-clause-join : goal.returns-clause-join
@@ -21,6 +21,9 @@ returns-clause-inserts g c = insert_grows
 
 pub returns-clause-switches : goal.returns-clause-switches
 returns-clause-switches g c = switch_grows
+
+pub returns-clause-switch_tries : goal.returns-clause-switch_tries
+returns-clause-switch_tries g c = try_switch_grows
 
 pub returns-clause-behind : goal.returns-clause-behind
 returns-clause-behind g c = behind_grows

@@ -1,5 +1,4 @@
 use Rattle.std.proofs.Common.{ap, sym, subst}
-use Rattle.wal_log.specs.declared.beginning.Begun.{Begun}
 use Rattle.wal_log.specs.declared.in_flight.Inflight.{Inflight}
 use Rattle.wal_log.proofs.Keeping.{same_pass}
 use Rattle.wal_rule.specs.Passes.{view_of_pass}
@@ -15,7 +14,8 @@ returns-in-Ok g c = λ body old going.
     let done = rw c.deref-2.ensures at c.in-Ok.ensures.finishes in
     let on = still_going body old c.args.self going next c.args.self.helper flight
     c.requires.helper (same_pass (view_of_pass c.args.self.helper))
-    (ap (λ (b : Begun). b.start) stays.begun) (ap (λ (b : Begun). b.end) stays.begun)
+    (ap (λ (f : Inflight). (f.begun).start) stays.same)
+    (ap (λ (f : Inflight). (f.begun).end) stays.same)
     stays.entry stays.pass in
     finished_session body old (going_by c.args.self next c.args.self.helper) on
     c.deref-2.result.now.wal c.in-Ok.receipt c.in-Ok.pass done.pass_is c.in-Ok.ensures.finishes
@@ -27,7 +27,8 @@ returns-in-Err g c = λ body old going.
     let stays = c.copy-copied.ensures.stays in
     let on = still_going body old c.args.self going next c.args.self.helper flight
     c.requires.helper (same_pass (view_of_pass c.args.self.helper))
-    (ap (λ (b : Begun). b.start) stays.begun) (ap (λ (b : Begun). b.end) stays.begun)
+    (ap (λ (f : Inflight). (f.begun).start) stays.same)
+    (ap (λ (f : Inflight). (f.begun).end) stays.same)
     stays.entry stays.pass in
     c.stopped.ensures body old
     (subst (λ (f : Inflight). IsGoing body old (going_by c.args.self f c.args.self.helper))

@@ -1,7 +1,11 @@
 use Rattle.wal_rule.specs.SeatedPasses.{view_of}
 use Rattle.wal_log.specs.Copying.{CopiesFront}
-use Rattle.wal_log.proofs.FlightLaws.{flight_goes_on, moved}
+use Rattle.wal_log.proofs.FlightLaws.{flight_copies, flight_goes_on, moved}
 use Rattle.wal_log.proofs.in_flight.Inflight.copy.Goals as goal
+
+pub copy_front-copied-requires-clause-copies : goal.copy_front-copied-requires-clause-copies
+copy_front-copied-requires-clause-copies g c = flight_copies c.args.wal.now c.args.self.now
+    c.requires.flight c.seat-seated.result c.seat-seated.ensures.view c.seat-seated.ensures.table
 
 pub returns-clause-flight : goal.returns-clause-flight
 returns-clause-flight g c = flight_goes_on c.args.wal.now c.args.self.now c.requires.flight

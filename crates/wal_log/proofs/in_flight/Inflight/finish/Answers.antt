@@ -14,25 +14,25 @@ ended g c =
     flight_ended c.args.wal.now c.args.self c.requires.flight c.seat-seated.result
     c.seat-seated.ensures.view c.seat-seated.ensures.table (omega (arith, far, next, end))
 
-pub release-requires-clause-lock : goal.release-requires-clause-lock
-release-requires-clause-lock g c = c.requires.flight.lock_low
+pub release_held-requires-clause-locks : goal.release_held-requires-clause-locks
+release_held-requires-clause-locks g c = c.requires.flight.are
 
-pub release-requires-clause-holds : goal.release-requires-clause-holds
-release-requires-clause-holds g c = flight_locks c.args.wal.now c.args.self c.requires.flight
+pub release_held-requires-clause-holds : goal.release_held-requires-clause-holds
+release_held-requires-clause-holds g c = flight_locks c.args.wal.now c.args.self c.requires.flight
     c.seat-seated.result c.seat-seated.ensures.view c.seat-seated.ensures.table
-    (ended g (goal.at.release-requires-clause-holds g c).After-seat-seated)
+    (ended g (goal.at.release_held-requires-clause-holds g c).After-seat-seated)
 
-pub release-requires-clause-left : goal.release-requires-clause-left
-release-requires-clause-left g c = flight_whole c.args.wal.now c.args.self c.requires.flight
+pub release_held-requires-clause-left : goal.release_held-requires-clause-left
+release_held-requires-clause-left g c = flight_whole c.args.wal.now c.args.self c.requires.flight
     c.seat-seated.result c.seat-seated.ensures.view c.seat-seated.ensures.table
-    (ended g (goal.at.release-requires-clause-left g c).After-seat-seated)
+    (ended g (goal.at.release_held-requires-clause-left g c).After-seat-seated)
 
 pub returns : goal.returns
 returns g c = record {
   finishes = flight_finishes c.args.wal.now c.args.self c.requires.flight c.seat-seated.result
       c.seat-seated.ensures.view c.seat-seated.ensures.table
-      (ended g (goal.at.returns g c).After-seat-seated) c.release.new.seated
-      c.release.ensures.view c.put_back.new.self c.put_back.ensures.view
+      (ended g (goal.at.returns g c).After-seat-seated) c.release_held.new.seated
+      c.release_held.ensures.view c.put_back.new.self c.put_back.ensures.view
       c.put_back.ensures.pass
       (record { start = c.args.self.begun.start; end = c.args.self.begun.end }) refl refl;
 }

@@ -29,11 +29,12 @@ seated_knows g c faults knows = subst (λ (v : View). KnowsDown faults v)
     knows
 
 pub returns-in-Ok-clause-begins : goal.returns-in-Ok-clause-begins
-returns-in-Ok-clause-begins g c = flight_begins c.args.self.now c.args.pass c.seat-seated.result
-    c.seat-seated.ensures.view c.seat-seated.ensures.table c.args.body.now
-    c.try_begin-tried.new.seated c.in-Ok.begun c.in-Ok.ensures.begins
-    c.try_begin-tried.ensures.goes_on c.put_back.new.self c.put_back.ensures.view
-    c.put_back.ensures.pass
+returns-in-Ok-clause-begins g c =
+    let goes_on = c.try_begin-tried.ensures.goes_on in
+    flight_begins c.args.self.now c.args.pass c.seat-seated.result c.seat-seated.ensures.view
+    c.seat-seated.ensures.table c.try_begin-tried.new.seated goes_on.stays.same_table
+    c.put_back.new.self c.put_back.ensures.view c.put_back.ensures.pass c.args.body.now c.in-Ok.begun
+    c.in-Ok.ensures.begins goes_on.keeps
 
 pub returns-in-Ok-clause-down_again : goal.returns-in-Ok-clause-down_again
 returns-in-Ok-clause-down_again g c = λ faults knows. absurd
