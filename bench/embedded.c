@@ -45,10 +45,11 @@ int main(int count, char **words) {
   pgwal_setup setup = {
       .seg_size = 16 << 20, .sysid = 1, .ring_pages = 64, .cap_segments = 256, .sessions = (uint32_t)threads + 1};
   static pgwal_log log;
-  uint32_t answer = pgwal_open("pg_wal", &setup, &log);
+  pgwal_log_found found;
+  uint32_t answer = pgwal_open("pg_wal", &setup, &log, &found);
   if (answer != PGWAL_DONE) return fprintf(stderr, "%s\n", pgwal_name(answer)), 1;
   /* the first segment is made before the time is taken */
-  pgwal_session own = {&log, log.session};
+  pgwal_session own = {.log = &log, .handle = log.session};
   pgwal_record first = {.xid = 1, .rmid = 128, .data = "a", .len = 1};
   pgwal_sealed sealed;
   answer = pgwal_commit(&own, &first, &sealed);

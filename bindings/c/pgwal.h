@@ -27,6 +27,7 @@
 #include <fcntl.h>
 #include <pthread.h>
 #include <sched.h>
+#include <stdatomic.h>
 #include <stdbool.h>
 #include <stddef.h>
 #include <stdint.h>
@@ -57,6 +58,8 @@
   X(PGWAL_END, 15, "the log ends")                                                              \
   X(PGWAL_DAMAGED, 16, "the log is damaged there, or has a record that is not read")            \
   X(PGWAL_BEYOND, 17, "a segment is there behind the last one that the log may have")           \
+  X(PGWAL_BLOCK, 18, "a block of the record is not right")                                      \
+  X(PGWAL_IDLE, 19, "nothing is left to be flushed behind")                                     \
   X(PGWAL_FOLDER, 100, "the folder cannot be made, opened or read")                             \
   X(PGWAL_LOCKED, 101, "another program has the folder")                                        \
   X(PGWAL_OTHERS, 102, "the folder has segments that are not from the first one on, or of another size")
@@ -101,11 +104,22 @@ typedef struct {
   uint8_t *session, *disk;
 } pgwal_opened;
 
-enum { PGWAL_ASK_SPLIT, PGWAL_ASK_APPEND, PGWAL_ASK_FLUSH, PGWAL_ASK_END };
+enum {
+  PGWAL_ASK_SPLIT, PGWAL_ASK_APPEND, PGWAL_ASK_FLUSH, PGWAL_ASK_END, PGWAL_ASK_ADD_BLOCK, PGWAL_ASK_ADD_IMAGE,
+  PGWAL_ASK_RAISE, PGWAL_ASK_WRITE_BEHIND, PGWAL_ASK_SWITCH
+};
+
+typedef struct {
+  uint8_t id, fork, will_init, has_image, apply;
+  uint16_t hole_offset, hole_len;
+  uint32_t spc, db, rel, blk;
+  uint64_t len, image_len;
+} pgwal_block_asked;
 
 typedef struct {
   uint32_t asked, xid;
   uint8_t rmid, info;
+  pgwal_block_asked block;
   uint64_t upto, moment, start, end, detail;
   uint8_t *session;
 } pgwal_asked;
@@ -132,13 +146,18 @@ typedef struct {
   uint8_t *disk;
 } pgwal_disk_made;
 
-enum { PGWAL_ASK_BEGIN, PGWAL_ASK_NEXT, PGWAL_ASK_HAND_IN, PGWAL_ASK_DATA, PGWAL_ASK_CLOSE };
+enum {
+  PGWAL_ASK_BEGIN, PGWAL_ASK_NEXT, PGWAL_ASK_HAND_IN, PGWAL_ASK_DATA, PGWAL_ASK_CLOSE, PGWAL_ASK_TELL_BLOCK,
+  PGWAL_ASK_BLOCK_DATA, PGWAL_ASK_IMAGE
+};
 
 typedef struct {
   uint32_t asked, xid;
   uint8_t rmid, info, there;
   uint32_t total, damage;
-  uint64_t blocks, seg_size, start, end, prev, segment;
+  uint64_t blocks, index;
+  pgwal_block_asked block;
+  uint64_t seg_size, start, end, prev, segment;
   uint32_t page;
   uint64_t len, offset;
   uint8_t bytes[8192];
@@ -163,9 +182,12 @@ typedef struct {
   int error;              /* errno of the call that failed */
   void (*pause)(void *);  /* between two tries; sched_yield if it is not set */
   void *pause_with;
-  pthread_mutex_t turn_lock;  /* whoever has the turn flushes, and makes the disk's calls: in the order in which they */
-  pthread_cond_t turn_passed; /* come, so that who waits finds done what the one before has synced */
-  uint64_t next_turn, turn;
+  pthread_mutex_t lead;   /* who has it leads: flushes, and makes the disk's calls; nobody waits at it */
+  _Atomic uint64_t flushed, moment;   /* what the last flush told, of all below which address, since when; 0 at first */
+  _Atomic uint64_t come;              /* how many came to flush: while it rises, more may come */
+  _Atomic uint32_t asleep;            /* how many sleep until who leads is done */
+  pthread_mutex_t sleep_lock;
+  pthread_cond_t lead_free;
   uint8_t *session, *disk;
   pthread_mutex_t idle_lock;
   uint8_t **idle;  /* sessions that ended, for those who come */
@@ -176,13 +198,27 @@ typedef struct {
 typedef struct {
   pgwal_log *log;
   uint8_t *handle;
+  uint64_t come;  /* how many had come to flush when it did last: if more have since, there is company */
 } pgwal_session;
+
+/* A block that a record references. Its image is the page's bytes before and behind a hole of zeros: with the hole they
+ * are 8192, and the hole does not begin at 0. */
+typedef struct {
+  uint8_t id, fork;                /* its number in the record, 0 to 32, rising; 0 main, 1 fsm, 2 vm, 3 init */
+  bool will_init, apply;           /* whether redo makes the page anew; whether it puts the image in its place */
+  uint16_t hole_offset, hole_len;  /* 0 and 0 where there is no hole */
+  uint32_t spc, db, rel, blk;      /* the relation: tablespace, database, number; the block's number in its fork */
+  const void *data, *image;        /* what the record has for it, at most 65535 bytes; NULL where it has no image */
+  size_t len, image_len;
+} pgwal_block;
 
 typedef struct {
   uint32_t xid;          /* the transaction, 0 for none */
   uint8_t rmid, info;    /* the resource manager, and its info bits */
   const void *data;      /* main data */
   size_t len;
+  const pgwal_block *blocks;
+  size_t block_count;
 } pgwal_record;
 
 /* Where a record stands. */
@@ -199,23 +235,68 @@ typedef struct {
   uint64_t start, end, moment;
 } pgwal_sealed;
 
+/* How often it is paused at most before a sleep: a millisecond or so of yields. */
+enum { PGWAL_LOOKS = 1000 };
+
 static inline void pgwal_pause(pgwal_log *log) {
   if (log->pause) log->pause(log->pause_with);
   else sched_yield();
 }
 
-static inline void pgwal_take_turn(pgwal_log *log) {
-  pthread_mutex_lock(&log->turn_lock);
-  uint64_t mine = log->next_turn++;
-  while (log->turn != mine) pthread_cond_wait(&log->turn_passed, &log->turn_lock);
-  pthread_mutex_unlock(&log->turn_lock);
+/* Whether all below an address was told to be durable by anybody's flush. The moment is stored before the address, and
+ * loaded behind it: so it is never too early. */
+static inline bool pgwal_is_flushed(pgwal_log *log, uint64_t upto, pgwal_hard *hard) {
+  hard->upto = atomic_load(&log->flushed);
+  hard->moment = atomic_load(&log->moment);
+  return upto > 0 && upto <= hard->upto;
 }
 
-static inline void pgwal_pass_turn(pgwal_log *log) {
-  pthread_mutex_lock(&log->turn_lock);
-  log->turn++;
-  pthread_cond_broadcast(&log->turn_passed);
-  pthread_mutex_unlock(&log->turn_lock);
+static inline bool pgwal_lead(pgwal_log *log) { return pthread_mutex_trylock(&log->lead) == 0; }
+
+static inline void pgwal_lead_no_more(pgwal_log *log) {
+  pthread_mutex_unlock(&log->lead);
+  atomic_thread_fence(memory_order_seq_cst);
+  if (atomic_load(&log->asleep) == 0) return;
+  pthread_mutex_lock(&log->sleep_lock);
+  pthread_cond_broadcast(&log->lead_free);
+  pthread_mutex_unlock(&log->sleep_lock);
+}
+
+/* Waits until an address is flushed, or nobody leads: then it leads, and answers true. A sync may take no longer than a
+ * sleep, so it pauses first. Who falls asleep is counted before it looks once more, and who leads looks at the count
+ * behind its end: one of the two sees the other. */
+static inline bool pgwal_lead_or_flushed(pgwal_log *log, uint64_t upto, pgwal_hard *hard) {
+  for (uint32_t look = 0; look < PGWAL_LOOKS; look++) {
+    if (pgwal_is_flushed(log, upto, hard)) return false;
+    if (pgwal_lead(log)) return true;
+    pgwal_pause(log);
+  }
+  bool leads = false;
+  pthread_mutex_lock(&log->sleep_lock);
+  atomic_fetch_add(&log->asleep, 1);
+  atomic_thread_fence(memory_order_seq_cst);
+  while (!pgwal_is_flushed(log, upto, hard) && !(leads = pgwal_lead(log)))
+    pthread_cond_wait(&log->lead_free, &log->sleep_lock);
+  atomic_fetch_sub(&log->asleep, 1);
+  pthread_mutex_unlock(&log->sleep_lock);
+  return leads;
+}
+
+static inline void pgwal_wait_to_lead(pgwal_log *log) {
+  pgwal_hard unused;
+  while (!pgwal_lead_or_flushed(log, 0, &unused)) continue;
+}
+
+/* Lets others come before a sync, since it makes durable what all of them have appended: pauses until nobody has come in
+ * two pauses in a row, but four times at most. */
+static inline void pgwal_gather(pgwal_log *log) {
+  uint64_t before = atomic_load(&log->come);
+  for (int looks = 0, still = 0; looks < 4 && still < 2; looks++) {
+    pgwal_pause(log);
+    uint64_t now = atomic_load(&log->come);
+    still = now == before ? still + 1 : 0;
+    before = now;
+  }
 }
 
 static inline void pgwal_segment_name(char name[25], uint64_t segment, uint64_t seg_size) {
@@ -278,19 +359,21 @@ static inline bool pgwal_make_call(pgwal_log *log) {
   return fdatasync(log->file) == 0;
 }
 
-/* Makes all calls that are queued, in order, and acknowledges each. Whoever calls it has the turn. */
-static inline void pgwal_make_calls(pgwal_log *log) {
+/* Makes the calls that are queued, in order, and acknowledges each: up to a sync, with which a flush ends, so that nobody
+ * leads for ever while others flush. Whoever calls it leads. */
+static inline bool pgwal_make_calls(pgwal_log *log) {
   for (;;) {
     log->call.asked = PGWAL_ASK_TAKE;
-    if (pgwal_disk_call(log->disk, &log->call) != PGWAL_DONE) return;
+    if (pgwal_disk_call(log->disk, &log->call) != PGWAL_DONE) return false;
     if (!pgwal_make_call(log)) {
       log->error = errno ? errno : EIO;
       log->call.asked = PGWAL_ASK_FAIL;
       pgwal_disk_call(log->disk, &log->call);
-      return;
+      return false;
     }
     log->call.asked = PGWAL_ASK_ACKNOWLEDGE;
     pgwal_disk_call(log->disk, &log->call);
+    if (log->call.kind == PGWAL_SYNC) return true;
   }
 }
 
@@ -318,8 +401,9 @@ static inline uint32_t pgwal_let_go(pgwal_log *log, uint32_t answer) {
   if (log->file >= 0) close(log->file);
   if (log->folder >= 0) close(log->folder);
   free(log->idle);
-  pthread_mutex_destroy(&log->turn_lock);
-  pthread_cond_destroy(&log->turn_passed);
+  pthread_mutex_destroy(&log->lead);
+  pthread_mutex_destroy(&log->sleep_lock);
+  pthread_cond_destroy(&log->lead_free);
   pthread_mutex_destroy(&log->idle_lock);
   return answer;
 }
@@ -419,8 +503,9 @@ static inline uint32_t pgwal_open(const char *folder, const pgwal_setup *setup, 
                                   pgwal_log_found *found) {
   *log = (pgwal_log){.folder = -1, .file = -1};
   *found = (pgwal_log_found){.damage = ""};
-  pthread_mutex_init(&log->turn_lock, NULL);
-  pthread_cond_init(&log->turn_passed, NULL);
+  pthread_mutex_init(&log->lead, NULL);
+  pthread_mutex_init(&log->sleep_lock, NULL);
+  pthread_cond_init(&log->lead_free, NULL);
   pthread_mutex_init(&log->idle_lock, NULL);
   uint32_t answer = pgwal_take_folder(log, folder);
   if (answer != PGWAL_DONE) return pgwal_let_go(log, answer);
@@ -434,7 +519,7 @@ static inline uint32_t pgwal_open(const char *folder, const pgwal_setup *setup, 
   if (answer == PGWAL_DAMAGED) found->damage = pgwal_damage_name(log->call.damage);
   if (answer != PGWAL_DONE) return pgwal_let_go(log, answer);
   log->session = log->call.session;
-  pgwal_make_calls(log);
+  while (pgwal_make_calls(log)) continue;
   return log->error ? pgwal_let_go(log, PGWAL_DOWN) : PGWAL_DONE;
 }
 
@@ -446,7 +531,7 @@ static inline uint32_t pgwal_session_new(pgwal_log *log, pgwal_session *me) {
   if (log->idle_count > 0) asked.session = log->idle[--log->idle_count];
   else answer = pgwal_session_call(log->session, (const uint8_t *)"", 0, &asked);
   pthread_mutex_unlock(&log->idle_lock);
-  *me = (pgwal_session){log, asked.session};
+  *me = (pgwal_session){.log = log, .handle = asked.session};
   return answer;
 }
 
@@ -457,12 +542,40 @@ static inline void pgwal_session_end(pgwal_session *me) {
   *me = (pgwal_session){0};
 }
 
-/* Appends a record, by one try: DONE, BUSY, QUEUE, FULL, DOWN, LONG, MANAGER, MEMORY. Where half the ring is not written
- * it writes that first, into the queue, and answers QUEUE. A session's share, which LONG speaks of, is half the ring less
- * a page, divided by the sessions of the setup; a record takes up its bytes, a 256th more and 128. */
+static inline uint32_t pgwal_add_block(pgwal_session *me, const pgwal_block *b) {
+  pgwal_asked asked = {.asked = PGWAL_ASK_ADD_IMAGE};
+  asked.block = (pgwal_block_asked){.id = b->id, .fork = b->fork, .will_init = b->will_init, .apply = b->apply,
+                                    .hole_offset = b->hole_offset, .hole_len = b->hole_len,
+                                    .spc = b->spc, .db = b->db, .rel = b->rel, .blk = b->blk};
+  uint32_t answer = PGWAL_DONE;
+  if (b->image) answer = pgwal_session_call(me->handle, b->image, b->image_len, &asked);
+  asked.asked = PGWAL_ASK_ADD_BLOCK;
+  if (answer == PGWAL_DONE)
+    answer = pgwal_session_call(me->handle, (const uint8_t *)(b->len ? b->data : ""), b->len, &asked);
+  return answer;
+}
+
+/* Appends a record, by one try: DONE, BUSY, QUEUE, FULL, DOWN, LONG, MANAGER, BLOCK, MEMORY. Where half the ring is not
+ * written it writes that first, into the queue, and where the queue has no room answers QUEUE: then its calls are to be
+ * made. A session's share, which LONG speaks of, is half the ring less a page, divided by the sessions of the setup; a
+ * record takes up its bytes, a 256th more and 128. */
 static inline uint32_t pgwal_try_append(pgwal_session *me, const pgwal_record *r, pgwal_place *place) {
   pgwal_asked asked = {.asked = PGWAL_ASK_APPEND, .xid = r->xid, .rmid = r->rmid, .info = r->info};
+  for (size_t i = 0; i < r->block_count; i++) {
+    uint32_t added = pgwal_add_block(me, &r->blocks[i]);
+    if (added != PGWAL_DONE) return added;
+  }
   uint32_t answer = pgwal_session_call(me->handle, (const uint8_t *)(r->len ? r->data : ""), r->len, &asked);
+  *place = (pgwal_place){asked.start, asked.end};
+  return answer;
+}
+
+/* Ends the segment, by one try: DONE, BUSY, QUEUE, FULL, DOWN. At DONE `place` is the switch's, which takes up the rest
+ * of the segment; or twice the log's end, where that is a segment's start already. Behind QUEUE a switch is on its way:
+ * nobody appends, and the session is asked for nothing else, until this answers DONE or DOWN. */
+static inline uint32_t pgwal_try_switch(pgwal_session *me, pgwal_place *place) {
+  pgwal_asked asked = {.asked = PGWAL_ASK_SWITCH};
+  uint32_t answer = pgwal_session_call(me->handle, (const uint8_t *)"", 0, &asked);
   *place = (pgwal_place){asked.start, asked.end};
   return answer;
 }
@@ -476,7 +589,22 @@ static inline uint32_t pgwal_try_flush(pgwal_session *me, uint64_t upto, pgwal_h
   return answer;
 }
 
-/* Whether a try is to be made again; behind what took it back. Whoever calls it has the turn. */
+/* Counts what the session has appended as answered, by one try: DONE, BUSY. It is not durable before a flush. */
+static inline uint32_t pgwal_try_raise(pgwal_session *me) {
+  pgwal_asked asked = {.asked = PGWAL_ASK_RAISE};
+  return pgwal_session_call(me->handle, (const uint8_t *)"", 0, &asked);
+}
+
+/* Flushes what any session has answered so, whole pages first, by one try: DONE, BUSY, QUEUE, DOWN; BEHIND, or IDLE
+ * where nothing is left to be flushed: then a flush of `hard->upto` tells once it is durable. */
+static inline uint32_t pgwal_try_write_behind(pgwal_session *me, pgwal_hard *hard) {
+  pgwal_asked asked = {.asked = PGWAL_ASK_WRITE_BEHIND};
+  uint32_t answer = pgwal_session_call(me->handle, (const uint8_t *)"", 0, &asked);
+  *hard = (pgwal_hard){asked.upto, asked.moment};
+  return answer;
+}
+
+/* Whether a try is to be made again; behind what took it back. Whoever calls it leads. */
 static inline bool pgwal_try_again(pgwal_log *log, uint32_t *answer) {
   if (*answer != PGWAL_BEHIND && *answer != PGWAL_QUEUE && *answer != PGWAL_BUSY) return false;
   pgwal_make_calls(log);
@@ -488,31 +616,52 @@ static inline bool pgwal_try_again(pgwal_log *log, uint32_t *answer) {
   return true;
 }
 
-/* Makes all below an address durable. One thread at a time flushes, and makes the disk's calls: it writes and syncs
- * what all others have appended meanwhile, who then find it done. */
+/* Makes all below an address durable. One thread at a time leads: it writes and syncs what all others have appended, who
+ * then find it done. */
 static inline uint32_t pgwal_flush(pgwal_session *me, uint64_t upto, pgwal_hard *hard) {
-  uint32_t answer;
-  pgwal_take_turn(me->log);
-  do answer = pgwal_try_flush(me, upto, hard);
-  while (pgwal_try_again(me->log, &answer));
-  pgwal_pass_turn(me->log);
+  pgwal_log *log = me->log;
+  uint64_t before = atomic_fetch_add(&log->come, 1);
+  bool company = before != me->come;
+  me->come = before + 1;
+  if (!pgwal_lead_or_flushed(log, upto, hard)) return PGWAL_DONE;
+  if (company) pgwal_gather(log);
+  uint32_t answer = PGWAL_DONE;
+  if (!pgwal_is_flushed(log, upto, hard)) {
+    do answer = pgwal_try_flush(me, upto, hard);
+    while (pgwal_try_again(log, &answer));
+    if (answer == PGWAL_DONE) {
+      atomic_store(&log->moment, hard->moment);
+      atomic_store(&log->flushed, hard->upto);
+    }
+  }
+  pgwal_lead_no_more(log);
   return answer;
 }
 
-/* Appends a record, and waits for its place. */
+/* Makes durable what was answered ahead of the disk, but for what comes in meanwhile: whole pages first, so that a call
+ * behind it may find the last one's rest. How soon a commit becomes durable is up to the thread that calls this. */
+static inline uint32_t pgwal_write_behind(pgwal_session *me, pgwal_hard *hard) {
+  uint32_t answer;
+  pgwal_wait_to_lead(me->log);
+  do answer = pgwal_try_write_behind(me, hard);
+  while (answer != PGWAL_BEHIND && pgwal_try_again(me->log, &answer));
+  pgwal_lead_no_more(me->log);
+  return answer == PGWAL_BEHIND || answer == PGWAL_IDLE ? pgwal_flush(me, hard->upto, hard) : answer;
+}
+
+/* Appends a record, and waits for its place. Where calls have to be made first, and another thread makes some, it tries
+ * again at once. */
 static inline uint32_t pgwal_append(pgwal_session *me, const pgwal_record *record, pgwal_place *place) {
   for (;;) {
     uint32_t answer = pgwal_try_append(me, record, place);
-    if (answer == PGWAL_BUSY) {
+    if (answer != PGWAL_BUSY && answer != PGWAL_QUEUE) return answer;
+    if (answer == PGWAL_BUSY || !pgwal_lead(me->log)) {
       pgwal_pause(me->log);
-    } else if (answer == PGWAL_QUEUE) {
-      pgwal_take_turn(me->log);
-      bool again = pgwal_try_again(me->log, &answer);
-      pgwal_pass_turn(me->log);
-      if (!again) return answer;
-    } else {
-      return answer;
+      continue;
     }
+    bool again = pgwal_try_again(me->log, &answer);
+    pgwal_lead_no_more(me->log);
+    if (!again) return answer;
   }
 }
 
@@ -527,10 +676,37 @@ static inline uint32_t pgwal_commit(pgwal_session *me, const pgwal_record *recor
   return answer;
 }
 
+/* Appends a record, and counts it as answered: it is durable once anybody has flushed its end, as pgwal_write_behind
+ * does. */
+static inline uint32_t pgwal_commit_async(pgwal_session *me, const pgwal_record *record, pgwal_place *place) {
+  uint32_t answer = pgwal_append(me, record, place);
+  if (answer != PGWAL_DONE) return answer;
+  while ((answer = pgwal_try_raise(me)) == PGWAL_BUSY) pgwal_pause(me->log);
+  return answer;
+}
+
+/* Ends the segment, and makes all of it durable: the next record stands in the next one. Behind a call that failed it
+ * is tried on until the log tells it, so that no lock stays held that others wait for. */
+static inline uint32_t pgwal_switch(pgwal_session *me, pgwal_sealed *sealed) {
+  pgwal_place place;
+  pgwal_hard hard;
+  uint32_t answer;
+  pgwal_wait_to_lead(me->log);
+  while ((answer = pgwal_try_switch(me, &place)) == PGWAL_BUSY || answer == PGWAL_QUEUE) {
+    pgwal_make_calls(me->log);
+    if (answer == PGWAL_BUSY) pgwal_pause(me->log);
+  }
+  pgwal_lead_no_more(me->log);
+  if (answer != PGWAL_DONE) return answer;
+  answer = pgwal_flush(me, place.end, &hard);
+  *sealed = (pgwal_sealed){place.start, place.end, hard.moment};
+  return answer;
+}
+
 /* Flushes all that is reserved, ends the sessions, and gives the folder back. The log is spent, whatever it answers:
  * DONE says that all is durable. */
 static inline uint32_t pgwal_close(pgwal_log *log) {
-  pgwal_session own = {log, log->session};
+  pgwal_session own = {.log = log, .handle = log->session};
   pgwal_hard hard;
   uint32_t answer = pgwal_flush(&own, UINT64_MAX, &hard);
   if (answer == PGWAL_UNRESERVED) answer = pgwal_flush(&own, hard.upto, &hard);
@@ -549,15 +725,17 @@ typedef struct {
   int error;         /* errno of a read that failed */
   uint8_t *handle, *data;
   size_t room;
+  pgwal_block blocks[33];
   pgwal_reader_asked call;
 } pgwal_reader;
 
-/* A record that was read; its main data lies in the reader, until the next one is read. */
+/* A record that was read; what it has lies in the reader, until the next one is read. */
 typedef struct {
   uint64_t start, end, prev;  /* where it starts and ends, and where the one before starts */
   uint32_t total, xid;        /* its bytes in all; its transaction */
   uint8_t rmid, info;
-  uint64_t blocks;            /* how many blocks it references */
+  const pgwal_block *blocks;  /* the blocks that it references */
+  size_t block_count;
   const uint8_t *data;
   size_t len;
   const char *damage;         /* at DAMAGED: which, met at `start` */
@@ -615,21 +793,47 @@ static inline bool pgwal_read_page(pgwal_reader *reader) {
   return true;
 }
 
-/* Reads the main data of the record that came, of so many bytes. */
-static inline uint32_t pgwal_read_data(pgwal_reader *reader, size_t len) {
-  if (len > reader->room) {
-    uint8_t *data = realloc(reader->data, len);
-    if (!data) return PGWAL_MEMORY;
-    reader->data = data, reader->room = len;
-  }
+/* Reads so many bytes of the record that came: its main data, a block's data or its image. */
+static inline uint32_t pgwal_read_bytes(pgwal_reader *reader, uint32_t asked, uint8_t *to, size_t len) {
   for (size_t have = 0; have < len; have += reader->call.len) {
-    reader->call.asked = PGWAL_ASK_DATA;
+    reader->call.asked = asked;
     reader->call.offset = have;
     uint32_t answer = pgwal_reader_call(reader->handle, &reader->call);
     if (answer != PGWAL_DONE) return answer;
-    memcpy(reader->data + have, reader->call.bytes, reader->call.len);
+    memcpy(to + have, reader->call.bytes, reader->call.len);
   }
   return PGWAL_DONE;
+}
+
+/* Reads the block of that record at an index. Its bytes go behind those that `to` tells of, and move it. */
+static inline uint32_t pgwal_read_block(pgwal_reader *reader, size_t index, uint8_t **to) {
+  reader->call.asked = PGWAL_ASK_TELL_BLOCK, reader->call.index = index;
+  uint32_t answer = pgwal_reader_call(reader->handle, &reader->call);
+  if (answer != PGWAL_DONE) return answer;
+  pgwal_block_asked b = reader->call.block;
+  uint8_t *image = *to + b.len;
+  reader->blocks[index] = (pgwal_block){
+      .id = b.id, .fork = b.fork, .will_init = b.will_init, .apply = b.apply, .hole_offset = b.hole_offset,
+      .hole_len = b.hole_len, .spc = b.spc, .db = b.db, .rel = b.rel, .blk = b.blk, .data = *to,
+      .image = b.has_image ? image : NULL, .len = (size_t)b.len, .image_len = (size_t)b.image_len};
+  answer = pgwal_read_bytes(reader, PGWAL_ASK_BLOCK_DATA, *to, (size_t)b.len);
+  if (answer == PGWAL_DONE) answer = pgwal_read_bytes(reader, PGWAL_ASK_IMAGE, image, (size_t)b.image_len);
+  *to = image + b.image_len;
+  return answer;
+}
+
+/* Reads what the record that came has: main data, and blocks. A record of so many bytes has no more of them. */
+static inline uint32_t pgwal_read_record(pgwal_reader *reader, pgwal_found *found) {
+  if (found->total > reader->room) {
+    uint8_t *data = realloc(reader->data, found->total);
+    if (!data) return PGWAL_MEMORY;
+    reader->data = data, reader->room = found->total;
+  }
+  uint32_t answer = pgwal_read_bytes(reader, PGWAL_ASK_DATA, reader->data, found->len);
+  uint8_t *to = reader->data + found->len;
+  for (size_t i = 0; answer == PGWAL_DONE && i < found->block_count; i++) answer = pgwal_read_block(reader, i, &to);
+  found->data = reader->data, found->blocks = reader->blocks;
+  return answer;
 }
 
 /* Hands in the page that is wanted, and up to so many of its segment from there on. */
@@ -665,11 +869,9 @@ static inline uint32_t pgwal_next(pgwal_reader *reader, pgwal_found *found) {
   if (answer == PGWAL_DAMAGED) found->damage = pgwal_damage_name(call->damage);
   if (answer != PGWAL_DONE) return answer;
   *found = (pgwal_found){.start = call->start, .end = call->end, .prev = call->prev, .total = call->total,
-                         .xid = call->xid, .rmid = call->rmid, .info = call->info, .blocks = call->blocks,
-                         .len = (size_t)call->len};
-  answer = pgwal_read_data(reader, found->len);
-  found->data = reader->data;
-  return answer;
+                         .xid = call->xid, .rmid = call->rmid, .info = call->info,
+                         .block_count = (size_t)call->blocks, .len = (size_t)call->len};
+  return pgwal_read_record(reader, found);
 }
 
 #endif

@@ -1,8 +1,11 @@
 #!/usr/bin/env bash
 # Links the log into a program in C and one in Rust, which `rt ci` cannot: eight threads commit records side by
 # side, and each record stands in the log where its thread was told; so `pgwal dump` lists them, and so a program of
-# the same language reads them back. Then each program goes on with that log; and it is killed at random moments, again
-# and again over one log, of which no record that was told in any of its lives is missing.
+# the same language reads them back; a record with blocks, which was committed ahead of the disk and flushed behind,
+# reads back as it was written. Then each program goes on with that log; and it is killed at random moments, again
+# and again over one log, of which no record that was told in any of its lives is missing. On a disk that fails all
+# threads are told so; and under valgrind four threads in C show no leak and no race (embedding.supp has what it says of
+# the library).
 #
 #     tests/by_hand/embedding.sh                              100,000 records a thread, 20 kills of each program
 #     tests/by_hand/embedding.sh RECORDS KILLS [PROGRAM]      and lists by another build
@@ -71,9 +74,31 @@ killed() {
   equal "$1: records told in several lives" "$(($(wc -l <lives) > 0))" 1
 }
 
+# fails NAME COMMAND WORDS COUNT: on a disk that fails while eight threads commit so many lines say so, and it ends
+fails() {
+  rm -rf pg_wal
+  (trap '' XFSZ; ulimit -f 500; timeout 100 "$2" pg_wal 1000 >told 2>err)
+  equal "$1: the status on a disk that fails" $? 1
+  equal "$1: lines that tell a disk that fails" "$(grep -c "$3" err)" "$4"
+}
+
+# watched TOOL WORK COUNT OPTIONS..: four threads under a tool of valgrind, which has nothing to say
+watched() {
+  rm -rf pg_wal
+  valgrind -q "--tool=$1" --error-exitcode=9 "${@:4}" ./watched 4 "$3" "$2" 100 >told 2>err
+  equal "in C: $2 under $1" "$?, $(grep -c . err)" '0, 0'
+}
+
 tried() {
   commits "$1" "$2" "$3"
   killed "$1" "$2" "$3"
+}
+
+# blocks NAME WANTED COMMAND..: records with blocks read back, and are listed with the image's block
+blocks() {
+  rm -rf pg_wal
+  equal "$1: records with blocks" "$(timeout 100 "${@:3}" pg_wal 2>&1 | tr '\n' ';')" "$2"
+  equal "$1: the image is listed" "$("$program" dump --seg 16777216 | grep -c '#32: .*blk 4294967294 FPW')" 1
 }
 
 if command -v cc >/dev/null; then
@@ -85,18 +110,35 @@ if command -v cc >/dev/null; then
   cc -std=c11 -O2 -Wall -I"$top/bindings/c" -o ends "$top/tests/by_hand/embedding_ends.c" -L"$PGWAL_LIB" -lpgwal_c \
     -L"$PGWAL_KIT/c" -los_c -llibc_c -pthread || exit 1
   # 0 is DONE, 4 DOWN, 8 LONG
-  equal 'in C: appends of each length end' "$(timeout 100 ./ends | sed 's/.*: //' | tr '\n' ';')" \
-    '60, 0, 0;0, 8, 0;60, 0, 0;60, 0, 0;0, 8, 0;60, 0, 0;0, 8, 0;60, 0, 0;'
+  equal 'in C: appends of each length, and segments, end' "$(timeout 100 ./ends | sed 's/.*: //' | tr '\n' ';')" \
+    '60, 0, 0;0, 8, 0;60, 0, 0;60, 0, 0;0, 8, 0;60, 0, 0;0, 8, 0;60, 0, 0;1, 200000, 200000, 200028, 0;'
+  cc -std=c11 -O2 -Wall -I"$top/bindings/c" -o blocks "$top/tests/by_hand/embedding_blocks.c" -L"$PGWAL_LIB" -lpgwal_c \
+    -L"$PGWAL_KIT/c" -los_c -llibc_c -pthread || exit 1
+  # 18 is BLOCK, 15 END
+  blocks 'in C' 'refused: 18 18 18;answered: 0 0 0 0, 1;closed: 0;read: 0 1;then: 0 1;then: 15;' ./blocks
   # No file may have a segment's length: the first call of the disk fails.
   equal 'in C: appends on a disk that fails end' \
     "$(trap '' XFSZ; ulimit -f 500; timeout 100 ./ends down | sed 's/.*: [0-9]*, //')" '4, 4'
+  fails 'in C' ./in_c 'PGWAL_DOWN.* at' 8
+  if command -v valgrind >/dev/null; then
+    cc -std=c11 -g -O1 -fno-inline -Wall -I"$top/bindings/c" -o watched "$top/bench/embedded.c" -L"$PGWAL_LIB" \
+      -lpgwal_c -L"$PGWAL_KIT/c" -los_c -llibc_c -pthread || exit 1
+    known="--suppressions=$top/tests/by_hand/embedding.supp"
+    watched memcheck commits 300 --leak-check=full --show-leak-kinds=all --errors-for-leak-kinds=all "$known"
+    watched helgrind commits 300
+    watched helgrind appends 6000 "$known"
+  else
+    echo 'in C under valgrind: skipped, there is no valgrind'
+  fi
 else
   echo 'in C: skipped, there is no cc'
 fi
 if command -v cargo >/dev/null; then
   cp -r "$top/bindings/rust" rust
   cargo build --quiet --offline --release --examples --manifest-path rust/Cargo.toml || exit 1
+  blocks 'in Rust' 'refused: Some(Block { index: 1 });read back: true;' rust/target/release/examples/blocks
   tried 'in Rust' rust/target/release/examples/commits rust/target/release/examples/reads
+  fails 'in Rust' rust/target/release/examples/commits 'Error: Down' 1
 else
   echo 'in Rust: skipped, there is no cargo'
 fi

@@ -1,6 +1,7 @@
-/* How appends end, for embedding.sh: of records of each length, by several sessions in one thread, and on a disk that
- * fails. An append that never ended would be a fault of the library's. */
+/* How appends and segment switches end, for embedding.sh: of records of each length, by several sessions in one thread,
+ * and on a disk that fails. One that never ended would be a fault of the library's. */
 #include "pgwal.h"
+#include <inttypes.h>
 
 enum { MOST = 8 };
 
@@ -28,6 +29,26 @@ static void appends(uint32_t ring, uint32_t sessions, size_t len, int rounds) {
   if (system("rm -rf pg_ends")) exit(1);
 }
 
+/* Ends a segment behind a record, with a ring that is shorter than what is left of it, and once more, where there is
+ * nothing to do; prints whether all was done, where each ended, and where the next record stands. */
+static void switches(void) {
+  pgwal_setup setup = {.seg_size = 1 << 20, .sysid = 1, .ring_pages = 4, .cap_segments = 4, .sessions = 2};
+  static pgwal_log log;
+  pgwal_session session = {0};
+  pgwal_sealed first = {0}, second = {0};
+  pgwal_place place = {0};
+  pgwal_record record = {.xid = 1, .rmid = 128, .data = data, .len = 8};
+  pgwal_log_found found;
+  bool done = pgwal_open("pg_ends", &setup, &log, &found) == PGWAL_DONE &&
+              pgwal_session_new(&log, &session) == PGWAL_DONE &&
+              pgwal_append(&session, &record, &place) == PGWAL_DONE && pgwal_switch(&session, &first) == PGWAL_DONE &&
+              pgwal_switch(&session, &second) == PGWAL_DONE && pgwal_append(&session, &record, &place) == PGWAL_DONE;
+  if (session.log) pgwal_session_end(&session);
+  uint32_t closed = pgwal_close(&log);
+  printf("ended: %d, %" PRIx64 ", %" PRIx64 ", %" PRIx64 ", %u\n", done, first.end, second.end, place.start, closed);
+  if (system("rm -rf pg_ends")) exit(1);
+}
+
 int main(int count, char **words) {
   (void)words;
   if (count > 1) return appends(64, 3, 60000, 60), 0;
@@ -39,5 +60,6 @@ int main(int count, char **words) {
   appends(4, 1, 3900, 60);
   appends(4, 1, 15000, 60);
   appends(4, 4, 1400, 60);
+  switches();
   return 0;
 }

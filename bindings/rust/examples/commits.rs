@@ -13,7 +13,7 @@ fn work(log: &Log, number: u32, records: u32, places: bool) -> Result<Option<Sea
     for i in 0..records {
         let data = format!("thread {number} record {i}");
         // Resource manager 128 is the first one that is free for extensions.
-        let record = Record { xid: number + 1, rmid: 128, info: 0, data: data.as_bytes() };
+        let record = Record { xid: number + 1, rmid: 128, data: data.as_bytes(), ..Record::default() };
         let sealed = session.commit(record)?;
         if places {
             println!("{:X}/{:08X} {}", sealed.start >> 32, sealed.start as u32, number + 1);

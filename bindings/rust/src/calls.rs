@@ -15,6 +15,29 @@ pub const SPLIT: u32 = 0;
 pub const APPEND: u32 = 1;
 pub const FLUSH: u32 = 2;
 pub const END: u32 = 3;
+pub const ADD_BLOCK: u32 = 4;
+pub const ADD_IMAGE: u32 = 5;
+pub const RAISE: u32 = 6;
+pub const WRITE_BEHIND: u32 = 7;
+pub const SWITCH: u32 = 8;
+
+#[repr(C)]
+#[derive(Clone, Copy, Default)]
+pub struct BlockAsked {
+    pub id: u8,
+    pub fork: u8,
+    pub will_init: u8,
+    pub has_image: u8,
+    pub apply: u8,
+    pub hole_offset: u16,
+    pub hole_len: u16,
+    pub spc: u32,
+    pub db: u32,
+    pub rel: u32,
+    pub blk: u32,
+    pub len: u64,
+    pub image_len: u64,
+}
 
 #[repr(C)]
 pub struct Asked {
@@ -22,6 +45,7 @@ pub struct Asked {
     pub xid: u32,
     pub rmid: u8,
     pub info: u8,
+    pub block: BlockAsked,
     pub upto: u64,
     pub moment: u64,
     pub start: u64,
@@ -33,7 +57,8 @@ pub struct Asked {
 impl Asked {
     pub fn new(asked: u32) -> Asked {
         let session = std::ptr::null_mut();
-        Asked { asked, xid: 0, rmid: 0, info: 0, upto: 0, moment: 0, start: 0, end: 0, detail: 0, session }
+        let block = BlockAsked::default();
+        Asked { asked, xid: 0, rmid: 0, info: 0, block, upto: 0, moment: 0, start: 0, end: 0, detail: 0, session }
     }
 }
 
@@ -46,6 +71,7 @@ pub const OPEN: u32 = 5;
 
 pub const CREATE: u32 = 0;
 pub const WRITE: u32 = 1;
+pub const SYNC: u32 = 2;
 
 #[repr(C)]
 pub struct DiskAsked {
@@ -73,6 +99,9 @@ pub const NEXT: u32 = 1;
 pub const HAND_IN: u32 = 2;
 pub const DATA: u32 = 3;
 pub const CLOSE: u32 = 4;
+pub const TELL_BLOCK: u32 = 5;
+pub const BLOCK_DATA: u32 = 6;
+pub const IMAGE: u32 = 7;
 
 #[repr(C)]
 pub struct ReaderAsked {
@@ -84,6 +113,8 @@ pub struct ReaderAsked {
     pub total: u32,
     pub damage: u32,
     pub blocks: u64,
+    pub index: u64,
+    pub block: BlockAsked,
     pub seg_size: u64,
     pub start: u64,
     pub end: u64,

@@ -1,8 +1,8 @@
 //! The disk of files: it takes the log's calls from the queue, makes them, and acknowledges them.
 
 use crate::calls::{
-    ACKNOWLEDGE, CREATE, DiskAsked, DiskMade, FAIL, HAND_IN_FIRST, LEAVE, OPEN, Setup, TAKE, WRITE, pgwal_disk_call,
-    pgwal_make_disk,
+    ACKNOWLEDGE, CREATE, DiskAsked, DiskMade, FAIL, HAND_IN_FIRST, LEAVE, OPEN, SYNC, Setup, TAKE, WRITE,
+    pgwal_disk_call, pgwal_make_disk,
 };
 use std::fs::{self, File, OpenOptions};
 use std::io::{self, ErrorKind, Write};
@@ -86,7 +86,7 @@ impl Disk {
         let opened = self.hand_in_folder().and_then(|()| self.open_handed());
         if opened.is_ok() {
             let DiskAsked { count, end, .. } = *self.call;
-            self.make_calls();
+            while self.make_calls() {}
             (self.call.count, self.call.end) = (count, end);
         }
         (opened, &self.call)
@@ -167,19 +167,21 @@ impl Disk {
         self.answer(asked) == DONE
     }
 
-    /// Makes all calls that are queued, in order, and acknowledges each.
-    pub fn make_calls(&mut self) {
+    /// Makes the calls that are queued, in order, and acknowledges each: up to a sync, with which a flush ends, so that
+    /// nobody makes calls for ever while others flush. Answers whether it came to one.
+    pub fn make_calls(&mut self) -> bool {
         while self.ask(TAKE) {
-            match self.make_call() {
-                Ok(()) => {
-                    self.ask(ACKNOWLEDGE);
-                }
-                Err(e) => {
-                    self.error = Some(e);
-                    self.ask(FAIL);
-                }
+            if let Err(e) = self.make_call() {
+                self.error = Some(e);
+                self.ask(FAIL);
+                return false;
+            }
+            self.ask(ACKNOWLEDGE);
+            if self.call.kind == SYNC {
+                return true;
             }
         }
+        false
     }
 
     /// What is left in the queue is let go.

@@ -1,7 +1,11 @@
 //! A log's records, read one behind another from a folder's files.
 
-use crate::calls::{BEGIN, CLOSE, DATA, HAND_IN, Made, NEXT, ReaderAsked, pgwal_make_reader, pgwal_reader_call};
+use crate::calls::{
+    BEGIN, BLOCK_DATA, BlockAsked, CLOSE, DATA, HAND_IN, IMAGE, Made, NEXT, ReaderAsked, TELL_BLOCK, pgwal_make_reader,
+    pgwal_reader_call,
+};
 use crate::disk::segment_name;
+use crate::{Block, Image, Relation};
 use std::fs::File;
 use std::io::{self, ErrorKind};
 use std::os::unix::fs::FileExt;
@@ -19,10 +23,10 @@ pub struct Found {
     pub xid: u32,
     pub rmid: u8,
     pub info: u8,
-    /// How many blocks it references.
-    pub blocks: u64,
     /// Its main data.
     pub data: Vec<u8>,
+    /// The blocks that it references.
+    pub blocks: Vec<Block<Vec<u8>>>,
 }
 
 /// Why no record was read.
@@ -89,8 +93,9 @@ impl Records {
         }
         let start = if start == 0 { seg_size } else { start };
         let call = Box::new(ReaderAsked {
-            asked: BEGIN, xid: 0, rmid: 0, info: 0, there: 0, blocks: 0, total: 0, damage: 0, seg_size, start,
-            end: 0, prev: 0, segment: 0, page: 0, len: 0, offset: 0, bytes: [0; 8192],
+            asked: BEGIN, xid: 0, rmid: 0, info: 0, there: 0, blocks: 0, index: 0, block: BlockAsked::default(),
+            total: 0, damage: 0, seg_size, start, end: 0, prev: 0, segment: 0, page: 0, len: 0, offset: 0,
+            bytes: [0; 8192],
         });
         let mut records = Records { handle: made.reader, path, seg_size, file: None, call, end: start };
         match records.ask(BEGIN) {
@@ -132,16 +137,35 @@ impl Records {
         Ok(())
     }
 
-    fn data(&mut self, len: usize) -> Result<Vec<u8>, ReadError> {
-        let mut data = Vec::with_capacity(len);
-        while data.len() < len {
+    // So many bytes of the record that came: its main data, a block's data or its image.
+    fn data(&mut self, asked: u32, len: u64) -> Result<Vec<u8>, ReadError> {
+        let mut data = Vec::with_capacity(len as usize);
+        while (data.len() as u64) < len {
             self.call.offset = data.len() as u64;
-            match self.ask(DATA) {
+            match self.ask(asked) {
                 DONE => data.extend_from_slice(&self.call.bytes[..self.call.len as usize]),
                 answer => return Err(ReadError::Other(answer)),
             }
         }
         Ok(data)
+    }
+
+    // The block of that record at an index.
+    fn block(&mut self, index: u64) -> Result<Block<Vec<u8>>, ReadError> {
+        self.call.index = index;
+        match self.ask(TELL_BLOCK) {
+            DONE => {}
+            answer => return Err(ReadError::Other(answer)),
+        }
+        let BlockAsked { id, fork, spc, db, rel, blk, apply, hole_offset, hole_len, .. } = self.call.block;
+        let BlockAsked { will_init, has_image, len, image_len, .. } = self.call.block;
+        let data = self.data(BLOCK_DATA, len)?;
+        let image = match has_image {
+            0 => None,
+            _ => Some(Image { apply: apply != 0, hole_offset, hole_len, bytes: self.data(IMAGE, image_len)? }),
+        };
+        let relation = Relation { spc, db, rel };
+        Ok(Block { id, relation, fork, blk, will_init: will_init != 0, data, image })
     }
 
     // Hands in the page that is wanted, and up to so many of its segment from there on.
@@ -181,8 +205,9 @@ impl Records {
             }
         }
         let ReaderAsked { start, end, prev, total, xid, rmid, info, blocks, len, .. } = *self.call;
-        let data = self.data(len as usize)?;
-        Ok(Some(Found { start, end, prev, total, xid, rmid, info, blocks, data }))
+        let data = self.data(DATA, len)?;
+        let blocks = (0..blocks).map(|index| self.block(index)).collect::<Result<_, _>>()?;
+        Ok(Some(Found { start, end, prev, total, xid, rmid, info, data, blocks }))
     }
 }
 

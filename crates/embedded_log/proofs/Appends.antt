@@ -2,7 +2,7 @@
 use Rattle.std.proofs.Common.{◌≡◌, ℕ, List, [], ◌∷◌, refl, sym, ap, ◌∙◌, subst, arith}
 use mathlib.Core.Option.{Option, some}
 use Rattle.wal_spelling.specs.Spelling.{Assembled}
-use Rattle.wal_page.specs.Order.{Entry}
+use Rattle.wal_page.specs.Order.{Entry, position_behind}
 use Rattle.wal_types.specs.declared.answers.Receipt.{Receipt}
 use Rattle.wal_types.specs.declared.lsn.Lsn.{Lsn}
 use Rattle.machine_state.specs.declared.setup.Setup.{Setup}
@@ -23,6 +23,8 @@ use Rattle.wal_log.proofs.WholeLaws.{copied_since}
 use Rattle.wal_log_laws.specs.Growing.{GrowsTo}
 use Rattle.wal_log_laws.proofs.Grown.{front_itself}
 use Rattle.embedded_log.specs.Appended.{IsAppended, IsBegunBy}
+use Rattle.embedded_log.specs.Sessions.{HasSeenEnd}
+use Rattle.embedded_log.proofs.Ends.{copied_ends_whole}
 
 same_entry : (e f : Entry) (o : Option Entry) → o ≡ some e → o ≡ some f → e ≡ f
 same_entry e f o first second = cc
@@ -88,6 +90,18 @@ module _ (setup : Setup) (body : Assembled) (old : View) where
             (subst (λ (e : Entry). CopiesWhole mid new e) same done.whole);
         start_is = ap (λ (l : Lsn). l.0) done.start_is ∙ begun.start_is;
         end_is = ap (λ (l : Lsn). l.0) done.end_is ∙ begun.end_is;
+      }
+
+  -- where it ends the pass has seen
+  pub ends_seen : (new : View) (receipt : Receipt) → (new.opening).setup ≡ setup
+      → IsAppended setup body old new receipt
+      → HasSeenEnd setup receipt.end.0 (new.reserving).seen
+  ends_seen new receipt own done =
+      let whole = copied_ends_whole setup old new done.entry own done.copied in record {
+        at = position_behind setup.seg_size done.entry;
+        end_is = done.end_is;
+        whole = omega (arith, done.end_is, whole);
+        below = (done.reserved).seen;
       }
 
   pub given_up : (flight : Inflight) (new : View) → IsBegunBy setup body old flight

@@ -1,6 +1,11 @@
 mod Promises
+mod Ends
 mod Appends
 mod Sessions
 mod Survival
 mod Soles
 mod Reopenings
+mod Crossing
+mod Living
+mod HostLives
+mod TwoLives

@@ -1,13 +1,15 @@
 -- What was promised to a log stays promised while it grows.
 use Rattle.std.specs.Prelude.{IfSome, Option, Some, None, Result, Ok, Err}
-use Rattle.std.proofs.Common.{◌≡◌, ◌≤◌, ℕ, Contains, List, [], ◌∷◌, length, refl, sym, subst}
+use Rattle.std.proofs.Common.{◌≡◌, ◌≤◌, ℕ, Contains, List, [], ◌∷◌, length, refl, sym, subst, arith}
 use Rattle.std.proofs.lemmas.List.Elements.{Contains-append_left, Contains-push}
 use Rattle.wal_types.specs.declared.answers.Hard.{Hard}
 use Rattle.machine_state.specs.Views.{FlushPromise, View}
+use Rattle.wal_log.specs.declared.behind.Caught.TheVariants.{Flushed}
+use Rattle.wal_log.specs.Behind.{FlushesBehind}
 use Rattle.wal_log.specs.PassLogs.{PassLog, log_of_pass, log_with_promise}
 use Rattle.wal_log_laws.specs.Growing.{GrowsTo}
 use Rattle.wal_log_laws.proofs.Grown.{front_itself, grows_again}
-use Rattle.embedded_log.specs.Promised.{IsPromisedHard, TriesToFlush}
+use Rattle.embedded_log.specs.Promised.{IsPromisedHard, IsToldMade, TellsMade, TriesToFlush}
 use Rattle.embedded_log.specs.declared.shared.FlushStop.{FlushStop}
 
 module _ (hard : Hard) (l m : PassLog) (is : m ≡ log_with_promise hard.upto.0 hard.moment l) where
@@ -70,3 +72,23 @@ tries_since asked answer old mid new before tries = record {
   told = tries.told;
   grows = grows_again (log_of_pass old) (log_of_pass mid) (log_of_pass new) before tries.grows;
 }
+
+-- ---- what a flush behind tells
+
+module _ (hard : Hard) (old new : View) (told : FlushesBehind hard old new) where
+  pub behind_promised : IsPromisedHard hard (log_of_pass new)
+  behind_promised =
+      promised_now hard (log_of_pass old) (log_of_pass new) ((told.told).0).log_is
+
+  pub behind_told : (made : ℕ → Type 0) (said : Hard) → IsToldMade made hard.upto.0 said new
+      → TellsMade made (Flushed said) old new
+  behind_told made said is = (
+    told.target,
+    told.found,
+    record {
+      reached = (let low = ((told.told).0).reached in let further = is.reached in
+          omega (arith, low, further));
+      promised = is.promised;
+      host = is.host;
+    },
+  )

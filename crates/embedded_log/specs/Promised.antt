@@ -2,8 +2,13 @@
 use Rattle.std.specs.Prelude.{◌≡◌, ℕ, ◌≤◌, Contains, Result, Ok, Err}
 use Rattle.wal_types.specs.declared.answers.Hard.{Hard}
 use Rattle.machine_state.specs.Views.{FlushPromise, View}
+use Rattle.wal_log.specs.declared.behind.Caught.{Caught}
+use Rattle.wal_log.specs.declared.behind.Caught.TheVariants.{Flushed, Idle}
+use Rattle.wal_log.specs.Behind.{FindsNothing, FindsTarget}
 use Rattle.wal_log.specs.PassLogs.{PassLog, log_of_pass}
 use Rattle.wal_log_laws.specs.Growing.{GrowsTo}
+use Rattle.embedded_log.specs.declared.flushing.FlushRefusal.{FlushRefusal}
+use Rattle.embedded_log.specs.declared.flushing.FlushRefusal.TheVariants.{Behind}
 use Rattle.embedded_log.specs.declared.shared.FlushStop.{FlushStop}
 
 -- a log was promised that all below this address is durable from this moment on
@@ -36,3 +41,15 @@ pub record IsToldMade (made : ℕ → Type 0) (asked : ℕ) (hard : Hard) (v : V
   pub reached : asked ≤ hard.upto.0
   pub promised : IsPromisedHard hard (log_of_pass v)
   pub host : HasMade made hard.moment
+
+-- what is refused as held back was promised
+abbrev pub SaysHeldBack : FlushRefusal → View → Type 0
+SaysHeldBack (Behind upto moment made) v =
+    IsPromisedHard (record { upto = upto; moment = moment }) (log_of_pass v)
+SaysHeldBack other v = Unit {0}
+
+-- a flush behind tells this of the target that was found; or that nothing was to be flushed
+abbrev pub TellsMade : (ℕ → Type 0) → Caught → View → View → Type 0
+TellsMade made (Flushed hard) old new =
+    (target : ℕ) × FindsTarget target old × IsToldMade made target hard new
+TellsMade made (Idle upto) old new = FindsNothing upto.0 old new

@@ -1,8 +1,9 @@
 -- A session: the log that it is of, what its passes know, and what holds of it between two calls.
-use Rattle.std.specs.Prelude.{◌≡◌, [], ◌∷◌, IfSome}
+use Rattle.std.specs.Prelude.{◌≡◌, ℕ, ◌%◌, ◌≤◌, [], ◌∷◌, IfSome}
 use Rattle.hosted_disk.specs.declared.disk.HostedDisk.{HostedDisk}
 use Rattle.machine_state.specs.Moves.{after_join, after_split, split_off}
 use Rattle.machine_state.specs.Views.{View}
+use Rattle.machine_state.specs.Words.{end_form}
 use Rattle.machine_state.specs.declared.setup.Setup.{Setup}
 use Rattle.wal_rule.specs.Passes.{view_of_pass}
 use Rattle.wal_log.specs.declared.wal.Wal.{Wal}
@@ -13,6 +14,14 @@ use Rattle.wal_log.specs.Standing.{KeepsPass}
 use Rattle.wal_log_laws.specs.Growing.{GrowsTo}
 use Rattle.embedded_log.specs.declared.session.LogSession.{LogSession}
 use Rattle.embedded_log.specs.Promised.{IsPromisedHard}
+
+-- a record ends at this address, at a word, and lies below a byte position, up to which a pass has
+-- seen all reserved
+pub record HasSeenEnd (setup : Setup) (end seen : ℕ) : Type 0 where
+  pub at : ℕ
+  pub end_is : end ≡ end_form setup at
+  pub whole : end % 8 ≡ 0
+  pub below : at ≤ seen
 
 module _ {H : Type 0} where
   -- the log that it is of
@@ -29,13 +38,16 @@ module _ {H : Type 0} where
   abbrev pub view_of_helper : LogSession H → View
   view_of_helper session = view_of_pass session.helper
 
-  -- between two calls its passes are the log's and about nothing, and what it holds back was
-  -- promised
+  -- between two calls its passes are the log's and about nothing, what it holds back was promised,
+  -- and its pass has seen where the last record ends that it appended
   pub record IsOpenSession (session : LogSession H) : Type 0 where
     pub pass : IsPassOfLog (wal_of_session session) session.pass
     pub helper : IsPassOfLog (wal_of_session session) session.helper
     pub pending : IfSome session.pending
         (λ hard. IsPromisedHard hard (log_of_pass (view_of_session session)))
+    pub appended : IfSome session.appended
+        (λ end. HasSeenEnd (setup_of_session session) end.0
+        ((view_of_session session).reserving).seen)
 
   -- a call leaves it open at the same log: its passes keep their numbers and what they had seen,
   -- and the log of the one that appends has grown

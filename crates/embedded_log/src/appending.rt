@@ -29,6 +29,7 @@ pub struct Appending<'a, H: Rule> {
     pub(crate) flight: Inflight<'a>,
     pub(crate) helper: Pass,
     pub(crate) pending: Option<Hard>,
+    pub(crate) appended: Option<Lsn>,
 }
 
 /// What an append comes to.
@@ -64,6 +65,7 @@ impl<H: Rule> LogSession<H> {
             pass,
             helper,
             pending,
+            appended,
         } = self;
         match log.wal.try_begin(pass, body) {
             Ok(flight) => {
@@ -72,6 +74,7 @@ impl<H: Rule> LogSession<H> {
                     flight,
                     helper,
                     pending,
+                    appended,
                 };
                 begun.go_on()
             }
@@ -82,6 +85,7 @@ impl<H: Rule> LogSession<H> {
                     pass,
                     helper,
                     pending,
+                    appended,
                 },
             },
         }
@@ -101,6 +105,7 @@ impl<'a, H: Rule> Appending<'a, H> {
             mut flight,
             helper,
             pending,
+            appended,
         } = self;
         let copied = flight.copy(&log.wal, u32::MAX);
         match flight.finish(&log.wal) {
@@ -111,6 +116,7 @@ impl<'a, H: Rule> Appending<'a, H> {
                     pass,
                     helper,
                     pending,
+                    appended: Some(receipt.end),
                 },
             },
             Err(flight) => {
@@ -119,6 +125,7 @@ impl<'a, H: Rule> Appending<'a, H> {
                     flight,
                     helper,
                     pending,
+                    appended,
                 };
                 going.stopped(copied.stop)
             }
@@ -136,6 +143,7 @@ impl<'a, H: Rule> Appending<'a, H> {
             flight,
             mut helper,
             pending,
+            appended,
         } = self;
         match flight.give_up(&log.wal) {
             Ok(pass) => Append::Down {
@@ -144,6 +152,7 @@ impl<'a, H: Rule> Appending<'a, H> {
                     pass,
                     helper,
                     pending,
+                    appended,
                 },
             },
             Err(flight) => {
@@ -153,6 +162,7 @@ impl<'a, H: Rule> Appending<'a, H> {
                     flight,
                     helper,
                     pending,
+                    appended,
                 })
             }
         }

@@ -25,6 +25,7 @@ impl<H: Rule> LogSession<H> {
             mut pass,
             helper,
             pending,
+            appended,
         } = self;
         match Arc::try_unwrap(log) {
             Ok(shared) => {
@@ -36,6 +37,7 @@ impl<H: Rule> LogSession<H> {
                 pass,
                 helper,
                 pending,
+                appended,
             }),
         }
     }

@@ -1,10 +1,11 @@
 // A flush of a session. What the log tells to be durable from a moment of its disk on is so on the
 // host's disk once the host has made that many calls. So it is held back until the host has
 // acknowledged them, and asked for again it is told without another flush.
-ghost use Rattle.std.specs.Prelude.{◌≡◌, ◌≤◌, IfOk, IfSome};
+ghost use Rattle.std.specs.Prelude.{◌≡◌, ◌≤◌, IfErr, IfOk, IfSome};
+ghost use Rattle.machine_state.specs.Views.{View};
 ghost use Rattle.wal_log.specs.PassLogs.{log_of_pass};
 ghost use Rattle.embedded_log.specs.Sessions.{GoesOnOpen, IsOpenSession, view_of_session};
-ghost use Rattle.embedded_log.specs.Promised.{HasMade, IsPromisedHard, IsToldMade};
+ghost use Rattle.embedded_log.specs.Promised.{HasMade, IsPromisedHard, IsToldMade, SaysHeldBack};
 
 use crate::session::LogSession;
 use crate::shared::{FlushBusy, FlushStop};
@@ -17,9 +18,9 @@ use wal_types::Lsn;
 pub enum FlushRefusal {
     /// Something was in its way: it may be tried again.
     Busy(FlushBusy),
-    /// The log has queued what makes it durable: it is so once the host has made the calls up to
-    /// this moment, and the host has acknowledged so many.
-    Behind { moment: u64, made: u64 },
+    /// The log has queued what makes all below `upto` durable: it is so once the host has made the
+    /// calls up to this moment, and the host has acknowledged so many.
+    Behind { upto: Lsn, moment: u64, made: u64 },
     /// The address is above the end of what is reserved, which is this one.
     Unreserved { end: Lsn },
     /// The disk has failed: its count of faults then.
@@ -27,6 +28,8 @@ pub enum FlushRefusal {
 }
 
 impl From<FlushStop> for FlushRefusal {
+    ghost from_gives = { λ _ e. (v : View) → SaysHeldBack e v };
+
     fn from(stop: FlushStop) -> FlushRefusal {
         match stop {
             FlushStop::Busy(busy) => FlushRefusal::Busy(busy),
@@ -44,6 +47,8 @@ impl<H: Rule> LogSession<H> {
         // What is told the log has promised, and the host has said to have made that many calls.
         ensures told { IfOk result (λ hard. IsToldMade H.invariant upto.0 hard
             (view_of_session self.new)) }
+        // What is Behind the log has promised.
+        ensures behind { IfErr result (λ e. SaysHeldBack e (view_of_session self.new)) }
         ensures goes_on { GoesOnOpen self.old self.new }
     {
         match self.promise_upto(upto) {
@@ -90,16 +95,17 @@ impl<H: Rule> LogSession<H> {
     }
 
     // Tells what was promised, once the host has made the calls up to its moment.
-    fn tell(&self, upto: Lsn, hard: Hard) -> Result<Hard, FlushRefusal>
-        requires reached { upto.0 ≤ hard.upto.0 }
+    pub(crate) fn tell(&self, asked: Lsn, hard: Hard) -> Result<Hard, FlushRefusal>
+        requires reached { asked.0 ≤ hard.upto.0 }
         requires promised { IsPromisedHard hard (log_of_pass (view_of_session self.now)) }
-        ensures { IfOk result (λ told. IsToldMade H.invariant upto.0 told
+        ensures told { IfOk result (λ told. IsToldMade H.invariant asked.0 told
             (view_of_session self.now)) }
+        ensures behind { IfErr result (λ e. SaysHeldBack e (view_of_session self.now)) }
     {
         let made = self.log.host.made();
-        let moment = hard.moment;
+        let Hard { upto, moment } = hard;
         if made < moment {
-            return Err(FlushRefusal::Behind { moment, made });
+            return Err(FlushRefusal::Behind { upto, moment, made });
         }
         Ok(hard)
     }

@@ -1,17 +1,22 @@
 //! What a program that links the log may count on, proved by functions that do nothing.
 
+ghost use denote.Param.Send.{IsSend, IsSync};
 ghost use Rattle.machine_state.specs.declared.setup.Setup.{Setup};
 ghost use Rattle.wal_log.specs.declared.reopening.Found.{Found};
+ghost use Rattle.embedded_log.specs.contracts.session.LogSession as session;
 ghost use Rattle.embedded_log.specs.Opened.{OpensSession};
 ghost use Rattle.embedded_log.specs.Reopened.{ReopensSession};
 ghost use Rattle.embedded_log.specs.Sessions.{GoesOnOpen, IsSole};
 ghost use Rattle.embedded_log.specs.Surviving.{ToldRecordsSurvive};
+ghost use Rattle.embedded_log.specs.HostHistory.{HostRecordsStay};
+ghost use Rattle.embedded_log.specs.Living.{OpenedSessionsLiveOn, ReopenedSessionsLiveOn, TwoLivesKeepTold};
 ghost use Rattle.embedded_log.specs.declared.session.LogSession.{LogSession};
 
-use hosted_disk::HostedDisk;
+use hosted_disk::{HostProgress, HostedDisk};
 use std::sync::atomic::Rule;
 use wal_log::numbers::calls_keep_numbers;
 use wal_log::shared_numbers::passes_share_numbers;
+use wal_log::{Pass, Wal};
 use wal_log_laws::laws::{closed_logs_are_closed_on_their_disk, sealed_records_survive};
 use wal_rule::numbers::seats_keep_numbers;
 
@@ -26,6 +31,21 @@ pub fn told_records_survive<H: Rule>()
     sealed_records_survive::<HostedDisk>();
 }
 
+/// And over all lives of the log, opened anew or gone on with: each life of its sessions is one of
+/// its `Wal`, in which all that they were told to be durable was promised. What was promised in any
+/// life is found in each later one, and in whatever a crash leaves of it.
+pub fn sessions_live_on<H: Rule>()
+    ensures opened { OpenedSessionsLiveOn H }
+    ensures reopened { ReopenedSessionsLiveOn H }
+    ensures stay { HostRecordsStay }
+{}
+
+/// A caller of the law: a log that was opened anew and gone on with has all that was told in both
+/// lives.
+pub fn two_lives_keep_told<H: Rule>()
+    ensures { TwoLivesKeepTold H }
+{}
+
 /// The first session is the only one until it splits another one off, since no call takes a number
 /// from its passes: so it may close the log.
 pub fn first_sessions_are_sole<H: Rule>()
@@ -38,4 +58,23 @@ pub fn first_sessions_are_sole<H: Rule>()
     seats_keep_numbers();
     calls_keep_numbers();
     passes_share_numbers();
+}
+
+fn may_cross<T: Send>()
+    ensures { IsSend T.row }
+{}
+
+fn may_be_shared<T: Sync>()
+    ensures { IsSync T.row }
+{}
+
+/// A session may be handed to another thread.
+pub fn sessions_may_cross<H: Rule>()
+    ensures { IsSend (session.the_row H.row record { invariant = H.invariant }) }
+{
+    may_cross::<Pass>();
+    may_cross::<Wal<HostedDisk>>();
+    may_be_shared::<Wal<HostedDisk>>();
+    may_cross::<HostProgress<H>>();
+    may_be_shared::<HostProgress<H>>();
 }

@@ -90,5 +90,6 @@ pub(crate) fn first_session<H: Rule>(
         pass,
         helper,
         pending: None,
+        appended: None,
     })
 }

@@ -6,6 +6,7 @@ use std::alloc::Global;
 use std::sync::Arc;
 use std::sync::atomic::Rule;
 use wal_log::{Hard, Pass};
+use wal_types::Lsn;
 
 /// One thread's way to the log. It may be handed to another thread, and is in one call at a time.
 #[derive(Drop)]
@@ -16,4 +17,6 @@ pub struct LogSession<H: Rule> {
     // What the log last promised to be durable, which is held back until the host has made the
     // calls that make it so.
     pub(crate) pending: Option<Hard>,
+    // Where the last record ends that it appended.
+    pub(crate) appended: Option<Lsn>,
 }

@@ -82,6 +82,12 @@ impl<H: Rule> SharedLog<H> {
         answer
     }
 
+    // Whether the queue has no room for what a flush may add. Behind a call that failed nothing is
+    // taken any more: the next call of the disk tells it.
+    pub(crate) fn lacks_room(&self) -> bool {
+        !self.host.has_failed() && !self.host.has_room(self.calls_of_flush)
+    }
+
     // One try of a flush, while nobody else is at one.
     fn flush_alone(&self, pass: &mut Pass, upto: Lsn) -> Result<Hard, FlushStop>
         requires { IsPassOfLog self.now.wal pass.old }
@@ -90,8 +96,7 @@ impl<H: Rule> SharedLog<H> {
         ensures keeps { KeepsPass (view_of_pass pass.old) (view_of_pass pass.new) }
         ensures pass { IsPassOfLog self.now.wal pass.new }
     {
-        // Behind a call that failed nothing is taken any more: the next call of the disk tells it.
-        if !self.host.has_failed() && !self.host.has_room(self.calls_of_flush) {
+        if self.lacks_room() {
             return Err(FlushStop::Busy(FlushBusy::Queue));
         }
         match self.wal.try_flush(pass, upto) {

@@ -24,6 +24,7 @@ impl<H: Rule> LogSession<H> {
             pass,
             helper,
             pending: None,
+            appended: None,
         })
     }
 
@@ -39,6 +40,7 @@ impl<H: Rule> LogSession<H> {
             pass,
             helper,
             pending: _,
+            appended: _,
         } = other;
         self.log.wal.join(&mut self.pass, pass);
         self.log.wal.join(&mut self.pass, helper);

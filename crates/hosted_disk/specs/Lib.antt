@@ -1,2 +1,3 @@
 pub mod HostSegments
 pub mod Hosted
+pub mod Untouched

@@ -2,14 +2,17 @@
 // has the calls queued, of which the host has made a front. What the log is told to be durable from
 // a moment on is so on the host's disk once the host has made that many calls (progress.rt). Where
 // there is no room, or a call of the host's has failed, nothing is queued, and the call fails
-// without being counted. Before the first call it is read from pages that the host handed in.
+// without being counted. It is read from pages that the host handed in, as long as the calls that
+// are queued leave them as they were.
 ghost use Rattle.std.specs.Prelude.{◌≡◌, ℕ, Some, [], IfOk, IfSome, MatchResult, length, true};
+ghost use Rattle.hosted_disk.specs.Untouched.{are_within};
 ghost use Rattle.rtrb.specs.Ring.{sent};
 ghost use Rattle.segment_disk.specs.Cause.{HasCause};
 ghost use Rattle.segment_disk.specs.Tape.{Answers, IsPageRead, IsUncalled, create_call, page_of_segment, state_now, sync_call, write_call};
 
 use crate::first_pages::FirstPages;
 use crate::host_disk::HostDisk;
+use crate::touched::Touched;
 use crate::words::QueueWords;
 use byte_position::{Geometry, Page};
 use handed_pages::{HandedPage, PageNumber};
@@ -19,18 +22,20 @@ use std::alloc::Global;
 use std::sync::Arc;
 use std::sync::atomic::Ordering;
 
-/// A disk whose calls a host makes. A page is read only as long as no call was queued: as it was
-/// handed in, or as absent of a disk that held nothing at first. One that was not handed in is
-/// noted as wanted, and the read fails.
+/// A disk whose calls a host makes. A page is read as it was handed in, or as absent of a disk that
+/// held nothing at first; where a call that is queued may have changed it, the read fails. One that
+/// was not handed in is noted as wanted, and the read fails.
 #[derive(Drop)]
 pub struct HostedDisk {
     pub(crate) queue: Producer<Call>,
     pub(crate) words: Arc<QueueWords, Global>,
     pub(crate) first: FirstPages,
     pub(crate) wanted: Option<PageNumber>,
+    pub(crate) touched: Touched,
     pub(crate) moment: u64,
     pub(crate) faults: u64,
     ghost counts: { moment ≡ length (sent queue) },
+    ghost within: { are_within touched (sent queue) ≡ true },
 }
 
 impl HostedDisk {
@@ -53,6 +58,7 @@ impl HostedDisk {
             words,
             first: _,
             wanted: _,
+            touched,
             moment,
             faults,
         } = self;
@@ -61,6 +67,7 @@ impl HostedDisk {
             words,
             first: FirstPages::by_pages::<L>(pages),
             wanted: None,
+            touched,
             moment,
             faults,
         }
@@ -78,6 +85,7 @@ impl HostedDisk {
             words: _,
             first,
             wanted: _,
+            touched: _,
             moment: _,
             faults: _,
         } = self;
@@ -108,8 +116,10 @@ impl HostedDisk {
         if self.moment == u64::MAX || self.words.failed.load(Ordering::SeqCst) != 0 {
             return Err(count_fault(&mut self.faults));
         }
+        let touched = self.touched.with(&call);
         match self.queue.push(call) {
             Ok(()) => {
+                self.touched = touched;
                 self.moment += 1;
                 self.words.queued.store(self.moment, Ordering::SeqCst);
                 Ok(())
@@ -171,10 +181,10 @@ impl Disk for HostedDisk {
         page: u32,
         bytes: &mut Page,
     ) -> Result<bool, Failed> {
-        if self.moment != 0 {
+        let number = PageNumber { segment, page };
+        if !self.touched.leaves(number) {
             return Err(count_fault(&mut self.faults));
         }
-        let number = PageNumber { segment, page };
         match self.first.read(number, bytes) {
             Some(there) => Ok(there),
             None => {

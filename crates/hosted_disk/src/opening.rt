@@ -8,6 +8,7 @@ use crate::calls::HostCalls;
 use crate::disk::HostedDisk;
 use crate::first_pages::FirstPages;
 use crate::progress::HostProgress;
+use crate::touched::Touched;
 use crate::words::QueueWords;
 use rtrb::RingBuffer;
 use segment_disk::Memory;
@@ -41,6 +42,7 @@ pub fn hosted_disk<H: Rule>(
         words: Arc::try_clone(&words)?,
         first: FirstPages::nothing(alloc),
         wanted: None,
+        touched: Touched::Nothing,
         moment: 0,
         faults: 0,
     };

@@ -36,3 +36,8 @@ pub const END_OF_LOG: u32 = 15;
 pub const DAMAGED: u32 = 16;
 /// A segment is there behind the last one that the log may have: `segment`.
 pub const BEYOND: u32 = 17;
+/// The record's block `detail`, counted from 0 on, is not right.
+pub const BLOCK: u32 = 18;
+/// Nothing is to be flushed: the log has flushed all below `upto`, and what was answered lies
+/// there.
+pub const IDLE: u32 = 19;

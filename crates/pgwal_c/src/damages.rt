@@ -1,4 +1,7 @@
 //! The kinds of damage by number. The header of the bindings has the same table.
+ghost use Rattle.std.specs.Prelude.{◌≡◌};
+ghost use Rattle.pgwal_c.specs.ReaderTold.{stop_address};
+
 use wal_page::PageErr;
 use wal_reader::{DamageKind, Stopped};
 use wal_types::Lsn;
@@ -33,7 +36,9 @@ fn kind_number(kind: DamageKind) -> u32 {
 }
 
 /// Where a log stopped, and by which damage.
-pub fn damage_number(stopped: Stopped) -> (Lsn, u32) {
+pub fn damage_number(stopped: Stopped) -> (Lsn, u32)
+    ensures { (result.0).0 ≡ stop_address stopped }
+{
     match stopped {
         Stopped::Damaged { at, kind } => (at, kind_number(kind)),
         Stopped::Compressed { at } => (at, 19),

@@ -1,6 +1,9 @@
 // What the disk's owner calls with: it hands in what the disk has, opens the log that is there,
 // takes the calls of the disk, makes them, and says how many it has made. What a caller must not do
 // is told, and changes nothing.
+ghost use Rattle.std.specs.Prelude.{◌≡◌, ◌≢◌, IsSomeAnd};
+ghost use Rattle.pgwal_c.specs.DiskTold.{HoldsHanded, OpensTold, TellsAcknowledge, TellsDiskCall, TellsTake};
+
 use crate::answers::{DONE, MEMORY, MISUSE, NONE};
 use crate::opening::LogSetup;
 use crate::reopening::open_log;
@@ -67,29 +70,39 @@ pub struct DiskHandle {
     pub(crate) pages: Vec<HandedPage>,
 }
 
-// Takes the next call, if there is one.
-fn take(calls: &mut HostCalls<ProgramSaid>, asked: &mut DiskCall) -> u32 {
-    let Some(call) = calls.take() else {
+// Takes the next call, if there is one. Its page is copied where it lies in the queue.
+fn take(calls: &mut HostCalls<ProgramSaid>, asked: &mut DiskCall) -> u32
+    ensures { TellsTake calls.old calls.new asked.new result }
+{
+    if calls.has_failed() || calls.look() == 0 {
+        return NONE;
+    }
+    let Some(call) = calls.next() else {
         return NONE;
     };
-    asked.count = calls.taken();
     asked.segment = call.segment;
     asked.seg_size = call.geometry.segment_size();
-    match call.kind {
+    match &call.kind {
         CallKind::Create { .. } => asked.kind = CREATE,
         CallKind::Write { page, bytes } => {
             asked.kind = WRITE;
-            asked.page = u64::from(page);
-            let page_bytes = bytes.bytes;
-            asked.bytes = page_bytes;
+            asked.page = u64::from(*page);
+            asked.bytes = bytes.bytes;
         }
         CallKind::Sync => asked.kind = SYNC,
     }
+    let taken = calls.take();
+    if taken.is_none() {
+        return NONE;
+    }
+    asked.count = calls.taken();
     DONE
 }
 
 // Says that so many calls were made, if that can be.
-fn acknowledge(calls: &mut HostCalls<ProgramSaid>, count: u64) -> u32 {
+fn acknowledge(calls: &mut HostCalls<ProgramSaid>, count: u64) -> u32
+    ensures { TellsAcknowledge count calls.old calls.new result }
+{
     if calls.has_failed() || count < calls.acknowledged() || count > calls.taken() {
         return MISUSE;
     }
@@ -98,7 +111,9 @@ fn acknowledge(calls: &mut HostCalls<ProgramSaid>, count: u64) -> u32 {
 }
 
 // Holds a page for the opening, or that there is none.
-fn hand_in(handle: &mut DiskHandle, asked: &DiskCall) -> u32 {
+fn hand_in(handle: &mut DiskHandle, asked: &DiskCall) -> u32
+    ensures { result ≡ DONE → HoldsHanded asked.now handle.old.pages.items handle.new.pages.items }
+{
     let Ok(page) = u32::try_from(asked.page) else {
         return MISUSE;
     };
@@ -118,7 +133,14 @@ fn hand_in(handle: &mut DiskHandle, asked: &DiskCall) -> u32 {
 }
 
 // Before a log is opened.
-fn call_unopened(handle: &mut DiskHandle, asked: &mut DiskCall) -> u32 {
+fn call_unopened(handle: &mut DiskHandle, asked: &mut DiskCall) -> u32
+    ensures hand_in { asked.old.asked ≡ HAND_IN_FIRST → result ≡ DONE
+        → HoldsHanded asked.old handle.old.pages.items handle.new.pages.items }
+    ensures opens { asked.old.asked ≡ OPEN → result ≡ DONE → IsSomeAnd handle.new.calls (λ calls.
+        OpensTold handle.old.pages.items asked.old asked.new calls) }
+    ensures other { asked.old.asked ≢ HAND_IN_FIRST → asked.old.asked ≢ OPEN
+        → (result ≡ MISUSE) × (handle.new ≡ handle.old) }
+{
     match asked.asked {
         HAND_IN_FIRST => hand_in(handle, asked),
         OPEN => open_log(handle, asked),
@@ -126,7 +148,9 @@ fn call_unopened(handle: &mut DiskHandle, asked: &mut DiskCall) -> u32 {
     }
 }
 
-pub(crate) fn call_disk(handle: &mut DiskHandle, asked: &mut DiskCall) -> u32 {
+pub(crate) fn call_disk(handle: &mut DiskHandle, asked: &mut DiskCall) -> u32
+    ensures { TellsDiskCall handle.old handle.new asked.old asked.new result }
+{
     if asked.asked == LEAVE {
         let _left = handle.calls.take();
         handle.pages = Vec::new(handle.alloc);

@@ -1,6 +1,8 @@
 // A log is begun: its first session and the disk's queue are handed out. For one that is there the
 // disk is handed out before it (reopening.rt).
+ghost use Rattle.std.specs.Prelude.{◌≡◌, ◌≢◌, IfErr};
 ghost use Rattle.embedded_log.specs.Sessions.{IsOpenSession};
+ghost use Rattle.pgwal_c.specs.DiskTold.{setup_of_asked};
 
 use crate::answers::{DONE, MEMORY, SETUP};
 use crate::disk_handle::DiskHandle;
@@ -11,6 +13,8 @@ use byte_position::PAGE_SIZE;
 use embedded_log::{LogSession, OpenRefusal, open};
 use std::alloc::Global;
 use wal_log::{OpenFaultKind, Setup};
+use wal_spelling::Body;
+use wal_types::BlockList;
 
 /// What a log is begun with: the bytes of a segment, the system id, pages of the ring, segments
 /// that it may fill, sessions, and calls that the disk's queue has room for.
@@ -45,7 +49,9 @@ fn refusal_answer(e: OpenRefusal) -> u32 {
 }
 
 // A session has two passes.
-pub(crate) fn setup_of(setup: &LogSetup) -> Setup {
+pub(crate) fn setup_of(setup: &LogSetup) -> Setup
+    ensures { result ≡ setup_of_asked setup.now }
+{
     Setup {
         seg_size: setup.seg_size,
         ring_pages: setup.ring_pages,
@@ -61,21 +67,30 @@ pub(crate) fn session_of(
     setup: &LogSetup,
     session: LogSession<ProgramSaid>,
     end: u64,
-) -> SessionHandle
+) -> Result<SessionHandle, u32>
     requires { IsOpenSession session }
+    ensures { IfErr result (λ answer. answer ≢ DONE) }
 {
+    // It is never freed: a switch on its way in a handle is lent it.
+    let Ok(switch) = Box::new(alloc, Body::switch(alloc)) else {
+        return Err(MEMORY);
+    };
     let half = u64::from(setup.ring_pages) * PAGE_SIZE / 2;
-    SessionHandle {
+    Ok(SessionHandle {
         alloc,
         session: Some(session),
+        switching: None,
+        switch: Box::leak(switch),
         half,
         share: half.saturating_sub(PAGE_SIZE) / u64::from(setup.sessions.max(1)),
         end,
         written: end,
-    }
+        blocks: BlockList::none(alloc),
+        image: None,
+    })
 }
 
-// The first session of a log that is begun, and the disk's queue.
+// The first session of a log that is begun, at the start of segment 1, and the disk's queue.
 pub(crate) fn begin_log(
     alloc: Global,
     setup: &LogSetup,
@@ -87,7 +102,7 @@ pub(crate) fn begin_log(
                 calls: Some(calls),
                 pages: Vec::new(alloc),
             };
-            Ok((session_of(alloc, setup, session, 0), disk))
+            Ok((session_of(alloc, setup, session, setup.seg_size)?, disk))
         }
         Err(e) => Err(refusal_answer(e)),
     }

@@ -1,6 +1,9 @@
 // A log is gone on with that is on the program's disk, or begun where none is: the disk's owner
 // hands in what the files have, and asks for it. What is wanted beside is told, and is asked for
 // again then.
+ghost use Rattle.std.specs.Prelude.{◌≡◌, ◌≢◌, IsSomeAnd};
+ghost use Rattle.pgwal_c.specs.DiskTold.{OpensTold};
+
 use crate::answers::{BEYOND, DAMAGED, DONE, DOWN, MEMORY, MISUSE, QUEUE, SETUP, WANTED};
 use crate::damages::damage_number;
 use crate::disk_handle::{DiskCall, DiskHandle};
@@ -16,12 +19,14 @@ use wal_log::OpenFaultKind;
 pub struct ProgramDisk;
 
 impl HostDisk for ProgramDisk {
-    ghost use Rattle.std.specs.Prelude.{[]};
+    ghost use Rattle.pgwal_c.specs.DiskTold.{program_segments};
 
-    ghost segments = { [] };
+    ghost segments = { program_segments };
 }
 
-fn fault_answer(kind: OpenFaultKind, asked: &mut DiskCall) -> u32 {
+fn fault_answer(kind: OpenFaultKind, asked: &mut DiskCall) -> u32
+    ensures { result ≢ DONE }
+{
     match kind {
         OpenFaultKind::BadSetup => SETUP,
         OpenFaultKind::Memory => MEMORY,
@@ -40,7 +45,9 @@ fn fault_answer(kind: OpenFaultKind, asked: &mut DiskCall) -> u32 {
     }
 }
 
-fn stop_answer(why: ReopenStop, asked: &mut DiskCall) -> u32 {
+fn stop_answer(why: ReopenStop, asked: &mut DiskCall) -> u32
+    ensures { result ≢ DONE }
+{
     match why {
         ReopenStop::Passes => SETUP,
         ReopenStop::Memory => MEMORY,
@@ -60,7 +67,10 @@ fn room_of(setup: &LogSetup) -> usize {
 }
 
 // Opens the log by the pages that were handed in, and hands out its first session.
-pub(crate) fn open_log(handle: &mut DiskHandle, asked: &mut DiskCall) -> u32 {
+pub(crate) fn open_log(handle: &mut DiskHandle, asked: &mut DiskCall) -> u32
+    ensures { result ≡ DONE → IsSomeAnd handle.new.calls (λ calls.
+        OpensTold handle.old.pages.items asked.old asked.new calls) }
+{
     let alloc = handle.alloc;
     let setup = asked.setup;
     let room = room_of(&setup);
@@ -69,7 +79,10 @@ pub(crate) fn open_log(handle: &mut DiskHandle, asked: &mut DiskCall) -> u32 {
         Ok((session, calls, found)) => {
             asked.count = found.count;
             asked.end = found.end.0;
-            let session = session_of(alloc, &setup, session, found.end.0);
+            let session = match session_of(alloc, &setup, session, found.end.0) {
+                Ok(session) => session,
+                Err(answer) => return answer,
+            };
             let Ok(session) = Box::new(alloc, session) else {
                 return MEMORY;
             };

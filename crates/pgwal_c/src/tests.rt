@@ -1,15 +1,20 @@
 //! A commit as C makes it: appended, flushed, its calls made, and told. The place and the moment
 //! are those of docs/FORMATS.md: a log's first record starts behind the long header of its first
-//! page, and its flush makes a segment, writes a page and syncs. A reader wants a page, and ends
-//! where there is none; so does a log that is opened want those that it has to know of.
+//! page, and its flush makes a segment, writes a page and syncs. A segment is ended in as many calls
+//! as its pages take. A reader wants a page, and ends where there is none; so does a log that is
+//! opened want those that it has to know of.
 
-use crate::answers::{BEHIND, DONE, END_OF_LOG, MISUSE, NONE, WANTED};
+use crate::answers::{BEHIND, BLOCK, DONE, END_OF_LOG, IDLE, MISUSE, NONE, QUEUE, WANTED};
+use crate::blocks::BlockCall;
 use crate::disk_handle::{
     ACKNOWLEDGE, CREATE, DiskCall, DiskHandle, HAND_IN_FIRST, OPEN, SYNC, TAKE, WRITE, call_disk,
 };
 use crate::opening::{LogSetup, begin_log};
 use crate::reader_handle::{BEGIN, HAND_IN, NEXT, ReaderCall, ReaderHandle, call_reader};
-use crate::session_handle::{APPEND, END, FLUSH, SessionCall, call_session};
+use crate::session_handle::{
+    ADD_BLOCK, APPEND, END, FLUSH, RAISE, SWITCH, SessionCall, SessionHandle, WRITE_BEHIND,
+    call_session,
+};
 use std::ptr::null_mut;
 use std::test::Fail;
 
@@ -39,6 +44,38 @@ fn disk_call() -> DiskCall {
     }
 }
 
+const NO_BLOCK: BlockCall = BlockCall {
+    id: 0,
+    fork: 0,
+    will_init: 0,
+    has_image: 0,
+    apply: 0,
+    hole_offset: 0,
+    hole_len: 0,
+    spc: 0,
+    db: 0,
+    rel: 0,
+    blk: 0,
+    len: 0,
+    image_len: 0,
+};
+
+fn session_call(asked: u32) -> SessionCall {
+    SessionCall {
+        asked,
+        xid: 0,
+        rmid: 128,
+        info: 0,
+        block: NO_BLOCK,
+        upto: 0,
+        moment: 0,
+        start: 0,
+        end: 0,
+        detail: 0,
+        session: null_mut(),
+    }
+}
+
 // What was answered to the next call, and which call it was.
 fn made(disk: &mut DiskHandle, call: &mut DiskCall) -> (u32, u32, u64) {
     call.asked = TAKE;
@@ -52,18 +89,7 @@ fn a_commit_is_told_once_its_calls_are_made(rt: HostRuntime) -> Result<(), Fail>
     let Ok((mut session, mut disk)) = begin_log(rt.alloc(), &LOG) else {
         panic!(rt; "a log");
     };
-    let mut call = SessionCall {
-        asked: APPEND,
-        xid: 0,
-        rmid: 128,
-        info: 0,
-        upto: 0,
-        moment: 0,
-        start: 0,
-        end: 0,
-        detail: 0,
-        session: null_mut(),
-    };
+    let mut call = session_call(APPEND);
     assert_eq!(rt; call_session(&mut session, b"a1", &mut call), DONE);
     assert_eq!(rt; (call.start, call.end), (0x10_0028, 0x10_0048));
     call.asked = FLUSH;
@@ -111,6 +137,95 @@ fn a_log_is_opened_by_what_is_handed_in(rt: HostRuntime) -> Result<(), Fail> {
     Ok(())
 }
 
+// A block is of the record that is appended next, and let go with it. A header of 20 bytes and one
+// byte of data are in front of a record that has no block.
+#[test]
+fn a_block_is_of_the_next_record(rt: HostRuntime) -> Result<(), Fail> {
+    let Ok((mut session, _disk)) = begin_log(rt.alloc(), &LOG) else {
+        panic!(rt; "a log");
+    };
+    let mut call = session_call(ADD_BLOCK);
+    call.block.id = 33;
+    let added = call_session(&mut session, b"b", &mut call);
+    call.asked = APPEND;
+    let refused = call_session(&mut session, b"a1", &mut call);
+    let without = call_session(&mut session, b"a1", &mut call);
+    assert_eq!(rt;
+        (added, refused, without, call.end),
+        (DONE, BLOCK, DONE, 0x10_0048)
+    );
+    call.asked = ADD_BLOCK;
+    call.block.id = 32;
+    let added = call_session(&mut session, b"b", &mut call);
+    call.asked = APPEND;
+    let appended = call_session(&mut session, b"a1", &mut call);
+    assert_eq!(rt; (added, appended, call.end), (DONE, DONE, 0x10_0080));
+    Ok(())
+}
+
+#[test]
+fn a_commit_ahead_is_flushed_behind(rt: HostRuntime) -> Result<(), Fail> {
+    let Ok((mut session, _disk)) = begin_log(rt.alloc(), &LOG) else {
+        panic!(rt; "a log");
+    };
+    let mut call = session_call(WRITE_BEHIND);
+    assert_eq!(rt; call_session(&mut session, b"", &mut call), IDLE);
+    call.asked = APPEND;
+    assert_eq!(rt; call_session(&mut session, b"a1", &mut call), DONE);
+    call.asked = RAISE;
+    assert_eq!(rt; call_session(&mut session, b"", &mut call), DONE);
+    call.asked = WRITE_BEHIND;
+    assert_eq!(rt; call_session(&mut session, b"", &mut call), BEHIND);
+    assert_eq!(rt; (call.upto, call.moment), (0x10_0048, 3));
+    Ok(())
+}
+
+// Ends the segment, and makes all calls that are queued each time that it stops; what was answered
+// at last.
+fn switched(
+    session: &mut SessionHandle,
+    disk: &mut DiskHandle,
+    call: &mut SessionCall,
+    page: &mut DiskCall,
+) -> u32 {
+    call.asked = SWITCH;
+    let mut answer = call_session(session, b"", call);
+    for _ in 0..10_000 {
+        if answer == QUEUE && made(disk, page).0 != DONE {
+            answer = call_session(session, b"", call);
+        }
+    }
+    answer
+}
+
+// The switch takes up the rest of its segment, which is longer than the ring. Where the log stands
+// at a segment's start there is nothing to do.
+#[test]
+fn a_segment_is_ended_page_by_page(rt: HostRuntime) -> Result<(), Fail> {
+    let Ok((mut session, mut disk)) = begin_log(rt.alloc(), &LOG) else {
+        panic!(rt; "a log");
+    };
+    let (mut call, mut page) = (session_call(SWITCH), disk_call());
+    assert_eq!(rt;
+        switched(&mut session, &mut disk, &mut call, &mut page),
+        DONE
+    );
+    assert_eq!(rt; (call.start, call.end), (0x10_0000, 0x10_0000));
+    call.asked = APPEND;
+    assert_eq!(rt; call_session(&mut session, b"a1", &mut call), DONE);
+    assert_eq!(rt;
+        switched(&mut session, &mut disk, &mut call, &mut page),
+        DONE
+    );
+    assert_eq!(rt; (call.start, call.end), (0x10_0048, 0x20_0000));
+    assert_eq!(rt;
+        switched(&mut session, &mut disk, &mut call, &mut page),
+        DONE
+    );
+    assert_eq!(rt; (call.start, call.end), (0x20_0000, 0x20_0000));
+    Ok(())
+}
+
 #[test]
 fn a_log_without_pages_ends_at_once(rt: HostRuntime) -> Result<(), Fail> {
     let mut reader = ReaderHandle {
@@ -127,6 +242,8 @@ fn a_log_without_pages_ends_at_once(rt: HostRuntime) -> Result<(), Fail> {
         total: 0,
         damage: 0,
         blocks: 0,
+        index: 0,
+        block: NO_BLOCK,
         seg_size: 1 << 20,
         start: 0x10_0000,
         end: 0,

@@ -30,8 +30,8 @@ use Rattle.wal_log.specs.Whole.{CopiesWhole}
 abbrev pub view_of_flight : Inflight → View
 view_of_flight flight = view_of_pass flight.pass
 
--- its pass is one of the log, and copies an entry under its locks, of which these words are left; it
--- starts and ends at these addresses
+-- its pass is one of the log, and copies an entry under its locks, of which these words are left;
+-- it starts and ends at these addresses
 pub record IsInFlightOf {D : Type 0} (wal : Wal D) (flight : Inflight) : Type 0 where
   pub of_log : IsPassOn (table_of wal) flight.pass
   pub are : AreLocks (locks_of flight.held)

@@ -2,13 +2,15 @@
 use Rattle.std.proofs.Common.{ℕ, w32, [], ◌∷◌, ◌++◌, refl, MutBor}
 use Rattle.std.proofs.raw_atomic.Walks.{proved}
 use base.Fraction.{full_share}
-use base.Logic.{id⊢}
+use base.Logic.{id⊢, sep}
+use types.Logic.{sem}
 use base.Fml.{Lft, GName, ftrue, flft, flent}
 use mir.Syntax.{named}
 use mir.Val.{vptr}
 use prog.Wp.{WpFn}
+use contract.Monad.{fact}
 use contract.Running.{tables}
-use types.Kit.{‵, raw, ◌⊛◌, some, later, prop, at_ret, ◌$◌, ◌∵◌, !, qed, done, move, keep, drop, use1, use3, split, join, fsplit, fjoin, pick, fpack, await, regoal, suffices, group}
+use types.Kit.{‵, raw, ◌⊛◌, some, later, prop, at_ret, ◌$◌, ◌∵◌, !, qed, done, move, keep, drop, use1, use3, split, join, fsplit, fjoin, pick, await, regoal, suffices, frame, group, show}
 use types.Run.{enter, of_opd, addr, stop, no_more, and_then, first, blocks, exec, returns}
 use types.ByLocal.{alloc_all, pass_all, free_all, look_at, get, through, sets, sets_last, lands_as, env}
 use types.Tokens.{lft_new, lft_end}
@@ -24,12 +26,13 @@ use denote.RawPtr.{Ptr, RawPtr, block_ptr, lies_at, in_a_block, rawptr_vals, raw
 use denote.Ref.{MutRef, mut_vals, mut_Tells}
 use denote.Slice.{ShrSlice, shr_slice_vals, shr_slice_Tells}
 use denote.Signature.{plain, shr_slice_of}
-use denote.Steps.{nothing, peeks}
+use denote.Steps.{nothing, peeks, heard}
 use denote.Triple.Call.{calls_at}
 use denote.Triple.Clauses.{Lasts, lasts}
 use denote.Triple.Spec.{triple_of}
 use denote.Triple.Table.{framed}
-use denote.Triple.Walked.{Stays, walk_of, stay_dropped, gave_ref, Goes-dropped, Goes-gave_ref, ends_at}
+use denote.Triple.Walked.{Stays, walk_of, stay_dropped, gave_ref, Goes-dropped, Goes-gave_ref, ends_at, says}
+use Rattle.pgwal_c.specs.Told.{SeenSession, TellsSessionCall}
 use Rattle.pgwal_c.specs.contracts.session_handle.SessionHandle.{the_row}
 use Rattle.pgwal_c.specs.contracts.session_handle.SessionCall as told
 use Rattle.pgwal_c.specs.contracts.pgwal_session_call as f
@@ -64,20 +67,20 @@ pgwal_session_call_spec 𝓤 𝓛 𝓜 𝓡 wired =
     exec ! 𝓣.C 𝓣.Λ (env code.Mir.locals l) code.Mir.t-2 (at_ret _ (W.post (y (block_ptr b o)))) $
     sets ! (of_opd ! (get ! refl)) refl (tt, tt) $ sets ! (of_opd ! (get ! refl)) refl (tt, (tt, (record { fits = fits }, tt))) $ sets ! (addr ! (through ! refl (stop !))) refl (tt, tt) $
     let G = triple_of 𝓛 g.signature (g.spec 𝓛 𝓜.mem 𝓡.returns) in
-    let r : MutBor ℕ = record { ref_ptr = (b, o); ghost_name = γ; now = v } in
+    let r : MutBor SeenSession = record { ref_ptr = (b, o); ghost_name = γ; now = v } in
     let z : G.Ghost = (((κ, κs), (full_share, qs), tt, (r, (s, (t, tt))), (mut_vals r, (shr_slice_vals s, (mut_vals t, tt)))), tt) in
     move ! (0 ∷ 3 ∷ []) $ fjoin ! $ move ! (2 ∷ 3 ∷ []) $ join ! $ join ! $ nothing ! $ move ! (1 ∷ 0 ∷ []) $ join ! $ use1 𝓛 (raw (G.pre z)) (id⊢ 𝓤 (G.pre z)) $
     calls_at ! (framed 𝓤 𝓛.H 𝓜 (tables 𝓤 𝓛.H 𝓜 𝓡 𝓡.env)) G (met 𝓤 𝓛 𝓜 𝓡 (code.calls-pgwal_c::session_handle::call_session 𝓡.env wired)) z
     (and_then ! (get ! refl) (and_then ! (get ! refl) (and_then ! (get ! refl) (no_more !)))) (λ u.
     use1 𝓛 (later (some (λ (m : ℕ). ((‵ (flft κ full_share) ⊛ toks) ⊛ ‵ (u32.own_val m (u ∷ []))) ⊛
-    some (λ (ws : Lasts g.ended z.0.0 z.0.3). ‵ (lasts g.ended z.0.0 z.0.3 ws) ⊛ ‵ ftrue)))) (id⊢ 𝓤 _) $
+    some (λ (ws : Lasts g.ended z.0.0 z.0.3). ‵ (lasts g.ended z.0.0 z.0.3 ws) ⊛ raw (fact 𝓤 (TellsSessionCall s.now v ws.0 t.now ws.1.1.0 m)))))) (id⊢ 𝓤 _) $
     await ! tt $ pick ! (λ m. split ! $ split ! $ split ! $ lft_end ! tt $
     -- [the token is dead; the others; the result; the rest; the lender's part; the locals]
     move ! (3 ∷ []) $ pick ! (λ ws. split ! $ fsplit ! $ fsplit ! $
-    -- [the last value; its borrow; the others' last values; nothing; dead; tokens; the result; the lender's part]
+    -- [the last value; its borrow; the others' last values; what is told; dead; tokens; the result; the lender's part]
     move ! (4 ∷ 7 ∷ 0 ∷ []) $ use3 𝓛 (later (‵ (lies_at the_row full_share (block_ptr b o) ws.0))) (ref_back 𝓛 the_row κ γ ws.0 b o) $ await ! tt $
-    fpack ! ℕ (λ x. lies_at the_row full_share (block_ptr b o) x) ws.0 $
-    move ! (5 ∷ []) $ peeks ! u32 (Is u32) (shows 𝓛 u32) m (u ∷ []) (λ is. lands_as ! refl refl ((uint_Lawful 𝓛 w32).typed m _ is).0 $
-    returns ! (look_at ! 0 refl) $ free_all ! refl $ keep ! (0 ∷ 1 ∷ 3 ∷ 5 ∷ []) $
+    move ! (3 ∷ []) $ heard ! (TellsSessionCall s.now v ws.0 t.now ws.1.1.0 m) (λ tells. move ! (4 ∷ []) $ peeks ! u32 (Is u32) (shows 𝓛 u32) m (u ∷ []) (λ is. lands_as ! refl refl ((uint_Lawful 𝓛 w32).typed m _ is).0 $
+    returns ! (look_at ! 0 refl) $ free_all ! refl $ keep ! (0 ∷ 1 ∷ 3 ∷ 4 ∷ []) $
     suffices ! _ (ends_at 𝓛 f.ended stayed c (y (block_ptr b o)) u m (tt, (tt, (ws.1.1.0, tt))) (tt, (tt, (tt, tt)))) $
-    nothing ! $ move ! (0 ∷ 3 ∷ []) $ join ! $ move ! (3 ∷ 0 ∷ 1 ∷ 2 ∷ []) $ group ! 3 $ done !)))))))))
+    nothing ! $ move ! (0 ∷ 3 ∷ []) $ join ! $ move ! (3 ∷ 0 ∷ 1 ∷ 2 ∷ []) $ group ! 3 $ frame ! $
+    show ! (λ x. sep 𝓤 (sem 𝓛 (lies_at the_row full_share (block_ptr b o) x)) (fact 𝓤 (TellsSessionCall s.now v x t.now ws.1.1.0 m))) ws.0 $ says ! tells $ done !))))))))))

@@ -1,0 +1,5 @@
+use Rattle.embedded_log.proofs.TwoLives.{two_lives_keep_told}
+use Rattle.embedded_log.proofs.laws.two_lives_keep_told.Goals as goal
+
+pub returns : goal.returns
+returns g c = two_lives_keep_told

@@ -1,0 +1,2 @@
+mod HandedIn
+mod Telling

@@ -1,0 +1,7 @@
+-- of no call at all
+use Rattle.pgwal_c.specs.Told.{ProgramSays}
+use Rattle.pgwal_c.proofs.opening.begin_log.Goals as goal
+
+pub open-requires : goal.open-requires
+unfolding ProgramSays
+open-requires c = tt

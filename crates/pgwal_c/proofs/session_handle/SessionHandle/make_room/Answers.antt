@@ -1,0 +1,10 @@
+use Rattle.std.proofs.Common.{subst}
+use Rattle.pgwal_c.specs.Told.{GoesOnHeld, SeenSession}
+use Rattle.pgwal_c.proofs.Telling.{held_stays}
+use Rattle.pgwal_c.proofs.session_handle.SessionHandle.make_room.Goals as goal
+
+pub returns-then-self-saturating_add-clause-goes_on :
+    goal.returns-then-self-saturating_add-clause-goes_on
+returns-then-self-saturating_add-clause-goes_on c =
+    subst (λ (x : SeenSession). GoesOnHeld x.session x.session) c.self.view_is
+    (held_stays c.self.inside.session c.self.invariant.0)
