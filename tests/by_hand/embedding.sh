@@ -3,9 +3,9 @@
 # side, and each record stands in the log where its thread was told; so `pgwal dump` lists them, and so a program of
 # the same language reads them back; a record with blocks, which was committed ahead of the disk and flushed behind,
 # reads back as it was written. Then each program goes on with that log; and it is killed at random moments, again
-# and again over one log, of which no record that was told in any of its lives is missing. On a disk that fails all
-# threads are told so; and under valgrind four threads in C show no leak and no race (embedding.supp has what it says of
-# the library).
+# and again, up to twenty times over one log, of which no record that was told in any of its lives is missing; behind a
+# last record that is torn the log goes on. On a disk that fails all threads are told so; and under valgrind four
+# threads in C show no leak and no race (embedding.supp has what it says of the library).
 #
 #     tests/by_hand/embedding.sh                              100,000 records a thread, 20 kills of each program
 #     tests/by_hand/embedding.sh RECORDS KILLS [PROGRAM]      and lists by another build
@@ -29,6 +29,21 @@ listed() {
   "$program" dump --seg 16777216 | sed -n 's/.* tx: *\([0-9]*\), lsn: *\([0-9A-F/]*\),.*/\2 \1/p' | sort
 }
 
+# torn NAME COMMAND: a byte of the last record is another one, as where a crash tore it: the log ends before it, and is gone
+# on with
+torn() {
+  local last
+  last=$((16#$("$program" dump --seg 16777216 | sed -n 's/.*lsn: *0\/\([0-9A-F]*\),.*/\1/p' | tail -1)))
+  printf X | dd "of=pg_wal/$(printf '%08X%08X%08X' 1 0 $((last >> 24)))" bs=1 "seek=$(((last & 0xFFFFFF) + 30))" \
+    conv=notrunc status=none
+  listed >before 2>err
+  "$2" pg_wal 1 places >more 2>err
+  equal "$1: the status over a last record that is torn" $? 0
+  sort before more >sorted
+  listed | cmp -s - sorted
+  equal "$1: the log goes on behind those before it" $? 0
+}
+
 # commits NAME COMMAND READ: what all threads were told is what the log lists, and what is read back
 commits() {
   rm -rf pg_wal
@@ -45,6 +60,7 @@ commits() {
   sort told more >sorted
   listed | cmp -s - sorted
   equal "$1: it is gone on with" $? 0
+  torn "$1" "$2"
   equal "$1: a folder that is locked" "$(flock pg_wal "$2" pg_wal 1 2>&1 | grep -ciE 'another program|WouldBlock')" 1
   touch pg_wal/000000010000000000000050
   equal "$1: a later segment" "$("$2" pg_wal 1 2>&1 | grep -ciE 'segments that are not|Others')" 1
@@ -57,12 +73,13 @@ commits() {
 # was told in any of its lives is listed, and read back
 killed() {
   local number
-  rm -rf pg_wal
-  : >lives
   for ((number = 0; number < kills; number++)); do
+    # Twenty lives a log.
+    ((number % 20)) || { rm -rf pg_wal && : >lives; }
     "$2" pg_wal 1000000 places >told 2>err &
     sleep "0.$((RANDOM % 10))$((RANDOM % 10))"
     kill -KILL $! && wait $! 2>/dev/null
+    equal "$1, kill $number: a log that was not opened" "$(grep -ciE 'DOWN|DAMAGED|BEYOND|OTHERS|Error' err)" 0
     # A line that was cut is not told.
     sed '$d' told >>lives
     sort lives >sorted

@@ -1,6 +1,6 @@
 -- All lives of a log on the disk of a host: such as wal_log_laws has them (History), of hosted
 -- disks. Between two lives the host hands its disk in anew, whether its machine crashed, its
--- process was killed, or it closed its log: as the disk stands then, with all that waits for a sync.
+-- process was killed, or it closed its log: as the disk stands then, with what waits for a sync.
 use Rattle.std.specs.Prelude.{ℕ, ◌^◌, ◌<◌, List, [], ◌++◌, length, Some}
 use Rattle.byte_position.specs.Geometry.{IsSegmentSize}
 use Rattle.segment_disk.specs.DiskImage.{DiskImage, MayLeave}

@@ -1,6 +1,7 @@
 // The segment is ended. A switch's place is reserved by one try, under all insertion locks, and it
 // is copied as a record that is appended, zeros up to its segment's end. So it goes on as that
-// does, and stops as often as the ring's pages have to be written: until it is whole nobody appends.
+// does, and stops as often as the ring's pages have to be written: until it is whole nobody else
+// appends.
 ghost use Rattle.std.specs.Prelude.{◌≡◌};
 ghost use Rattle.wal_spelling.specs.Record.{switch_record};
 ghost use Rattle.wal_spelling.specs.Spelling.{assembled};

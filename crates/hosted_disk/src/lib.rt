@@ -4,8 +4,8 @@
 //!
 //! `disk` is what the log calls, `calls` what the host has of it, and `progress` what tells
 //! everybody else how far the host has come. What the disk held at first is read from
-//! `first_pages`; `host_disk` and `held_first` say whose pages they are, `touched` which of them are
-//! read behind a call. `laws` says what a failed call of the host's leaves.
+//! `first_pages`; `host_disk` and `held_first` say whose pages they are, `touched` which are read
+//! behind a call. `laws` says what a failed call of the host's leaves.
 #![tactic(auto)]
 
 mod calls;

@@ -90,7 +90,8 @@ abbrev pub TellsImage : Option Image → BlockCall → Type 0
 TellsImage None told = told.has_image ≡ 0
 TellsImage (Some i) told =
     (told.has_image ≡ 1) × (told.apply ≡ told_as_number i.apply)
-    × (told.hole_offset ≡ i.hole_offset) × (told.hole_len ≡ i.hole_len) × (told.image_len ≡ length i.bytes)
+    × (told.hole_offset ≡ i.hole_offset) × (told.hole_len ≡ i.hole_len)
+    × (told.image_len ≡ length i.bytes)
 
 -- this is told of a block: its reference, and how much it has
 pub record TellsBlock (b : Block) (told : BlockCall) : Type 0 where

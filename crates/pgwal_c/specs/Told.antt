@@ -24,7 +24,8 @@ use Rattle.pgwal_c.specs.declared.session_handle.SessionCall.{SessionCall}
 use Rattle.pgwal_c.specs.declared.session_handle.TheConstants.{ADD_BLOCK, ADD_IMAGE, APPEND, END, FLUSH, RAISE, SPLIT, SWITCH, WRITE_BEHIND}
 
 -- the program has said that it made so many of the disk's calls, and that each answered Ok. No
--- clause can say it: its word is taken where it acknowledges them, and of no call where a log begins
+-- clause can say it: its word is taken where it acknowledges them, and, of no call, where a log
+-- begins
 unfoldable pub ProgramSays : ℕ → Type 0
 ProgramSays count = Unit {0}
 

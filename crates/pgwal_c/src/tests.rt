@@ -1,8 +1,8 @@
 //! A commit as C makes it: appended, flushed, its calls made, and told. The place and the moment
 //! are those of docs/FORMATS.md: a log's first record starts behind the long header of its first
-//! page, and its flush makes a segment, writes a page and syncs. A segment is ended in as many calls
-//! as its pages take. A reader wants a page, and ends where there is none; so does a log that is
-//! opened want those that it has to know of.
+//! page, and its flush makes a segment, writes a page and syncs. A segment is ended in as many
+//! calls as its pages take. A reader wants a page, and ends where there is none; so does a log that
+//! is opened want those that it has to know of.
 
 use crate::answers::{BEHIND, BLOCK, DONE, END_OF_LOG, IDLE, MISUSE, NONE, QUEUE, WANTED};
 use crate::blocks::BlockCall;
