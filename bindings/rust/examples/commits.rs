@@ -13,8 +13,7 @@ fn work(log: &Log, number: u32, records: u32, places: bool) -> Result<Option<Sea
     for i in 0..records {
         let data = format!("thread {number} record {i}");
         // Resource manager 128 is the first one that is free for extensions.
-        let record = Record { xid: number + 1, rmid: 128, data: data.as_bytes(), ..Record::default() };
-        let sealed = session.commit(record)?;
+        let sealed = session.commit(Record { xid: number + 1, rmid: 128, data: data.as_bytes(), ..Record::default() })?;
         if places {
             println!("{:X}/{:08X} {}", sealed.start >> 32, sealed.start as u32, number + 1);
         }
@@ -32,13 +31,10 @@ fn main() -> Result<(), Error> {
     let log = Log::open(folder, setup)?;
     eprintln!("{:x?}", log.found());
     thread::scope(|scope| {
-        let (log, mut threads) = (&log, Vec::new());
-        for number in 0..THREADS {
-            threads.push(scope.spawn(move || work(log, number, records, places)));
-        }
-        for thread in threads {
-            let last = thread.join().expect("a thread that ended")?;
-            eprintln!("{last:x?}");
+        let log = &log;
+        let begun = |number| scope.spawn(move || work(log, number, records, places));
+        for thread in (0..THREADS).map(begun).collect::<Vec<_>>() {
+            eprintln!("{:x?}", thread.join().expect("a thread that ended")?);
         }
         eprintln!("{:x?}", log.flush()?);
         Ok(())
