@@ -100,10 +100,6 @@ typedef struct {
   uint32_t ring_pages, cap_segments, sessions, calls;
 } pgwal_setup;
 
-typedef struct {
-  uint8_t *session, *disk;
-} pgwal_opened;
-
 enum {
   PGWAL_ASK_SPLIT, PGWAL_ASK_APPEND, PGWAL_ASK_FLUSH, PGWAL_ASK_END, PGWAL_ASK_ADD_BLOCK, PGWAL_ASK_ADD_IMAGE,
   PGWAL_ASK_RAISE, PGWAL_ASK_WRITE_BEHIND, PGWAL_ASK_SWITCH
@@ -169,7 +165,6 @@ typedef struct {
 
 uint32_t pgwal_make_reader(pgwal_made *made);
 uint32_t pgwal_reader_call(uint8_t *reader, pgwal_reader_asked *asked);
-uint32_t pgwal_begin(const pgwal_setup *setup, pgwal_opened *opened);
 uint32_t pgwal_make_disk(pgwal_disk_made *made);
 uint32_t pgwal_session_call(uint8_t *session, const uint8_t *data, size_t len, pgwal_asked *asked);
 uint32_t pgwal_disk_call(uint8_t *disk, pgwal_disk_asked *asked);

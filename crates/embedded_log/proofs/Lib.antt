@@ -7,5 +7,4 @@ mod Soles
 mod Reopenings
 mod Crossing
 mod Living
-mod HostLives
 mod TwoLives

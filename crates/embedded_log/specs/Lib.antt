@@ -6,4 +6,3 @@ pub mod Opened
 pub mod Reopened
 pub mod Surviving
 pub mod Living
-pub mod HostHistory

@@ -1,5 +1,7 @@
 -- A life of a log in which sessions filled it is a life of its `Wal`, and what they were told to be
--- durable was promised there. So it stays over all lives of the log (HostHistory).
+-- durable was promised there. So it stays over all lives of the log (`WalHistory` of wal_log_laws):
+-- between two lives the host hands its disk in anew, whether its machine crashed, its process was
+-- killed, or it closed its log.
 use Rattle.std.specs.Prelude.{◌≡◌, ℕ, ◌^◌, ◌<◌, ◌≤◌, All, Contains, List, [], ◌++◌, Some}
 use Rattle.byte_position.specs.Geometry.{IsSegmentSize}
 use Rattle.segment_disk.specs.Tape.{Tape, empty_state, state_now}
@@ -20,7 +22,7 @@ use Rattle.wal_log.specs.Logs.{opening_of_log}
 use Rattle.reopened_log_laws.specs.FoundFirst.{AreFoundEntries}
 use Rattle.reopened_log_laws.specs.Lives.{LifeEndsAt}
 use Rattle.wal_log_laws.specs.History.{BeginsWal, ContinuesWal, order_of}
-use Rattle.embedded_log.specs.HostHistory.{ReadsWithTold}
+use Rattle.wal_log_laws.specs.Lives.{KeepsPromised}
 use Rattle.embedded_log.specs.Opened.{ClosesSession, OpensSession}
 use Rattle.embedded_log.specs.Reopened.{ReopensSession}
 use Rattle.embedded_log.specs.Sessions.{setup_of_session, wal_of_session}
@@ -105,6 +107,7 @@ TwoLivesKeepTold H = (setup : Setup) (first second : LogSession H) (found : Foun
     → AreFoundEntries setup.seg_size (read_tape (state_now between)) front
     → (life : IsLivedBySessions setup.seg_size second front next both)
     → (more : List (ToldInLife setup.seg_size second front next both life))
-    → (hard : List FoundRecord) × ReadsWithTold setup.seg_size next both hard
+    → (hard : List FoundRecord)
+    × KeepsPromised hosted_tape hosted_moment hosted_faults setup.seg_size setup.sysid next both hard
     × All (λ t. HaveAppended hard t.body t.receipt) told
     × All (λ t. HaveAppended hard t.body t.receipt) more

@@ -6,23 +6,35 @@ use Rattle.hosted_disk.specs.Hosted.{HasBothEnds, HasNoCalls, hosted_faults, hos
 use Rattle.hosted_disk.specs.declared.calls.HostCalls.{HostCalls}
 use Rattle.hosted_disk.specs.declared.disk.HostedDisk.{HostedDisk}
 use Rattle.machine_state.specs.Moves.{after_join, after_split, split_off}
+use Rattle.machine_state.specs.Sound.{IsSetup}
 use Rattle.machine_state.specs.declared.setup.Setup.{Setup}
 use Rattle.wal_rule.specs.Passes.{view_of_pass}
 use Rattle.wal_rule.specs.declared.pass.Pass.{Pass}
 use Rattle.wal_log.specs.Closing.{ClosesLog}
 use Rattle.wal_log.specs.Opening.{IsOpened}
 use Rattle.wal_log.specs.declared.closing.Closed.{Closed}
+use Rattle.wal_log.specs.declared.opening.OpenFaultKind.{OpenFaultKind}
+use Rattle.wal_log.specs.declared.opening.OpenFaultKind.TheVariants as kinds
 use Rattle.wal_log.specs.declared.wal.Wal.{Wal}
 use Rattle.embedded_log.specs.declared.opening.OpenRefusal.{OpenRefusal}
 use Rattle.embedded_log.specs.declared.opening.OpenRefusal.TheVariants.{Memory, Passes, Refused}
 use Rattle.embedded_log.specs.declared.session.LogSession.{LogSession}
 use Rattle.embedded_log.specs.Sessions.{IsOpenSession, view_of_helper, view_of_session, wal_of_session}
 
--- fewer than two passes are told by their name
-abbrev pub SaysPasses : Setup → OpenRefusal → Type 0
-SaysPasses setup Passes = setup.passes < 2
-SaysPasses setup Memory = Unit {0}
-SaysPasses setup (Refused kind) = Unit {0}
+-- why a log was not opened: fewer than two passes are told by their name. Of a read of the disk
+-- that fails no clause says more, and no segment is found on a disk that holds none
+abbrev pub SaysNotOpened : Setup → OpenFaultKind → Type 0
+SaysNotOpened setup kinds.BadSetup = IsSetup setup → ⊥
+SaysNotOpened setup kinds.Memory = IsSetup setup
+SaysNotOpened setup (kinds.Disk faults) = IsSetup setup
+SaysNotOpened setup kinds.NotEmpty = ⊥
+SaysNotOpened setup (kinds.Beyond segment) = ⊥
+SaysNotOpened setup (kinds.Foreign stop) = ⊥
+
+abbrev pub SaysOpenRefusal : Setup → OpenRefusal → Type 0
+SaysOpenRefusal setup Passes = setup.passes < 2
+SaysOpenRefusal setup Memory = Unit {0}
+SaysOpenRefusal setup (Refused kind) = SaysNotOpened setup kind
 
 module _ {H : Type 0} where
   -- a session has a log's first pass, and a helper that was split off it

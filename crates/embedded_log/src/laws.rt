@@ -1,14 +1,15 @@
 //! What a program that links the log may count on, proved by functions that do nothing.
 
 ghost use denote.Param.Send.{IsSend, IsSync};
+ghost use Rattle.hosted_disk.specs.Hosted.{hosted_faults, hosted_moment, hosted_tape};
 ghost use Rattle.machine_state.specs.declared.setup.Setup.{Setup};
 ghost use Rattle.wal_log.specs.declared.reopening.Found.{Found};
+ghost use Rattle.wal_log_laws.specs.Lives.{PromisedRecordsStay};
 ghost use Rattle.embedded_log.specs.contracts.session.LogSession as session;
 ghost use Rattle.embedded_log.specs.Opened.{OpensSession};
 ghost use Rattle.embedded_log.specs.Reopened.{ReopensSession};
 ghost use Rattle.embedded_log.specs.Sessions.{GoesOnOpen, IsSole};
 ghost use Rattle.embedded_log.specs.Surviving.{ToldRecordsSurvive};
-ghost use Rattle.embedded_log.specs.HostHistory.{HostRecordsStay};
 ghost use Rattle.embedded_log.specs.Living.{OpenedSessionsLiveOn, ReopenedSessionsLiveOn, TwoLivesKeepTold};
 ghost use Rattle.embedded_log.specs.declared.session.LogSession.{LogSession};
 
@@ -18,6 +19,7 @@ use wal_log::numbers::calls_keep_numbers;
 use wal_log::shared_numbers::passes_share_numbers;
 use wal_log::{Pass, Wal};
 use wal_log_laws::laws::{closed_logs_are_closed_on_their_disk, sealed_records_survive};
+use wal_log_laws::promised_records_stay;
 use wal_rule::numbers::seats_keep_numbers;
 
 /// A record that a session appended, and below whose end all was promised to be durable from a
@@ -37,14 +39,18 @@ pub fn told_records_survive<H: Rule>()
 pub fn sessions_live_on<H: Rule>()
     ensures opened { OpenedSessionsLiveOn H }
     ensures reopened { ReopenedSessionsLiveOn H }
-    ensures stay { HostRecordsStay }
-{}
+    ensures stay { PromisedRecordsStay hosted_tape hosted_moment hosted_faults }
+{
+    promised_records_stay::<HostedDisk>();
+}
 
 /// A caller of the law: a log that was opened anew and gone on with has all that was told in both
 /// lives.
 pub fn two_lives_keep_told<H: Rule>()
     ensures { TwoLivesKeepTold H }
-{}
+{
+    sessions_live_on::<H>();
+}
 
 /// The first session is the only one until it splits another one off, since no call takes a number
 /// from its passes: so it may close the log.

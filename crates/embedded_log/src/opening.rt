@@ -5,7 +5,7 @@ ghost use Rattle.hosted_disk.specs.Hosted.{calls_taken, has_failed};
 ghost use Rattle.machine_state.specs.Moves.{after_split, split_off};
 ghost use Rattle.wal_rule.specs.Passes.{view_of_pass};
 ghost use Rattle.wal_log.specs.Logs.{IsPassOfLog};
-ghost use Rattle.embedded_log.specs.Opened.{OpensWithHost, SaysPasses, IsFirstOn};
+ghost use Rattle.embedded_log.specs.Opened.{OpensWithHost, SaysOpenRefusal, IsFirstOn};
 
 use crate::session::LogSession;
 use crate::shared::SharedLog;
@@ -26,7 +26,7 @@ pub enum OpenRefusal {
     /// A setup of fewer than two passes: a session has two.
     Passes,
     Memory,
-    /// As the log tells it, for a setup or for memory alone.
+    /// As `Wal::open` tells it.
     Refused(OpenFaultKind),
 }
 
@@ -41,7 +41,7 @@ pub fn open<H: Rule>(
     ensures opened { IfOk result (λ r. OpensWithHost setup r.0 r.1) }
     ensures host { IfOk result (λ r. (calls_taken r.1 ≡ []) × (r.1.acknowledged ≡ 0)
         × (has_failed r.1 ≡ false)) }
-    ensures refused { IfErr result (λ e. SaysPasses setup e) }
+    ensures refused { IfErr result (λ e. SaysOpenRefusal setup e) }
 {
     if setup.passes < 2 {
         return Err(OpenRefusal::Passes);

@@ -6,22 +6,12 @@ use Rattle.segment_disk.specs.declared.disk.CallKind.{CallKind}
 use Rattle.segment_disk.specs.declared.disk.CallKind.TheVariants.{Create, Sync, Write}
 use Rattle.handed_pages.specs.Handed.{bytes_handed}
 use Rattle.handed_pages.specs.declared.page.HandedPage.{HandedPage}
-use Rattle.hosted_disk.specs.HostSegments.{HostSegment}
 use Rattle.hosted_disk.specs.Hosted.{GoesOnTaking, calls_taken, has_failed}
-use Rattle.hosted_disk.specs.declared.calls.HostCalls.{HostCalls}
-use Rattle.machine_state.specs.declared.setup.Setup.{Setup}
-use Rattle.wal_log.specs.declared.reopening.Found.{Found}
-use Rattle.embedded_log.specs.Reopened.{ReopensWithHost}
 use Rattle.pgwal_c.specs.declared.answers.TheConstants.{DONE, MISUSE}
 use Rattle.pgwal_c.specs.declared.disk_handle.DiskCall.{DiskCall}
 use Rattle.pgwal_c.specs.declared.disk_handle.DiskHandle.{DiskHandle}
 use Rattle.pgwal_c.specs.declared.disk_handle.TheConstants.{ACKNOWLEDGE, CREATE, FAIL, HAND_IN_FIRST, LEAVE, OPEN, SYNC, TAKE, WRITE}
-use Rattle.pgwal_c.specs.declared.opening.LogSetup.{LogSetup}
-use Rattle.pgwal_c.specs.declared.said.ProgramSaid.{ProgramSaid}
-use Rattle.pgwal_c.specs.Told.{ProgramSession}
-
-abbrev pub ProgramCalls : Type 0
-ProgramCalls = HostCalls ProgramSaid
+use Rattle.pgwal_c.specs.OpenTold.{ProgramCalls, TellsOpen}
 
 -- this is told of a call of the disk: which it is, and if a page is written its number and bytes
 abbrev pub TellsKind : CallKind → DiskCall → Type 0
@@ -69,30 +59,11 @@ HoldsOfQueue P answer None new = (answer ≡ MISUSE) × (new ≡ None)
 HoldsOfQueue P answer (Some c) None = ⊥
 HoldsOfQueue P answer (Some c) (Some d) = P c d
 
--- what the program's disk held at first: which it is no clause can say, and what is told holds of
--- each
-unfoldable pub program_segments : List HostSegment
-program_segments = []
-
--- a setup as it is asked for; a session has two passes
-abbrev pub setup_of_asked : LogSetup → Setup
-setup_of_asked asked = record {
-  seg_size = asked.seg_size;
-  ring_pages = asked.ring_pages;
-  cap_segments = asked.cap_segments;
-  sysid = asked.sysid;
-  passes = min (asked.sessions * 2) (2 ^ 32 - 1);
-}
-
--- the log was opened that is on the disk, by the pages handed in, and this is its queue
-pub record OpensTold (pages : List HandedPage) (asked told : DiskCall) (calls : ProgramCalls)
-    : Type 0 where
-  pub session : ProgramSession
-  pub found : Found
-  pub reopens : ReopensWithHost (setup_of_asked asked.setup) program_segments pages session calls
-      found
-  pub count : told.count ≡ found.count
-  pub end : told.end ≡ (found.end).0
+-- this holds of a call before a log was opened on the disk; behind that it is answered that the
+-- call has no meaning
+abbrev pub HoldsUnopened : Type 0 → ℕ → Option ProgramCalls → Type 0
+HoldsUnopened P answer None = P
+HoldsUnopened P answer (Some c) = answer ≡ MISUSE
 
 -- a page is held from now on
 pub record HoldsHanded (asked : DiskCall) (old new : List HandedPage) : Type 0 where
@@ -109,9 +80,9 @@ pub record TellsDiskCall (old new : DiskHandle) (asked told : DiskCall) (answer 
   pub acknowledge : asked.asked ≡ ACKNOWLEDGE
       → HoldsOfQueue (λ c d. TellsAcknowledge asked.count c d answer) answer old.calls new.calls
   pub fail : asked.asked ≡ FAIL → HoldsOfQueue (TellsFailed answer) answer old.calls new.calls
-  pub hand_in : asked.asked ≡ HAND_IN_FIRST → answer ≡ DONE
-      → HoldsHanded asked (old.pages).items (new.pages).items
-  pub opens : asked.asked ≡ OPEN → answer ≡ DONE
-      → IsSomeAnd new.calls (λ calls. OpensTold (old.pages).items asked told calls)
+  pub hand_in : asked.asked ≡ HAND_IN_FIRST → HoldsUnopened
+      (answer ≡ DONE → HoldsHanded asked (old.pages).items (new.pages).items) answer old.calls
+  pub opens : asked.asked ≡ OPEN → HoldsUnopened
+      (TellsOpen (old.pages).items asked told answer new.calls) answer old.calls
   pub leave : asked.asked ≡ LEAVE → (answer ≡ DONE) × (new.calls ≡ None)
   pub other : OPEN < asked.asked → (answer ≡ MISUSE) × (new ≡ old)

@@ -1,3 +1,4 @@
 pub mod Told
+pub mod OpenTold
 pub mod DiskTold
 pub mod ReaderTold

@@ -1,12 +1,12 @@
 // What the disk's owner calls with: it hands in what the disk has, opens the log that is there,
 // takes the calls of the disk, makes them, and says how many it has made. What a caller must not do
 // is told, and changes nothing.
-ghost use Rattle.std.specs.Prelude.{◌≡◌, ◌≢◌, IsSomeAnd};
-ghost use Rattle.pgwal_c.specs.DiskTold.{HoldsHanded, OpensTold, TellsAcknowledge, TellsDiskCall, TellsTake};
+ghost use Rattle.std.specs.Prelude.{◌≡◌, ◌≢◌, ◌⊎◌};
+ghost use Rattle.pgwal_c.specs.DiskTold.{HoldsHanded, TellsAcknowledge, TellsDiskCall, TellsTake};
+ghost use Rattle.pgwal_c.specs.OpenTold.{TellsOpen};
 
 use crate::answers::{DONE, MEMORY, MISUSE, NONE};
-use crate::opening::LogSetup;
-use crate::reopening::open_log;
+use crate::opening::{LogSetup, open_log};
 use crate::said::ProgramSaid;
 use handed_pages::{HandedPage, PageNumber};
 use hosted_disk::HostCalls;
@@ -136,8 +136,8 @@ fn hand_in(handle: &mut DiskHandle, asked: &DiskCall) -> u32
 fn call_unopened(handle: &mut DiskHandle, asked: &mut DiskCall) -> u32
     ensures hand_in { asked.old.asked ≡ HAND_IN_FIRST → result ≡ DONE
         → HoldsHanded asked.old handle.old.pages.items handle.new.pages.items }
-    ensures opens { asked.old.asked ≡ OPEN → result ≡ DONE → IsSomeAnd handle.new.calls (λ calls.
-        OpensTold handle.old.pages.items asked.old asked.new calls) }
+    ensures opens { asked.old.asked ≡ OPEN
+        → TellsOpen handle.old.pages.items asked.old asked.new result handle.new.calls }
     ensures other { asked.old.asked ≢ HAND_IN_FIRST → asked.old.asked ≢ OPEN
         → (result ≡ MISUSE) × (handle.new ≡ handle.old) }
 {
@@ -168,4 +168,26 @@ pub(crate) fn call_disk(handle: &mut DiskHandle, asked: &mut DiskCall) -> u32
         }
         _ => MISUSE,
     }
+}
+
+/// A disk that was handed out.
+#[repr(C)]
+#[derive(Drop)]
+pub struct DiskMade {
+    pub disk: *mut u8,
+}
+
+pub(crate) fn hand_out_disk(alloc: Global, made: &mut DiskMade) -> u32
+    ensures { (result ≡ DONE) ⊎ (result ≡ MEMORY) }
+{
+    let handle = DiskHandle {
+        alloc,
+        calls: None,
+        pages: Vec::new(alloc),
+    };
+    let Ok(handle) = Box::new(alloc, handle) else {
+        return MEMORY;
+    };
+    made.disk = Box::into_raw(handle) as *mut u8;
+    DONE
 }

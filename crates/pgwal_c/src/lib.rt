@@ -3,11 +3,12 @@
 //!
 //! `session_handle` is what threads call with, `disk_handle` what the disk's owner has, and
 //! `reader_handle` what a log is read with; `blocks` has what sessions and readers tell of a block.
-//! `answers` has the numbers that all calls answer, `damages` those of what stops a log, `opening`
-//! begins a log, and `reopening` goes on with one.
+//! `answers` has the numbers that all calls answer, `damages` those of what stops a log, and
+//! `opening` opens the log that is there, or begins one.
 #![tactic(auto)]
 
 ghost use types.Logic.{sem};
+ghost use Rattle.std.specs.Prelude.{◌≡◌, ◌⊎◌};
 ghost use Rattle.std.specs.Borrow.{full_share};
 ghost use Rattle.std.specs.Ptr.{lies_at};
 ghost use Rattle.pgwal_c.specs.DiskTold.{TellsDiskCall};
@@ -24,28 +25,22 @@ mod damages;
 mod disk_handle;
 mod opening;
 mod reader_handle;
-mod reopening;
 mod said;
 mod session_handle;
 #[cfg(test)]
 mod tests;
 
-use disk_handle::{DiskCall, DiskHandle, call_disk};
-use opening::{LogHandles, LogSetup, ReaderMade, hand_out, hand_out_reader};
-use reader_handle::{ReaderCall, ReaderHandle, call_reader};
-use reopening::{DiskMade, hand_out_disk};
+use answers::{DONE, MEMORY};
+use disk_handle::{DiskCall, DiskHandle, DiskMade, call_disk, hand_out_disk};
+use reader_handle::{ReaderCall, ReaderHandle, ReaderMade, call_reader, hand_out_reader};
 use session_handle::{SessionCall, SessionHandle, call_session};
 use std::alloc::Global;
 
-/// Begins a log.
-#[unsafe(no_mangle)]
-pub extern "C" fn pgwal_begin(alloc: Global, setup: &LogSetup, opened: &mut LogHandles) -> u32 {
-    hand_out(alloc, setup, opened)
-}
-
 /// Makes the owner's end of a disk, on which a log can be opened.
 #[unsafe(no_mangle)]
-pub extern "C" fn pgwal_make_disk(alloc: Global, made: &mut DiskMade) -> u32 {
+pub extern "C" fn pgwal_make_disk(alloc: Global, made: &mut DiskMade) -> u32
+    ensures { (result ≡ DONE) ⊎ (result ≡ MEMORY) }
+{
     hand_out_disk(alloc, made)
 }
 
@@ -73,7 +68,9 @@ pub unsafe extern "C" fn pgwal_disk_call(at: *mut u8, call: &mut DiskCall) -> u3
 
 /// Makes a reader, which has no log yet.
 #[unsafe(no_mangle)]
-pub extern "C" fn pgwal_make_reader(alloc: Global, made: &mut ReaderMade) -> u32 {
+pub extern "C" fn pgwal_make_reader(alloc: Global, made: &mut ReaderMade) -> u32
+    ensures { (result ≡ DONE) ⊎ (result ≡ MEMORY) }
+{
     hand_out_reader(alloc, made)
 }
 

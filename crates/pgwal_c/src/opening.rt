@@ -1,22 +1,24 @@
-// A log is begun: its first session and the disk's queue are handed out. For one that is there the
-// disk is handed out before it (reopening.rt).
+// A log is opened that is on the program's disk, or begun where none is: the disk's owner hands in
+// what the files have, and asks for it. What is wanted beside is told, and is asked for again then.
 ghost use Rattle.std.specs.Prelude.{◌≡◌, ◌≢◌, IfErr};
 ghost use Rattle.embedded_log.specs.Sessions.{IsOpenSession};
-ghost use Rattle.pgwal_c.specs.DiskTold.{setup_of_asked};
+ghost use Rattle.pgwal_c.specs.OpenTold.{TellsFault, TellsOpen, TellsStop, setup_of_asked};
 
-use crate::answers::{DONE, MEMORY, SETUP};
-use crate::disk_handle::DiskHandle;
-use crate::reader_handle::ReaderHandle;
+use crate::answers::{BEYOND, DAMAGED, DONE, DOWN, MEMORY, MISUSE, QUEUE, SETUP, WANTED};
+use crate::damages::damage_number;
+use crate::disk_handle::{DiskCall, DiskHandle};
 use crate::said::ProgramSaid;
 use crate::session_handle::SessionHandle;
 use byte_position::PAGE_SIZE;
-use embedded_log::{LogSession, OpenRefusal, open};
+use embedded_log::{LogSession, ReopenRefusal, ReopenStop, reopen};
+use hosted_disk::HostDisk;
 use std::alloc::Global;
+use std::mem;
 use wal_log::{OpenFaultKind, Setup};
 use wal_spelling::Body;
 use wal_types::BlockList;
 
-/// What a log is begun with: the bytes of a segment, the system id, pages of the ring, segments
+/// What a log is opened with: the bytes of a segment, the system id, pages of the ring, segments
 /// that it may fill, sessions, and calls that the disk's queue has room for.
 #[repr(C)]
 #[derive(Clone, Copy)]
@@ -29,22 +31,49 @@ pub struct LogSetup {
     pub calls: u32,
 }
 
-/// What of a log was handed out: its first session, and the disk's queue.
-#[repr(C)]
-#[derive(Drop)]
-pub struct LogHandles {
-    pub session: *mut u8,
-    pub disk: *mut u8,
+// Which disk the program has no clause can say; what is proved of the log holds of each.
+pub struct ProgramDisk;
+
+impl HostDisk for ProgramDisk {
+    ghost use Rattle.pgwal_c.specs.OpenTold.{program_segments};
+
+    ghost segments = { program_segments };
 }
 
-fn refusal_answer(e: OpenRefusal) -> u32 {
-    match e {
-        OpenRefusal::Passes => SETUP,
-        OpenRefusal::Memory => MEMORY,
-        OpenRefusal::Refused(kind) => match kind {
-            OpenFaultKind::Memory => MEMORY,
-            _ => SETUP,
-        },
+fn fault_answer(kind: OpenFaultKind, asked: &mut DiskCall) -> u32
+    ensures { TellsFault kind asked.new result }
+{
+    match kind {
+        OpenFaultKind::BadSetup => SETUP,
+        OpenFaultKind::Memory => MEMORY,
+        OpenFaultKind::Disk { .. } => DOWN,
+        OpenFaultKind::NotEmpty => MISUSE,
+        OpenFaultKind::Beyond { segment } => {
+            asked.segment = segment;
+            BEYOND
+        }
+        OpenFaultKind::Foreign(stopped) => {
+            let (at, damage) = damage_number(stopped);
+            asked.end = at.0;
+            asked.damage = damage;
+            DAMAGED
+        }
+    }
+}
+
+fn stop_answer(why: ReopenStop, asked: &mut DiskCall) -> u32
+    ensures { TellsStop why asked.new result }
+{
+    match why {
+        ReopenStop::Passes => SETUP,
+        ReopenStop::Memory => MEMORY,
+        ReopenStop::Wants(number) => {
+            asked.segment = number.segment;
+            asked.page = u64::from(number.page);
+            WANTED
+        }
+        ReopenStop::Room => QUEUE,
+        ReopenStop::Refused(kind) => fault_answer(kind, asked),
     }
 }
 
@@ -61,6 +90,11 @@ pub(crate) fn setup_of(setup: &LogSetup) -> Setup
     }
 }
 
+// How many calls the disk's queue is to have room for.
+fn room_of(setup: &LogSetup) -> usize {
+    setup.calls as usize
+}
+
 // The first session of a log, which ends there.
 pub(crate) fn session_of(
     alloc: Global,
@@ -69,7 +103,7 @@ pub(crate) fn session_of(
     end: u64,
 ) -> Result<SessionHandle, u32>
     requires { IsOpenSession session }
-    ensures { IfErr result (λ answer. answer ≢ DONE) }
+    ensures { IfErr result (λ answer. answer ≡ MEMORY) }
 {
     // It is never freed: a switch on its way in a handle is lent it.
     let Ok(switch) = Box::new(alloc, Body::switch(alloc)) else {
@@ -90,56 +124,32 @@ pub(crate) fn session_of(
     })
 }
 
-// The first session of a log that is begun, at the start of segment 1, and the disk's queue.
-pub(crate) fn begin_log(
-    alloc: Global,
-    setup: &LogSetup,
-) -> Result<(SessionHandle, DiskHandle), u32> {
-    match open::<ProgramSaid>(alloc, setup_of(setup), setup.calls as usize) {
-        Ok((session, calls)) => {
-            let disk = DiskHandle {
-                alloc,
-                calls: Some(calls),
-                pages: Vec::new(alloc),
+// Opens the log by the pages that were handed in, and hands out its first session.
+pub(crate) fn open_log(handle: &mut DiskHandle, asked: &mut DiskCall) -> u32
+    ensures { TellsOpen handle.old.pages.items asked.old asked.new result handle.new.calls }
+{
+    let alloc = handle.alloc;
+    let setup = asked.setup;
+    let room = room_of(&setup);
+    let pages = mem::replace(&mut handle.pages, Vec::new(alloc));
+    match reopen::<ProgramSaid, ProgramDisk>(alloc, setup_of(&setup), room, pages) {
+        Ok((session, calls, found)) => {
+            asked.count = found.count;
+            asked.end = found.end.0;
+            let session = match session_of(alloc, &setup, session, found.end.0) {
+                Ok(session) => session,
+                Err(answer) => return answer,
             };
-            Ok((session_of(alloc, setup, session, setup.seg_size)?, disk))
+            let Ok(session) = Box::new(alloc, session) else {
+                return MEMORY;
+            };
+            asked.session = Box::into_raw(session) as *mut u8;
+            handle.calls = Some(calls);
+            DONE
         }
-        Err(e) => Err(refusal_answer(e)),
+        Err(ReopenRefusal { why, pages }) => {
+            handle.pages = pages;
+            stop_answer(why, asked)
+        }
     }
-}
-
-pub(crate) fn hand_out(alloc: Global, setup: &LogSetup, opened: &mut LogHandles) -> u32 {
-    let (session, disk) = match begin_log(alloc, setup) {
-        Ok(parts) => parts,
-        Err(answer) => return answer,
-    };
-    let Ok(session) = Box::new(alloc, session) else {
-        return MEMORY;
-    };
-    let Ok(disk) = Box::new(alloc, disk) else {
-        return MEMORY;
-    };
-    opened.session = Box::into_raw(session) as *mut u8;
-    opened.disk = Box::into_raw(disk) as *mut u8;
-    DONE
-}
-
-/// A reader that was handed out.
-#[repr(C)]
-#[derive(Drop)]
-pub struct ReaderMade {
-    pub reader: *mut u8,
-}
-
-pub(crate) fn hand_out_reader(alloc: Global, made: &mut ReaderMade) -> u32 {
-    let handle = ReaderHandle {
-        alloc,
-        reader: None,
-        found: None,
-    };
-    let Ok(handle) = Box::new(alloc, handle) else {
-        return MEMORY;
-    };
-    made.reader = Box::into_raw(handle) as *mut u8;
-    DONE
 }

@@ -1,6 +1,6 @@
 // What a log is read with: the program hands in the pages that are wanted, and is handed out the
 // records. A record's bytes go out in pieces, since no export may hand out a pointer into them.
-ghost use Rattle.std.specs.Prelude.{◌≡◌, [], IsSomeAnd};
+ghost use Rattle.std.specs.Prelude.{◌≡◌, ◌⊎◌, [], IsSomeAnd};
 ghost use Rattle.handed_pages.specs.Reading.{HasReadLog};
 ghost use Rattle.pgwal_c.specs.ReaderTold.{HandsTold, HoldsOfBlock, HoldsOfReader, ReadsTold, TellsFound, TellsOfBlock, TellsPiece, TellsReaderCall, program_log, stop_address};
 
@@ -239,4 +239,26 @@ pub(crate) fn call_reader(handle: &mut ReaderHandle, call: &mut ReaderCall) -> u
         }
         _ => MISUSE,
     }
+}
+
+/// A reader that was handed out.
+#[repr(C)]
+#[derive(Drop)]
+pub struct ReaderMade {
+    pub reader: *mut u8,
+}
+
+pub(crate) fn hand_out_reader(alloc: Global, made: &mut ReaderMade) -> u32
+    ensures { (result ≡ DONE) ⊎ (result ≡ MEMORY) }
+{
+    let handle = ReaderHandle {
+        alloc,
+        reader: None,
+        found: None,
+    };
+    let Ok(handle) = Box::new(alloc, handle) else {
+        return MEMORY;
+    };
+    made.reader = Box::into_raw(handle) as *mut u8;
+    DONE
 }

@@ -9,12 +9,15 @@ use crate::blocks::BlockCall;
 use crate::disk_handle::{
     ACKNOWLEDGE, CREATE, DiskCall, DiskHandle, HAND_IN_FIRST, OPEN, SYNC, TAKE, WRITE, call_disk,
 };
-use crate::opening::{LogSetup, begin_log};
+use crate::opening::{LogSetup, session_of, setup_of};
 use crate::reader_handle::{BEGIN, HAND_IN, NEXT, ReaderCall, ReaderHandle, call_reader};
 use crate::session_handle::{
     ADD_BLOCK, APPEND, END, FLUSH, RAISE, SWITCH, SessionCall, SessionHandle, WRITE_BEHIND,
     call_session,
 };
+use crate::said::ProgramSaid;
+use embedded_log::open;
+use std::alloc::Global;
 use std::ptr::null_mut;
 use std::test::Fail;
 
@@ -26,6 +29,18 @@ const LOG: LogSetup = LogSetup {
     sessions: 1,
     calls: 0,
 };
+
+// A log that is begun, with what the two handles of it have.
+fn begun(alloc: Global) -> Option<(SessionHandle, DiskHandle)> {
+    let (session, calls) = open::<ProgramSaid>(alloc, setup_of(&LOG), 0).ok()?;
+    let session = session_of(alloc, &LOG, session, LOG.seg_size).ok()?;
+    let disk = DiskHandle {
+        alloc,
+        calls: Some(calls),
+        pages: Vec::new(alloc),
+    };
+    Some((session, disk))
+}
 
 fn disk_call() -> DiskCall {
     DiskCall {
@@ -60,9 +75,9 @@ const NO_BLOCK: BlockCall = BlockCall {
     image_len: 0,
 };
 
-fn session_call(asked: u32) -> SessionCall {
+fn session_call() -> SessionCall {
     SessionCall {
-        asked,
+        asked: 0,
         xid: 0,
         rmid: 128,
         info: 0,
@@ -76,34 +91,46 @@ fn session_call(asked: u32) -> SessionCall {
     }
 }
 
+// The calls without their clauses: so what a test's proof knows stays small.
+fn asked(session: &mut SessionHandle, what: u32, data: &[u8], call: &mut SessionCall) -> u32 {
+    call.asked = what;
+    call_session(session, data, call)
+}
+
+fn asked_disk(disk: &mut DiskHandle, what: u32, call: &mut DiskCall) -> u32 {
+    call.asked = what;
+    call_disk(disk, call)
+}
+
+fn asked_reader(reader: &mut ReaderHandle, what: u32, call: &mut ReaderCall) -> u32 {
+    call.asked = what;
+    call_reader(reader, call)
+}
+
 // What was answered to the next call, and which call it was.
 fn made(disk: &mut DiskHandle, call: &mut DiskCall) -> (u32, u32, u64) {
-    call.asked = TAKE;
-    let taken = call_disk(disk, call);
-    call.asked = ACKNOWLEDGE;
-    (taken | call_disk(disk, call), call.kind, call.count)
+    let taken = asked_disk(disk, TAKE, call);
+    (taken | asked_disk(disk, ACKNOWLEDGE, call), call.kind, call.count)
 }
 
 #[test]
 fn a_commit_is_told_once_its_calls_are_made(rt: HostRuntime) -> Result<(), Fail> {
-    let Ok((mut session, mut disk)) = begin_log(rt.alloc(), &LOG) else {
+    let Some((mut session, mut disk)) = begun(rt.alloc()) else {
         panic!(rt; "a log");
     };
-    let mut call = session_call(APPEND);
-    assert_eq!(rt; call_session(&mut session, b"a1", &mut call), DONE);
+    let mut call = session_call();
+    assert_eq!(rt; asked(&mut session, APPEND, b"a1", &mut call), DONE);
     assert_eq!(rt; (call.start, call.end), (0x10_0028, 0x10_0048));
-    call.asked = FLUSH;
     call.upto = call.end;
-    assert_eq!(rt; call_session(&mut session, b"", &mut call), BEHIND);
+    assert_eq!(rt; asked(&mut session, FLUSH, b"", &mut call), BEHIND);
     let mut page = disk_call();
     assert_eq!(rt; made(&mut disk, &mut page), (DONE, CREATE, 1));
     assert_eq!(rt; made(&mut disk, &mut page), (DONE, WRITE, 2));
     assert_eq!(rt; made(&mut disk, &mut page), (DONE, SYNC, 3));
-    assert_eq!(rt; call_session(&mut session, b"", &mut call), DONE);
+    assert_eq!(rt; asked(&mut session, FLUSH, b"", &mut call), DONE);
     assert_eq!(rt; (call.upto, call.moment), (0x10_0048, 3));
-    call.asked = END;
-    assert_eq!(rt; call_session(&mut session, b"", &mut call), DONE);
-    assert_eq!(rt; call_session(&mut session, b"", &mut call), DONE);
+    assert_eq!(rt; asked(&mut session, END, b"", &mut call), DONE);
+    assert_eq!(rt; asked(&mut session, END, b"", &mut call), DONE);
     Ok(())
 }
 
@@ -117,23 +144,19 @@ fn a_log_is_opened_by_what_is_handed_in(rt: HostRuntime) -> Result<(), Fail> {
         pages: Vec::new(alloc),
     };
     let mut call = disk_call();
-    assert_eq!(rt; call_disk(&mut disk, &mut call), MISUSE);
-    call.asked = OPEN;
-    assert_eq!(rt; call_disk(&mut disk, &mut call), WANTED);
+    assert_eq!(rt; asked_disk(&mut disk, TAKE, &mut call), MISUSE);
+    assert_eq!(rt; asked_disk(&mut disk, OPEN, &mut call), WANTED);
     assert_eq!(rt; (call.segment, call.page), (4, 0));
     for _ in 0..200 {
-        call.asked = HAND_IN_FIRST;
         call.there = u32::from(call.segment == 1);
-        assert_eq!(rt; call_disk(&mut disk, &mut call), DONE);
-        call.asked = OPEN;
-        if call_disk(&mut disk, &mut call) != WANTED {
+        assert_eq!(rt; asked_disk(&mut disk, HAND_IN_FIRST, &mut call), DONE);
+        if asked_disk(&mut disk, OPEN, &mut call) != WANTED {
             break;
         }
     }
     assert_eq!(rt; (call.count, call.end), (0, 0x10_0000));
     assert_eq!(rt; made(&mut disk, &mut call), (DONE, SYNC, 1));
-    call.asked = TAKE;
-    assert_eq!(rt; call_disk(&mut disk, &mut call), NONE);
+    assert_eq!(rt; asked_disk(&mut disk, TAKE, &mut call), NONE);
     Ok(())
 }
 
@@ -141,41 +164,35 @@ fn a_log_is_opened_by_what_is_handed_in(rt: HostRuntime) -> Result<(), Fail> {
 // byte of data are in front of a record that has no block.
 #[test]
 fn a_block_is_of_the_next_record(rt: HostRuntime) -> Result<(), Fail> {
-    let Ok((mut session, _disk)) = begin_log(rt.alloc(), &LOG) else {
+    let Some((mut session, _disk)) = begun(rt.alloc()) else {
         panic!(rt; "a log");
     };
-    let mut call = session_call(ADD_BLOCK);
+    let mut call = session_call();
     call.block.id = 33;
-    let added = call_session(&mut session, b"b", &mut call);
-    call.asked = APPEND;
-    let refused = call_session(&mut session, b"a1", &mut call);
-    let without = call_session(&mut session, b"a1", &mut call);
+    let added = asked(&mut session, ADD_BLOCK, b"b", &mut call);
+    let refused = asked(&mut session, APPEND, b"a1", &mut call);
+    let without = asked(&mut session, APPEND, b"a1", &mut call);
     assert_eq!(rt;
         (added, refused, without, call.end),
         (DONE, BLOCK, DONE, 0x10_0048)
     );
-    call.asked = ADD_BLOCK;
     call.block.id = 32;
-    let added = call_session(&mut session, b"b", &mut call);
-    call.asked = APPEND;
-    let appended = call_session(&mut session, b"a1", &mut call);
+    let added = asked(&mut session, ADD_BLOCK, b"b", &mut call);
+    let appended = asked(&mut session, APPEND, b"a1", &mut call);
     assert_eq!(rt; (added, appended, call.end), (DONE, DONE, 0x10_0080));
     Ok(())
 }
 
 #[test]
 fn a_commit_ahead_is_flushed_behind(rt: HostRuntime) -> Result<(), Fail> {
-    let Ok((mut session, _disk)) = begin_log(rt.alloc(), &LOG) else {
+    let Some((mut session, _disk)) = begun(rt.alloc()) else {
         panic!(rt; "a log");
     };
-    let mut call = session_call(WRITE_BEHIND);
-    assert_eq!(rt; call_session(&mut session, b"", &mut call), IDLE);
-    call.asked = APPEND;
-    assert_eq!(rt; call_session(&mut session, b"a1", &mut call), DONE);
-    call.asked = RAISE;
-    assert_eq!(rt; call_session(&mut session, b"", &mut call), DONE);
-    call.asked = WRITE_BEHIND;
-    assert_eq!(rt; call_session(&mut session, b"", &mut call), BEHIND);
+    let mut call = session_call();
+    assert_eq!(rt; asked(&mut session, WRITE_BEHIND, b"", &mut call), IDLE);
+    assert_eq!(rt; asked(&mut session, APPEND, b"a1", &mut call), DONE);
+    assert_eq!(rt; asked(&mut session, RAISE, b"", &mut call), DONE);
+    assert_eq!(rt; asked(&mut session, WRITE_BEHIND, b"", &mut call), BEHIND);
     assert_eq!(rt; (call.upto, call.moment), (0x10_0048, 3));
     Ok(())
 }
@@ -188,11 +205,10 @@ fn switched(
     call: &mut SessionCall,
     page: &mut DiskCall,
 ) -> u32 {
-    call.asked = SWITCH;
-    let mut answer = call_session(session, b"", call);
+    let mut answer = asked(session, SWITCH, b"", call);
     for _ in 0..10_000 {
         if answer == QUEUE && made(disk, page).0 != DONE {
-            answer = call_session(session, b"", call);
+            answer = asked(session, SWITCH, b"", call);
         }
     }
     answer
@@ -202,17 +218,16 @@ fn switched(
 // at a segment's start there is nothing to do.
 #[test]
 fn a_segment_is_ended_page_by_page(rt: HostRuntime) -> Result<(), Fail> {
-    let Ok((mut session, mut disk)) = begin_log(rt.alloc(), &LOG) else {
+    let Some((mut session, mut disk)) = begun(rt.alloc()) else {
         panic!(rt; "a log");
     };
-    let (mut call, mut page) = (session_call(SWITCH), disk_call());
+    let (mut call, mut page) = (session_call(), disk_call());
     assert_eq!(rt;
         switched(&mut session, &mut disk, &mut call, &mut page),
         DONE
     );
     assert_eq!(rt; (call.start, call.end), (0x10_0000, 0x10_0000));
-    call.asked = APPEND;
-    assert_eq!(rt; call_session(&mut session, b"a1", &mut call), DONE);
+    assert_eq!(rt; asked(&mut session, APPEND, b"a1", &mut call), DONE);
     assert_eq!(rt;
         switched(&mut session, &mut disk, &mut call, &mut page),
         DONE
@@ -254,14 +269,11 @@ fn a_log_without_pages_ends_at_once(rt: HostRuntime) -> Result<(), Fail> {
         offset: 0,
         bytes: [0; 8192],
     };
-    assert_eq!(rt; call_reader(&mut reader, &mut call), DONE);
-    call.asked = NEXT;
-    assert_eq!(rt; call_reader(&mut reader, &mut call), WANTED);
+    assert_eq!(rt; asked_reader(&mut reader, BEGIN, &mut call), DONE);
+    assert_eq!(rt; asked_reader(&mut reader, NEXT, &mut call), WANTED);
     assert_eq!(rt; (call.segment, call.page), (1, 0));
-    call.asked = HAND_IN;
-    assert_eq!(rt; call_reader(&mut reader, &mut call), DONE);
-    call.asked = NEXT;
-    assert_eq!(rt; call_reader(&mut reader, &mut call), END_OF_LOG);
+    assert_eq!(rt; asked_reader(&mut reader, HAND_IN, &mut call), DONE);
+    assert_eq!(rt; asked_reader(&mut reader, NEXT, &mut call), END_OF_LOG);
     assert_eq!(rt; call.end, 0x10_0000);
     Ok(())
 }

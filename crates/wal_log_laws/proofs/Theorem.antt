@@ -24,16 +24,33 @@ use Rattle.wal_log.specs.Logs.{opening_of_log}
 use Rattle.wal_log.specs.Reopening.{IsReopened, TellsReopenFault}
 use Rattle.reopened_log_laws.specs.FoundFirst.{AreFoundEntries}
 use Rattle.reopened_log_laws.specs.Lives.{IsFrontWith}
-use Rattle.reopened_log_laws.specs.WasLeft.{WasLeft}
+use Rattle.reopened_log_laws.specs.WasLeft.{WasLeft, WasLeftOf}
 use Rattle.reopened_log_laws.proofs.EmptyDisks.{empty_disks_were_left}
 use Rattle.reopened_log_laws.proofs.KeptFronts.{sure_crash, sure_reads}
 use Rattle.reopened_log_laws.proofs.KeptLives.{KeepsSure, with_left}
 use Rattle.reopened_log_laws.proofs.KeptRecords.{IsSureRecord}
 use Rattle.reopened_log_laws.proofs.OwnAnswers.{left_logs_are_not_foreign}
-use Rattle.wal_log_laws.specs.History.{WalHistory, IsHandedIn, opens, reopens, ends_reopening, fails_to_reopen, starts_empty, order_of, rests}
+use Rattle.wal_log_laws.specs.History.{WalHistory, IsHandedIn, opens, reopens, ends_reopening, fails_to_reopen, handed_anew, starts_empty, order_of, rests}
 use Rattle.wal_log_laws.specs.Lives.{KeepsPromised, PromisedRecordsStay, ThreeLivesKeepPromised}
 use Rattle.wal_log_laws.proofs.LoneOrders.{starts_rise}
 use Rattle.wal_log_laws.proofs.Lives.{at_some, begins_keeps, continues_keeps, ends_reopening_keeps, fails_to_reopen_keeps, lies_as_asked, place_as_asked, rests_keeps}
+
+-- what holds of a disk goes by how it stands, and not by which calls brought it there
+left_anew : (size sysid : ℕ) (order : List Entry) (t : Tape) (found : List FoundRecord)
+    → WasLeftOf size sysid order t found
+    → WasLeftOf size sysid order (record { at_first = state_now t; calls = [] }) found
+left_anew size sysid order t found (left, order_is) = (
+  record {
+    order = left.order;
+    count = left.count;
+    has_found = left.has_found;
+    only = left.only;
+    never_whole = left.never_whole;
+    whole = left.whole;
+    low = left.low;
+  },
+  order_is,
+)
 
 module _ {D : Type 0} (tape : D → Option Tape) (moment faults : D → ℕ)
     (counts : (disk : D) → IfSome (tape disk) (λ t. moment disk ≡ length t.calls)) where
@@ -61,6 +78,13 @@ module _ {D : Type 0} (tape : D → Option Tape) (moment faults : D → ℕ)
       (keeps history)
   keeps {size} {sysid} (rests {t} {next} {order} {hard} history ends) =
       rests_keeps tape moment faults counts size sysid t next order hard ends (keeps history)
+  keeps {size} {sysid} (handed_anew {t} {order} {hard} history) =
+      let k = keeps history in
+      record {
+        found = k.found;
+        left = left_anew size sysid order t k.found k.left;
+        kept = k.kept;
+      }
 
   -- ---- how it is gone on with
 

@@ -11,7 +11,7 @@
 -- nobody saw.)
 use Rattle.std.specs.Prelude.{◌≡◌, ℕ, ◌^◌, ◌<◌, ◌≤◌, All, Contains, List, [], ◌++◌, length, Option, Some}
 use Rattle.byte_position.specs.Geometry.{IsSegmentSize}
-use Rattle.segment_disk.specs.Tape.{Tape}
+use Rattle.segment_disk.specs.Tape.{Tape, state_now}
 use Rattle.flush_core.specs.Pages.{HoldsNothing}
 use Rattle.wal_page.specs.Order.{Entry}
 use Rattle.wal_reader.specs.declared.found.FoundRecord.{FoundRecord}
@@ -125,8 +125,9 @@ module _ {D : Type 0} (tape : D → Option Tape) (moment faults : D → ℕ) whe
     pub upto : at ≤ moment fault.disk
     pub ends : LifeEndsAt size order now at next
 
--- Such lives one behind another; in between the disk may rest, as behind a `Wal::open` that is
--- refused, or a read of the log, and its machine may crash then too
+-- Such lives one behind another. In between the disk may rest, as behind a `Wal::open` that is
+-- refused, or a read of the log, and its machine may crash then too; or who has the disk hands it in
+-- anew, as it stands then, with what waits for a sync, and without the calls that made it so
 pub data WalHistory {D : Type 0} (tape : D → Option Tape) (moment faults : D → ℕ) (size sysid : ℕ)
     : Tape → List Entry → List FoundRecord → Type 0 where
   starts_empty : {t : Tape} → IsSegmentSize size → 0 < sysid → sysid < 2 ^ 64
@@ -151,3 +152,7 @@ pub data WalHistory {D : Type 0} (tape : D → Option Tape) (moment faults : D �
       → WalHistory tape moment faults size sysid t order hard
       → LifeEndsAt size order t (length t.calls) next
       → WalHistory tape moment faults size sysid next order hard
+  handed_anew : {t : Tape} {order : List Entry} {hard : List FoundRecord}
+      → WalHistory tape moment faults size sysid t order hard
+      → WalHistory tape moment faults size sysid (record { at_first = state_now t; calls = [] })
+      order hard

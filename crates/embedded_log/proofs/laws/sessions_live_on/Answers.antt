@@ -1,4 +1,3 @@
-use Rattle.embedded_log.proofs.HostLives.{host_records_stay}
 use Rattle.embedded_log.proofs.Living.{opened_live_on, reopened_live_on}
 use Rattle.embedded_log.proofs.laws.sessions_live_on.Goals as goal
 
@@ -9,4 +8,4 @@ pub returns-clause-reopened : goal.returns-clause-reopened
 returns-clause-reopened g c = reopened_live_on
 
 pub returns-clause-stay : goal.returns-clause-stay
-returns-clause-stay g c = host_records_stay
+returns-clause-stay g c = c.promised_records_stay.ensures
