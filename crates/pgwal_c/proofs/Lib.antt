@@ -1,2 +1,3 @@
 mod HandedIn
 mod Telling
+mod Crossing

@@ -23,6 +23,7 @@ mod appending;
 mod blocks;
 mod damages;
 mod disk_handle;
+mod laws;
 mod opening;
 mod reader_handle;
 mod said;
