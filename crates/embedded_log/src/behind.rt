@@ -8,7 +8,7 @@ ghost use Rattle.wal_log.specs.PassLogs.{log_of_pass};
 ghost use Rattle.wal_log.specs.Standing.{KeepsPass};
 ghost use Rattle.wal_log_laws.specs.Growing.{GrowsTo};
 ghost use Rattle.embedded_log.specs.Sessions.{GoesOnOpen, IsOpenSession, view_of_session};
-ghost use Rattle.embedded_log.specs.Promised.{SaysHeldBack, TellsMade};
+ghost use Rattle.embedded_log.specs.Promised.{RefusesBehind, SaysHeldBack, TellsMade, refusal_of_stop};
 
 use crate::flushing::FlushRefusal;
 use crate::session::LogSession;
@@ -28,6 +28,9 @@ impl<H: Rule> LogSession<H> {
             (view_of_session self.old) (view_of_session self.new)) }
         // What is Behind the log has promised.
         ensures behind { IfErr result (λ e. SaysHeldBack e (view_of_session self.new)) }
+        // Another refusal is told as a try of the log's own is.
+        ensures refused { IfErr result (λ e. RefusesBehind (view_of_session self.old)
+            (view_of_session self.new) e) }
         ensures goes_on { GoesOnOpen self.old self.new }
     {
         match self.log.try_write_behind(&mut self.pass) {
@@ -50,6 +53,8 @@ impl<H: Rule> SharedLog<H> {
         requires { IsPassOfLog self.now.wal pass.old }
         ensures catches { IfOk result (λ caught.
             TellsCaught caught (view_of_pass pass.old) (view_of_pass pass.new)) }
+        ensures refused { IfErr result (λ stop. RefusesBehind (view_of_pass pass.old)
+            (view_of_pass pass.new) (refusal_of_stop stop)) }
         ensures grows { GrowsTo (log_of_pass (view_of_pass pass.old))
             (log_of_pass (view_of_pass pass.new)) }
         ensures keeps { KeepsPass (view_of_pass pass.old) (view_of_pass pass.new) }
@@ -71,6 +76,8 @@ impl<H: Rule> SharedLog<H> {
         requires { IsPassOfLog self.now.wal pass.old }
         ensures catches { IfOk result (λ caught.
             TellsCaught caught (view_of_pass pass.old) (view_of_pass pass.new)) }
+        ensures refused { IfErr result (λ stop. RefusesBehind (view_of_pass pass.old)
+            (view_of_pass pass.new) (refusal_of_stop stop)) }
         ensures grows { GrowsTo (log_of_pass (view_of_pass pass.old))
             (log_of_pass (view_of_pass pass.new)) }
         ensures keeps { KeepsPass (view_of_pass pass.old) (view_of_pass pass.new) }

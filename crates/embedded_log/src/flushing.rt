@@ -2,10 +2,9 @@
 // host's disk once the host has made that many calls. So it is held back until the host has
 // acknowledged them, and asked for again it is told without another flush.
 ghost use Rattle.std.specs.Prelude.{◌≡◌, ◌≤◌, IfErr, IfOk, IfSome};
-ghost use Rattle.machine_state.specs.Views.{View};
 ghost use Rattle.wal_log.specs.PassLogs.{log_of_pass};
 ghost use Rattle.embedded_log.specs.Sessions.{GoesOnOpen, IsOpenSession, view_of_session};
-ghost use Rattle.embedded_log.specs.Promised.{HasMade, IsPromisedHard, IsToldMade, SaysHeldBack};
+ghost use Rattle.embedded_log.specs.Promised.{HasMade, IsHeldBack, IsPromisedHard, IsToldMade, RefusesFlush, SaysHeldBack, TellsPromised, refusal_of_stop};
 
 use crate::session::LogSession;
 use crate::shared::{FlushBusy, FlushStop};
@@ -28,7 +27,7 @@ pub enum FlushRefusal {
 }
 
 impl From<FlushStop> for FlushRefusal {
-    ghost from_gives = { λ _ e. (v : View) → SaysHeldBack e v };
+    ghost from_gives = { λ stop e. e ≡ refusal_of_stop stop };
 
     fn from(stop: FlushStop) -> FlushRefusal {
         match stop {
@@ -49,6 +48,9 @@ impl<H: Rule> LogSession<H> {
             (view_of_session self.new)) }
         // What is Behind the log has promised.
         ensures behind { IfErr result (λ e. SaysHeldBack e (view_of_session self.new)) }
+        // Another refusal is told as a try of the log's own is.
+        ensures refused { IfErr result (λ e. RefusesFlush upto.0 (view_of_session self.old)
+            (view_of_session self.new) e) }
         ensures goes_on { GoesOnOpen self.old self.new }
     {
         match self.promise_upto(upto) {
@@ -60,9 +62,8 @@ impl<H: Rule> LogSession<H> {
     // What the log promises of an address, as it is held back or by a flush.
     fn promise_upto(&mut self, upto: Lsn) -> Result<Hard, FlushStop>
         requires { IsOpenSession self.old }
-        ensures reached { IfOk result (λ hard. upto.0 ≤ hard.upto.0) }
-        ensures promised { IfOk result (λ hard. IsPromisedHard hard
-            (log_of_pass (view_of_session self.new))) }
+        ensures told { TellsPromised upto.0 result (view_of_session self.old)
+            (view_of_session self.new) }
         ensures goes_on { GoesOnOpen self.old self.new }
     {
         if let Some(hard) = self.held_back(upto) {
@@ -101,6 +102,7 @@ impl<H: Rule> LogSession<H> {
         ensures told { IfOk result (λ told. IsToldMade H.invariant asked.0 told
             (view_of_session self.now)) }
         ensures behind { IfErr result (λ e. SaysHeldBack e (view_of_session self.now)) }
+        ensures held { IfErr result (λ e. IsHeldBack e) }
     {
         let made = self.log.host.made();
         let Hard { upto, moment } = hard;

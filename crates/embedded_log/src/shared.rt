@@ -5,7 +5,7 @@ ghost use Rattle.std.specs.Prelude.{◌≡◌, MatchResult, IfErr};
 ghost use Rattle.wal_rule.specs.Passes.{view_of_pass};
 ghost use Rattle.wal_log.specs.Logs.{IsPassOfLog};
 ghost use Rattle.wal_log.specs.Standing.{KeepsPass};
-ghost use Rattle.embedded_log.specs.Promised.{TriesToFlush};
+ghost use Rattle.embedded_log.specs.Promised.{TriesToFlush, stop_of_try};
 
 use hosted_disk::{HostProgress, HostedDisk};
 use std::sync::atomic::{AtomicBool, Ordering, Rule};
@@ -47,6 +47,8 @@ pub(crate) enum FlushStop {
 }
 
 impl From<TryFlushErr> for FlushStop {
+    ghost from_gives = { λ e stop. stop ≡ stop_of_try e };
+
     fn from(e: TryFlushErr) -> FlushStop {
         match e {
             TryFlushErr::Disk { faults } => FlushStop::Down { faults },

@@ -13,7 +13,7 @@ returns-then-upto-first-clause-tries g c =
 pub returns-then-is_err-clause-tries : goal.returns-then-is_err-clause-tries
 returns-then-is_err-clause-tries g c =
     let old = view_of_pass c.args.pass.now in let new = view_of_pass c.hard-first.new.pass in
-    stopped_tries c.args.upto.0 _ old new
+    stopped_tries c.args.upto.0 _ old new tt
     (grown_by_promise c.hard-first.result (log_of_pass old) (log_of_pass new)
     c.hard-first.ensures.told.log_is)
 
@@ -21,7 +21,7 @@ pub returns-clause-tries : goal.returns-clause-tries
 returns-clause-tries g c =
     let old = view_of_pass c.args.pass.now in let mid = view_of_pass c.hard-first.new.pass in
     tries_since c.args.upto.0 c.flush_alone-answer.result old mid
-    (view_of_pass c.flush_alone-answer.new.pass)
+    (view_of_pass c.flush_alone-answer.new.pass) c.hard-first.ensures.leaves.keeps
     (grown_by_promise c.hard-first.result (log_of_pass old) (log_of_pass mid)
     c.hard-first.ensures.told.log_is) c.flush_alone-answer.ensures.tries
 
