@@ -2,6 +2,7 @@
 use Rattle.std.specs.Prelude.{◌≡◌, ◌⊎◌, ℕ, ◌≤◌, Contains, Result, Ok, Err}
 use Rattle.wal_types.specs.declared.answers.Hard.{Hard}
 use Rattle.machine_state.specs.Views.{FlushPromise, View}
+pub use Rattle.wal_rule.specs.Downs.{KnowsDown}
 use Rattle.wal_log.specs.declared.behind.Caught.{Caught}
 use Rattle.wal_log.specs.declared.behind.Caught.TheVariants.{Flushed, Idle}
 use Rattle.wal_log.specs.declared.flushing.TryFlushErr.{TryFlushErr}
@@ -50,8 +51,8 @@ TellsRefusal tells (Behind upto moment made) = Unit {0}
 TellsRefusal tells (Unreserved end) = tells (tries.Unreserved end)
 TellsRefusal tells (Down faults) = tells (tries.Disk faults) ⊎ tells (tries.Down faults)
 
--- the log's own try came behind a load of the flushed address, if any did: between them the pass had
--- some view
+-- the log's own try came behind a load of the flushed address, if any did: between them the pass
+-- had some view
 abbrev pub RefusesTry : ℕ → View → View → TryFlushErr → Type 0
 RefusesTry asked old new e = (mid : View) × KeepsPass old mid × TellsFlushTry asked mid new e
 

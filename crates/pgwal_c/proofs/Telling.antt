@@ -11,22 +11,28 @@ use Rattle.wal_types.specs.declared.answers.Receipt.{Receipt}
 use Rattle.wal_log.specs.declared.behind.Caught.{Caught}
 use Rattle.wal_log.specs.declared.behind.Caught.TheVariants.{Flushed, Idle}
 use Rattle.wal_log.specs.declared.beginning.TryErr.{TryErr}
+use Rattle.machine_state.specs.Views.{View}
 use Rattle.wal_log.specs.declared.beginning.TryErr.TheVariants.{Full}
+use Rattle.wal_log.specs.declared.beginning.TryErr.TheVariants as tries
+use Rattle.wal_log.specs.declared.switch_tries.TrySwitchErr.{TrySwitchErr}
+use Rattle.wal_log.specs.declared.switch_tries.TrySwitchErr.TheVariants as switches
 use Rattle.wal_log.specs.Beginning.{TellsBeginTry}
+use Rattle.wal_log.specs.Downs.{MeetsDown, SetsDownItself}
+use Rattle.wal_log.specs.SwitchTries.{TellsSwitchTry}
 use Rattle.wal_log.specs.PassLogs.{log_of_pass}
 use Rattle.wal_log.specs.Switching.{FindsSegmentStart}
 use Rattle.wal_log.proofs.Keeping.{further_pass, same_pass}
 use Rattle.wal_log_laws.proofs.Grown.{grows_again, grows_itself}
 use Rattle.embedded_log.specs.declared.flushing.FlushRefusal.{FlushRefusal}
-use Rattle.embedded_log.specs.declared.flushing.FlushRefusal.TheVariants.{Behind}
+use Rattle.embedded_log.specs.declared.flushing.FlushRefusal.TheVariants.{Behind, Down, Unreserved}
 use Rattle.embedded_log.specs.declared.appending.Appending.{Appending}
 use Rattle.embedded_log.specs.Appended.{IsAppended, IsGoing}
-use Rattle.embedded_log.specs.Promised.{IsPromisedHard, IsToldMade, SaysHeldBack, TellsMade}
+use Rattle.embedded_log.specs.Promised.{IsPromisedHard, IsToldMade, KnowsDown, RefusesBehind, RefusesFlush, SaysHeldBack, TellsMade}
 use Rattle.embedded_log.specs.Sessions.{GoesOnOpen, IsOpenSession, SplitsOff, setup_of_session, view_of_helper, view_of_session}
-use Rattle.pgwal_c.specs.declared.answers.TheConstants.{BEHIND, DONE, FULL, IDLE, MEMORY, MISUSE, QUEUE}
+use Rattle.pgwal_c.specs.declared.answers.TheConstants.{BEHIND, DONE, DOWN, FULL, IDLE, MEMORY, MISUSE, QUEUE, UNRESERVED}
 use Rattle.pgwal_c.specs.declared.said.ProgramSaid.{ProgramSaid}
 use Rattle.pgwal_c.specs.declared.session_handle.SessionCall.{SessionCall}
-use Rattle.pgwal_c.specs.Told.{AppendsTold, FindsFullTold, GivenParts, GoesOnHeld, HoldsAcross, ProgramSays, ProgramSession, SeenSession, SwitchesTold, TellsAppend, TellsBehind, TellsFlush, TellsRaised, TellsSplit, TellsSwitch, hard_of_call, receipt_of_call}
+use Rattle.pgwal_c.specs.Told.{AppendsTold, FindsFullTold, FindsUnreserved, GivenParts, GoesOnHeld, HoldsAcross, KnowsFailedDisk, ProgramSays, ProgramSession, SeenSession, SwitchesTold, TellsAppend, TellsBehind, TellsFlush, TellsRaised, TellsSplit, TellsSwitch, hard_of_call, receipt_of_call}
 
 -- ---- a session goes on open
 
@@ -82,6 +88,69 @@ pub held_told : (t : ProgramSession) (e : FlushRefusal) (told : SessionCall)
 held_told t e told is says =
     subst (λ (x : FlushRefusal). SaysHeldBack x (view_of_session t)) is says
 
+-- .. that the address is unreserved was met
+pub unreserved_told : (asked : ℕ) (s t : ProgramSession) (e : FlushRefusal) (told : SessionCall)
+    → e ≡ Unreserved (record { 0 = told.end })
+    → RefusesFlush asked (view_of_session s) (view_of_session t) e
+    → FindsUnreserved asked told.end s t
+unreserved_told asked s t e told is says = subst (λ (x : FlushRefusal).
+    RefusesFlush asked (view_of_session s) (view_of_session t) x) is says
+
+-- .. and that the disk failed is known, by whatever call
+met_known : (faults : ℕ) (old new : View) → MeetsDown faults old new → KnowsDown faults new
+met_known faults old new met = (met.some, inl met.met)
+
+set_known : (faults : ℕ) (v : View) → SetsDownItself faults v → KnowsDown faults v
+set_known faults v sets = (sets.some, inr sets.set)
+
+flush_knows : (asked faults : ℕ) (old new : View) → RefusesFlush asked old new (Down faults)
+    → KnowsDown faults new
+flush_knows asked faults old new (inl fails) = set_known faults new (fails.2).down
+flush_knows asked faults old new (inr meets) = met_known faults meets.0 new meets.2
+
+behind_knows : (faults : ℕ) (old new : View) → RefusesBehind old new (Down faults)
+    → KnowsDown faults new
+behind_knows faults old new (inl fails) = set_known faults new (fails.2).down
+behind_knows faults old new (inr meets) = met_known faults old new meets
+
+pub flush_down_told : (asked : ℕ) (s t : ProgramSession) (e : FlushRefusal) (told : SessionCall)
+    → e ≡ Down told.detail → RefusesFlush asked (view_of_session s) (view_of_session t) e
+    → KnowsDown told.detail (view_of_session t)
+flush_down_told asked s t e told is says =
+    flush_knows asked told.detail (view_of_session s) (view_of_session t)
+    (subst (λ (x : FlushRefusal).
+    RefusesFlush asked (view_of_session s) (view_of_session t) x) is says)
+
+pub behind_down_told : (s t : ProgramSession) (e : FlushRefusal) (told : SessionCall)
+    → e ≡ Down told.detail → RefusesBehind (view_of_session s) (view_of_session t) e
+    → KnowsDown told.detail (view_of_session t)
+behind_down_told s t e told is says =
+    behind_knows told.detail (view_of_session s) (view_of_session t)
+    (subst (λ (x : FlushRefusal). RefusesBehind (view_of_session s) (view_of_session t) x) is says)
+
+pub append_knows : (body : Assembled) (s t : ProgramSession) (why : TryErr) (faults : ℕ)
+    → why ≡ tries.Down faults
+    → TellsBeginTry (setup_of_session s) body (view_of_session s) (view_of_session t) why
+    → KnowsFailedDisk s t
+append_knows body s t why faults is tells =
+    let met = subst (λ (e : TryErr). TellsBeginTry (setup_of_session s) body
+    (view_of_session s) (view_of_session t) e) is tells in
+    (faults, met_known faults (view_of_session s) (view_of_session t) met.0)
+
+pub switch_knows : (body : Assembled) (s t : ProgramSession) (why : TrySwitchErr) (faults : ℕ)
+    → why ≡ switches.Down faults
+    → TellsSwitchTry (setup_of_session s) body (view_of_session s) (view_of_session t) why
+    → KnowsFailedDisk s t
+switch_knows body s t why faults is tells =
+    let met = subst (λ (e : TrySwitchErr). TellsSwitchTry (setup_of_session s) body
+    (view_of_session s) (view_of_session t) e) is tells in
+    (faults, met_known faults (view_of_session s) (view_of_session t) met.0)
+
+pub known_failed : (faults : ℕ) (old new : SeenSession)
+    → HoldsAcross (λ s t. KnowsDown faults (view_of_session t)) old new
+    → HoldsAcross KnowsFailedDisk old new
+known_failed faults old new h = (h.0, h.1, h.2, h.3, (faults, h.4))
+
 pub caught_is : (s t : ProgramSession) (caught is : Caught) → caught ≡ is
     → TellsMade ProgramSays caught (view_of_session s) (view_of_session t)
     → TellsMade ProgramSays is (view_of_session s) (view_of_session t)
@@ -109,11 +178,15 @@ module _ (switching : Option (Appending ProgramSaid)) (given : GivenParts)
       → IsToldMade ProgramSays asked.upto (hard_of_call told) (view_of_session t))
       → (answer ≡ BEHIND
       → IsPromisedHard (hard_of_call told) (log_of_pass (view_of_session t)))
+      → (answer ≡ UNRESERVED → FindsUnreserved asked.upto told.end s t)
+      → (answer ≡ DOWN → KnowsDown told.detail (view_of_session t))
       → TellsFlush old (seen switching given (Some t)) asked told answer
-  flush_told t asked told answer goes_on used made promised =
+  flush_told t asked told answer goes_on used made promised unreserved down =
       of_session (λ x. TellsFlush x (seen switching given (Some t)) asked told answer) (record {
         done = λ done. (s, t, refl, refl, made done);
         behind = λ behind. (s, t, refl, refl, promised behind);
+        unreserved = λ above. (s, t, refl, refl, unreserved above);
+        down = λ is_down. (s, t, refl, refl, down is_down);
         goes_on = goes_on;
         rest = refl;
         gone = λ misuse. absurd (used misuse);
@@ -138,12 +211,14 @@ module _ (switching : Option (Appending ProgramSaid)) (given : GivenParts)
       (view_of_session s) (view_of_session t))
       → (answer ≡ BEHIND
       → IsPromisedHard (hard_of_call told) (log_of_pass (view_of_session t)))
+      → (answer ≡ DOWN → KnowsDown told.detail (view_of_session t))
       → TellsBehind old (seen switching given (Some t)) told answer
-  caught_told t told answer goes_on used flushed idle promised =
+  caught_told t told answer goes_on used flushed idle promised down =
       of_session (λ x. TellsBehind x (seen switching given (Some t)) told answer) (record {
         done = λ done. (s, t, refl, refl, flushed done);
         idle = λ is_idle. (s, t, refl, refl, idle is_idle);
         behind = λ behind. (s, t, refl, refl, promised behind);
+        down = λ is_down. (s, t, refl, refl, down is_down);
         goes_on = goes_on;
         rest = refl;
         gone = λ misuse. absurd (used misuse);
@@ -183,6 +258,7 @@ module _ (switching : Option (Appending ProgramSaid)) (given : GivenParts)
             },
           );
           full = λ full. absurd (let never : ⊥ = omega (arith, full) in never);
+          down = λ down. absurd (let never : ⊥ = omega (arith, down) in never);
           no_place = λ other. absurd (other refl);
           goes_on = λ other. goes_on;
           gone = λ misuse. absurd (let never : ⊥ = omega (arith, misuse) in never);
@@ -192,9 +268,10 @@ module _ (switching : Option (Appending ProgramSaid)) (given : GivenParts)
         → TellsBeginTry (setup_of_session s) body (view_of_session s) (view_of_session t) why
         → GoesOnOpen s t → (answer ≢ DONE) × (answer ≢ MISUSE)
         → (answer ≡ FULL → why ≡ Full told.detail)
+        → (answer ≡ DOWN → why ≡ tries.Down told.detail)
         → told.start ≡ asked.start
         → TellsAppend body old (seen switching given (Some t)) asked told answer
-    refusal_told t asked told answer why tells goes_on other full start =
+    refusal_told t asked told answer why tells goes_on other full down start =
         of_session (λ x. TellsAppend body x (seen switching given (Some t)) asked told answer) (record {
           done = λ done. absurd (other.0 done);
           full = λ is_full. (
@@ -209,10 +286,31 @@ module _ (switching : Option (Appending ProgramSaid)) (given : GivenParts)
                   (view_of_session s) (view_of_session t) e) (full is_full) tells;
             },
           );
+          down = λ is_down. (
+            s,
+            t,
+            refl,
+            refl,
+            append_knows body s t why told.detail (down is_down) tells,
+          );
           no_place = λ _. start;
           goes_on = λ _. goes_on;
           gone = λ misuse. absurd (other.1 misuse);
         })
+
+  -- a record was lost by a failed disk
+  pub lost_told : (body : Assembled) (t : ProgramSession) (asked told : SessionCall)
+      → KnowsFailedDisk s t → GoesOnOpen s t → told.start ≡ asked.start
+      → TellsAppend body old (seen switching given (Some t)) asked told DOWN
+  lost_told body t asked told knows goes_on start =
+      of_session (λ x. TellsAppend body x (seen switching given (Some t)) asked told DOWN) (record {
+        done = λ done. absurd (let never : ⊥ = omega (arith, done) in never);
+        full = λ full. absurd (let never : ⊥ = omega (arith, full) in never);
+        down = λ down. (s, t, refl, refl, knows);
+        no_place = λ _. start;
+        goes_on = λ _. goes_on;
+        gone = λ misuse. absurd (let never : ⊥ = omega (arith, misuse) in never);
+      })
 
 -- ---- an append behind a flush that made room
 
@@ -255,11 +353,15 @@ module _ (body : Assembled) (old mid new : SeenSession)
           },
         )
 
+    pub known_behind : HoldsAcross KnowsFailedDisk mid new → HoldsAcross KnowsFailedDisk old new
+    known_behind h = let from = came h.0 h.2 in (from.0, h.1, from.1, h.3, h.4)
+
     pub told_behind_room : (asked again told : SessionCall) (answer : ℕ) → again.start ≡ asked.start
         → TellsAppend body mid new again told answer → TellsAppend body old new asked told answer
     told_behind_room asked again told answer start tells = record {
       done = λ done. appends_behind (receipt_of_call told) (tells.done done);
       full = λ full. full_behind told.detail (tells.full full);
+      down = λ down. known_behind (tells.down down);
       no_place = λ other. tells.no_place other ∙ start;
       goes_on = λ other. held_again old.session mid.session new.session goes_on
           (tells.goes_on other);
@@ -268,12 +370,14 @@ module _ (body : Assembled) (old mid new : SeenSession)
 
 -- .. or none, where there was no room
 pub untold : (body : Assembled) (old new : SeenSession) (asked told : SessionCall) (answer : ℕ)
-    → answer ≢ DONE → answer ≢ FULL → (answer ≡ MISUSE → new.session ≡ None)
+    → answer ≢ DONE → answer ≢ FULL → (answer ≡ DOWN → HoldsAcross KnowsFailedDisk old new)
+    → (answer ≡ MISUSE → new.session ≡ None)
     → GoesOnHeld old.session new.session → told.start ≡ asked.start
     → TellsAppend body old new asked told answer
-untold body old new asked told answer other room gone goes_on start = record {
+untold body old new asked told answer other room down gone goes_on start = record {
   done = λ done. absurd (other done);
   full = λ full. absurd (room full);
+  down = down;
   no_place = λ _. start;
   goes_on = λ _. goes_on;
   gone = gone;
@@ -298,6 +402,7 @@ pub switch_done : (body : Assembled) (s t : ProgramSession) (new : SeenSession) 
 switch_done body s t new told is goes_on tells = record {
   done = λ done. (t, is, goes_on, tells);
   queue = λ queue. absurd (let never : ⊥ = omega (arith, queue) in never);
+  down = λ down. absurd (let never : ⊥ = omega (arith, down) in never);
   other = λ other queue. absurd (other refl);
 }
 
@@ -307,15 +412,18 @@ pub switch_going : (body : Assembled) (s : ProgramSession) (a : Appending Progra
 switch_going body s a new told is going = record {
   done = λ done. absurd (let never : ⊥ = omega (arith, done) in never);
   queue = λ queue. (a, is, going);
+  down = λ down. absurd (let never : ⊥ = omega (arith, down) in never);
   other = λ other queue. absurd (queue refl);
 }
 
 pub switch_refused : (body : Assembled) (s t : ProgramSession) (new : SeenSession)
-    (told : SessionCall) (answer : ℕ) → answer ≢ DONE → answer ≢ QUEUE → new.session ≡ Some t
+    (told : SessionCall) (answer : ℕ) → answer ≢ DONE → answer ≢ QUEUE
+    → (answer ≡ DOWN → KnowsFailedDisk s t) → new.session ≡ Some t
     → GoesOnOpen s t → SwitchesTold body s new told answer
-switch_refused body s t new told answer other way is goes_on = record {
+switch_refused body s t new told answer other way down is goes_on = record {
   done = λ done. absurd (other done);
   queue = λ queue. absurd (way queue);
+  down = λ is_down. (t, is, down is_down);
   other = λ _ _. (t, is, goes_on);
 }
 

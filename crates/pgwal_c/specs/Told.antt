@@ -8,17 +8,20 @@ use Rattle.wal_types.specs.declared.answers.Receipt.{Receipt}
 use Rattle.wal_types.specs.declared.record.Block.{Block}
 use Rattle.wal_types.specs.declared.record.Image.{Image}
 use Rattle.wal_types.specs.declared.record.Record.{Record as RecordValue}
+use Rattle.machine_state.specs.Views.{View}
 use Rattle.wal_log.specs.Beginning.{TellsBeginTry}
+use Rattle.wal_log.specs.Flushing.{IsUnreserved}
+use Rattle.wal_log.specs.Standing.{KeepsPass}
 use Rattle.wal_log.specs.Switching.{FindsSegmentStart}
 use Rattle.wal_log.specs.PassLogs.{log_of_pass}
 use Rattle.wal_log.specs.declared.behind.Caught.TheVariants.{Flushed, Idle}
 use Rattle.wal_log.specs.declared.beginning.TryErr.TheVariants.{Full}
 use Rattle.embedded_log.specs.Appended.{IsAppended, IsGoing}
-use Rattle.embedded_log.specs.Promised.{IsPromisedHard, IsToldMade, TellsMade}
+use Rattle.embedded_log.specs.Promised.{IsPromisedHard, IsToldMade, KnowsDown, TellsMade}
 use Rattle.embedded_log.specs.Sessions.{GoesOnOpen, SplitsOff, setup_of_session, view_of_session}
 use Rattle.embedded_log.specs.declared.appending.Appending.{Appending}
 use Rattle.embedded_log.specs.declared.session.LogSession.{LogSession}
-use Rattle.pgwal_c.specs.declared.answers.TheConstants.{BEHIND, DONE, FULL, IDLE, MEMORY, MISUSE, QUEUE}
+use Rattle.pgwal_c.specs.declared.answers.TheConstants.{BEHIND, DONE, DOWN, FULL, IDLE, MEMORY, MISUSE, QUEUE, UNRESERVED}
 use Rattle.pgwal_c.specs.declared.said.ProgramSaid.{ProgramSaid}
 use Rattle.pgwal_c.specs.declared.session_handle.SessionCall.{SessionCall}
 use Rattle.pgwal_c.specs.declared.session_handle.TheConstants.{ADD_BLOCK, ADD_IMAGE, APPEND, END, FLUSH, RAISE, SPLIT, SWITCH, WRITE_BEHIND}
@@ -107,29 +110,45 @@ pub record FindsFullTold (body : Assembled) (free : ℕ) (old new : ProgramSessi
   pub full : TellsBeginTry (setup_of_session before) body (view_of_session before)
       (view_of_session new) (Full free)
 
+-- the session that is there knows of a failed disk, by a count of its faults
+abbrev pub KnowsFailedDisk : ProgramSession → ProgramSession → Type 0
+KnowsFailedDisk old new = (faults : ℕ) × KnowsDown faults (view_of_session new)
+
+-- this end of what is reserved was met, below the address asked for: by a try of a flush behind a
+-- load of the flushed address, by which the session's pass had the view between
+abbrev pub FindsUnreserved : (asked end : ℕ) → ProgramSession → ProgramSession → Type 0
+FindsUnreserved asked end old new = (mid : View) × KeepsPass (view_of_session old) mid
+    × IsUnreserved asked end mid (view_of_session new)
+
 -- an append: the record stands at the places told, if it is answered DONE; else none is told
 pub record TellsAppend (body : Assembled) (old new : SeenSession) (asked told : SessionCall)
     (answer : ℕ) : Type 0 where
   pub done : answer ≡ DONE → HoldsAcross (AppendsTold body (receipt_of_call told)) old new
   pub full : answer ≡ FULL → HoldsAcross (FindsFullTold body told.detail) old new
+  pub down : answer ≡ DOWN → HoldsAcross KnowsFailedDisk old new
   pub no_place : answer ≢ DONE → told.start ≡ asked.start
   pub goes_on : answer ≢ MISUSE → GoesOnHeld old.session new.session
   pub gone : answer ≡ MISUSE → new.session ≡ None
 
 -- a flush: what is told was promised, reaches the address asked for, and the program has said that
--- it made the calls that make it so, if it is answered DONE; or was promised, if BEHIND
+-- it made the calls that make it so, if it is answered DONE; or was promised, if BEHIND. Else it is
+-- told that the address asked for is above this end of what is reserved, if UNRESERVED; and this
+-- count of a failed disk's faults, if DOWN
 pub record TellsFlush (old new : SeenSession) (asked told : SessionCall) (answer : ℕ) : Type 0
   where
     pub done : answer ≡ DONE → HoldsAcross (λ s t.
         IsToldMade ProgramSays asked.upto (hard_of_call told) (view_of_session t)) old new
     pub behind : answer ≡ BEHIND → HoldsAcross (λ s t.
         IsPromisedHard (hard_of_call told) (log_of_pass (view_of_session t))) old new
+    pub unreserved : answer ≡ UNRESERVED → HoldsAcross (FindsUnreserved asked.upto told.end) old new
+    pub down : answer ≡ DOWN → HoldsAcross (λ s t.
+        KnowsDown told.detail (view_of_session t)) old new
     pub goes_on : GoesOnHeld old.session new.session
     pub rest : new ≡ record old { session = new.session }
     pub gone : answer ≡ MISUSE → new.session ≡ None
 
 -- a flush behind commits that were answered ahead: as the log's own call tells, of what was found
--- to be flushed, if it is answered DONE, or that nothing was, if IDLE
+-- to be flushed, if it is answered DONE, or that nothing was, if IDLE; BEHIND and DOWN as by a flush
 pub record TellsBehind (old new : SeenSession) (told : SessionCall) (answer : ℕ) : Type 0 where
   pub done : answer ≡ DONE → HoldsAcross (λ s t. TellsMade ProgramSays (Flushed (hard_of_call told))
       (view_of_session s) (view_of_session t)) old new
@@ -137,6 +156,7 @@ pub record TellsBehind (old new : SeenSession) (told : SessionCall) (answer : �
       (Idle (record { 0 = told.upto })) (view_of_session s) (view_of_session t)) old new
   pub behind : answer ≡ BEHIND → HoldsAcross (λ s t.
       IsPromisedHard (hard_of_call told) (log_of_pass (view_of_session t))) old new
+  pub down : answer ≡ DOWN → HoldsAcross (λ s t. KnowsDown told.detail (view_of_session t)) old new
   pub goes_on : GoesOnHeld old.session new.session
   pub rest : new ≡ record old { session = new.session }
   pub gone : answer ≡ MISUSE → new.session ≡ None
@@ -165,6 +185,8 @@ pub record SwitchesTold (body : Assembled) (s : ProgramSession) (new : SeenSessi
       ⊎ FindsSegmentStart (setup_of_session s) told.end (view_of_session s) (view_of_session t))
   pub queue : answer ≡ QUEUE
       → (a : Appending ProgramSaid) × (new.switching ≡ Some a) × IsGoing body s a
+  pub down : answer ≡ DOWN
+      → (t : ProgramSession) × (new.session ≡ Some t) × KnowsFailedDisk s t
   pub other : answer ≢ DONE → answer ≢ QUEUE
       → (t : ProgramSession) × (new.session ≡ Some t) × GoesOnOpen s t
 

@@ -2,7 +2,7 @@
 ghost use Rattle.std.specs.Prelude.{◌≡◌, ◌≢◌, false};
 ghost use Rattle.wal_spelling.specs.Spelling.{Assembled, assembled, is_assembled_switch};
 ghost use Rattle.embedded_log.specs.Appended.{AnswersAppend};
-ghost use Rattle.pgwal_c.specs.Told.{GoesOnHeld, ProgramSession, SwitchesTold, TellsAppend, TellsBehind, TellsFlush, TellsRaised, TellsSessionCall, TellsSplit, TellsSwitch, nothing_given, record_asked};
+ghost use Rattle.pgwal_c.specs.Told.{GoesOnHeld, HoldsAcross, KnowsFailedDisk, ProgramSession, SwitchesTold, TellsAppend, TellsBehind, TellsFlush, TellsRaised, TellsSessionCall, TellsSplit, TellsSwitch, nothing_given, record_asked};
 
 use crate::answers::{
     BEHIND, BLOCK, BUSY, DONE, DOWN, FULL, IDLE, LONG, MANAGER, MEMORY, MISUSE, QUEUE, SESSIONS,
@@ -109,7 +109,7 @@ impl Model for SessionHandle {
 }
 
 fn body_answer(e: BodyErr, call: &mut SessionCall) -> u32
-    ensures other { (result ≢ DONE) × (result ≢ FULL) × (result ≢ MISUSE) }
+    ensures other { (result ≢ DONE) × (result ≢ FULL) × (result ≢ MISUSE) × (result ≢ DOWN) }
     ensures start { call.new.start ≡ call.old.start }
 {
     match e {
@@ -134,6 +134,7 @@ fn most_room(len: u32) -> u64 {
 fn append_answer(e: TryErr, call: &mut SessionCall) -> u32
     ensures other { (result ≢ DONE) × (result ≢ MISUSE) × (result ≢ QUEUE) }
     ensures full { result ≡ FULL → e ≡ TryErr.Full call.new.detail }
+    ensures down { result ≡ DOWN → e ≡ TryErr.Down call.new.detail }
     ensures start { call.new.start ≡ call.old.start }
 {
     match e {
@@ -150,7 +151,8 @@ fn append_answer(e: TryErr, call: &mut SessionCall) -> u32
 }
 
 fn switch_answer(e: TrySwitchErr, call: &mut SessionCall) -> u32
-    ensures { (result ≢ DONE) × (result ≢ QUEUE) }
+    ensures other { (result ≢ DONE) × (result ≢ QUEUE) }
+    ensures down { result ≡ DOWN → e ≡ TrySwitchErr.Down call.new.detail }
 {
     match e {
         TrySwitchErr::Busy { .. } | TrySwitchErr::Taken { .. } => BUSY,
@@ -169,6 +171,9 @@ fn flush_answer(e: FlushRefusal, call: &mut SessionCall) -> u32
     ensures other { (result ≢ DONE) × (result ≢ FULL) × (result ≢ IDLE) × (result ≢ MISUSE) }
     ensures behind { result ≡ BEHIND
         → e ≡ FlushRefusal.Behind (record { 0 = call.new.upto }) call.new.moment call.new.detail }
+    ensures unreserved { result ≡ UNRESERVED
+        → e ≡ FlushRefusal.Unreserved (record { 0 = call.new.end }) }
+    ensures down { result ≡ DOWN → e ≡ FlushRefusal.Down call.new.detail }
     ensures start { call.new.start ≡ call.old.start }
 {
     match e {
@@ -200,6 +205,7 @@ impl SessionHandle {
         ensures goes_on { GoesOnHeld self.old.session self.new.session }
         ensures rest { self.new ≡ record self.old { session = self.new.session } }
         ensures gone { result ≡ MISUSE → self.new.session ≡ None }
+        ensures down { result ≡ DOWN → HoldsAcross KnowsFailedDisk self.old self.new }
         ensures other { result ≢ FULL }
         ensures start { call.new.start ≡ call.old.start }
     {

@@ -1,6 +1,6 @@
 use Rattle.embedded_log.specs.Promised.{RefusesTry}
 use Rattle.embedded_log.specs.Sessions.{view_of_session}
-use Rattle.embedded_log.proofs.Promises.{held_tells, refusal_says, told_as_refusal}
+use Rattle.embedded_log.proofs.Promises.{refusal_says, told_as_refusal}
 use Rattle.embedded_log.proofs.session.LogSession.flush.Goals as goal
 
 pub returns-in-Err-clause-behind : goal.returns-in-Err-clause-behind

@@ -2,7 +2,7 @@ use Rattle.std.proofs.Common.{◌∙◌, None, Some, ap, inr, refl, sym}
 use Rattle.embedded_log.specs.declared.appending.Appending.{Appending}
 use Rattle.pgwal_c.specs.declared.said.ProgramSaid.{ProgramSaid}
 use Rattle.pgwal_c.specs.Told.{SeenSession}
-use Rattle.pgwal_c.proofs.Telling.{begins_switching, goes_on_switching, switch_done, switch_refused, switching_was}
+use Rattle.pgwal_c.proofs.Telling.{begins_switching, goes_on_switching, switch_done, switch_knows, switch_refused, switching_was}
 use Rattle.pgwal_c.proofs.session_handle.SessionHandle.end_segment.Goals as goal
 
 pub switched-requires : goal.switched-requires
@@ -43,4 +43,6 @@ returns-in-Refused c =
     (ap (λ (x : SeenSession). x.switching) c.self.view_is) None
     (sym c.take.ensures.value ∙ c.in_default.is))
     (switch_refused _ c.in-Some-take.session c.in-Refused.session _ _ _
-    c.switch_answer.ensures.0 c.switch_answer.ensures.1 refl c.in-Refused.ensures.1)
+    (c.switch_answer.ensures.other).0 (c.switch_answer.ensures.other).1
+    (λ down. switch_knows _ c.in-Some-take.session c.in-Refused.session c.in-Refused.why _
+    (c.switch_answer.ensures.down down) c.in-Refused.ensures.0) refl c.in-Refused.ensures.1)

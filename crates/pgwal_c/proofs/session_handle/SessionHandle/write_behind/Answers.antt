@@ -1,11 +1,11 @@
 use Rattle.std.proofs.Common.{◌∙◌, arith, rules, subst, sym}
 use Rattle.wal_log.specs.PassLogs.{log_of_pass}
 use Rattle.wal_log.specs.declared.behind.Caught.TheVariants.{Flushed, Idle}
-use Rattle.embedded_log.specs.Promised.{IsPromisedHard, TellsMade}
+use Rattle.embedded_log.specs.Promised.{IsPromisedHard, KnowsDown, TellsMade}
 use Rattle.embedded_log.specs.Sessions.{view_of_session}
 use Rattle.pgwal_c.specs.declared.session_handle.SessionCall.{SessionCall}
 use Rattle.pgwal_c.specs.Told.{ProgramSays, hard_of_call}
-use Rattle.pgwal_c.proofs.Telling.{caught_is, caught_told, held_told}
+use Rattle.pgwal_c.proofs.Telling.{behind_down_told, caught_is, caught_told, held_told}
 use Rattle.pgwal_c.proofs.session_handle.SessionHandle.write_behind.Goals as goal
 use Rattle.pgwal_c.proofs.session_handle.SessionHandle.write_behind.Goals.{in-Ok-Flushed, in-Ok-Idle, in-Err}
 
@@ -41,6 +41,13 @@ returns-then-matches c =
           (held_told t w.in-Err.e w.flush_answer-answer.new.call
           (w.flush_answer-answer.ensures.behind (sym w.answer-is ∙ behind)) w.in-Err.ensures.behind)
     ])
+    (λ down. elim c.match-write_behind.branch [
+      | in-Ok-Flushed w ↦ absurd (let never : ⊥ = omega (arith, down, w.answer-is) in never)
+      | in-Ok-Idle w ↦ absurd (let never : ⊥ = omega (arith, down, w.answer-is) in never)
+      | in-Err w ↦ subst (λ (call : SessionCall). KnowsDown call.detail (view_of_session t))
+          (sym w.call-is) (behind_down_told s t w.in-Err.e w.flush_answer-answer.new.call
+          (w.flush_answer-answer.ensures.down (sym w.answer-is ∙ down)) w.in-Err.ensures.refused)
+    ])
 
 pub returns-else-matches : goal.returns-else-matches
 returns-else-matches c =
@@ -55,3 +62,12 @@ returns-else-matches c =
     (λ done. absurd (let never : ⊥ = search rules in never))
     (λ idle. absurd (let never : ⊥ = search rules in never))
     (λ behind. absurd (let never : ⊥ = search rules in never))
+    (λ down. elim c.match-write_behind.branch [
+      | in-Ok-Flushed w ↦ absurd (let never : ⊥ = omega (arith, down, w.answer-is) in never)
+      | in-Ok-Idle w ↦ absurd (let never : ⊥ = omega (arith, down, w.answer-is) in never)
+      | in-Err w ↦ subst (λ (call : SessionCall).
+          KnowsDown call.detail (view_of_session c.write_behind.new.self)) (sym w.call-is)
+          (behind_down_told c.in-Some.session c.write_behind.new.self w.in-Err.e
+          w.flush_answer-answer.new.call
+          (w.flush_answer-answer.ensures.down (sym w.answer-is ∙ down)) w.in-Err.ensures.refused)
+    ])
