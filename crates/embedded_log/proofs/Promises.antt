@@ -14,7 +14,7 @@ use Rattle.wal_log.specs.Standing.{KeepsPass}
 use Rattle.wal_log.proofs.Keeping.{further_pass, same_pass}
 use Rattle.wal_log_laws.specs.Growing.{GrowsTo}
 use Rattle.wal_log_laws.proofs.Grown.{front_itself, grows_again, grows_itself}
-use Rattle.embedded_log.specs.Promised.{IsHeldBack, IsPromisedHard, IsToldMade, RefusesFlush, RefusesTry, SaysHeldBack, TellsMade, TellsPromised, TellsRefusal, TriesToFlush, refusal_of_stop, stop_of_try}
+use Rattle.embedded_log.specs.Promised.{IsPromisedHard, IsToldMade, RefusesFlush, RefusesTry, SaysBehind, SaysHeldBack, TellsMade, TellsPromised, TellsRefusal, TriesToFlush, refusal_of_stop, stop_of_try}
 use Rattle.embedded_log.specs.declared.flushing.FlushRefusal.{FlushRefusal}
 use Rattle.embedded_log.specs.declared.flushing.FlushRefusal.TheVariants.{Behind, Busy, Down, Unreserved}
 use Rattle.embedded_log.specs.declared.shared.FlushBusy.TheVariants.{Flushing, Lock, Queue, Turn}
@@ -104,7 +104,7 @@ refusal_says stop r is v =
     subst (λ (x : FlushRefusal). SaysHeldBack x v) (sym is) (stop_says stop v)
 
 -- and what is held back is told of no refusal of the log's own
-pub held_tells : (tells : TryFlushErr → Type 0) (r : FlushRefusal) → IsHeldBack r
+pub held_tells : (tells : TryFlushErr → Type 0) (r : FlushRefusal) → SaysBehind r
     → TellsRefusal tells r
 held_tells tells (Behind upto moment made) held = tt
 held_tells tells (Busy busy) held = absurd held

@@ -108,6 +108,7 @@ TwoLivesKeepTold H = (setup : Setup) (first second : LogSession H) (found : Foun
     → (life : IsLivedBySessions setup.seg_size second front next both)
     → (more : List (ToldInLife setup.seg_size second front next both life))
     → (hard : List FoundRecord)
-    × KeepsPromised hosted_tape hosted_moment hosted_faults setup.seg_size setup.sysid next both hard
+    × KeepsPromised hosted_tape hosted_moment hosted_faults setup.seg_size setup.sysid next both
+    hard
     × All (λ t. HaveAppended hard t.body t.receipt) told
     × All (λ t. HaveAppended hard t.body t.receipt) more

@@ -60,8 +60,8 @@ RefusesTry asked old new e = (mid : View) × KeepsPass old mid × TellsFlushTry 
 abbrev pub RefusesFlush : ℕ → View → View → FlushRefusal → Type 0
 RefusesFlush asked old new e = TellsRefusal (λ t. RefusesTry asked old new t) e
 
-abbrev pub RefusesBehind : View → View → FlushRefusal → Type 0
-RefusesBehind old new e = TellsRefusal (λ t. TellsBehindTry old new t) e
+abbrev pub RefusesWriteBehind : View → View → FlushRefusal → Type 0
+RefusesWriteBehind old new e = TellsRefusal (λ t. TellsBehindTry old new t) e
 
 -- ---- what a try told
 
@@ -97,9 +97,9 @@ SaysHeldBack (Behind upto moment made) v =
 SaysHeldBack other v = Unit {0}
 
 -- a refusal is of what is held back
-abbrev pub IsHeldBack : FlushRefusal → Type 0
-IsHeldBack (Behind upto moment made) = Unit {0}
-IsHeldBack other = ⊥
+abbrev pub SaysBehind : FlushRefusal → Type 0
+SaysBehind (Behind upto moment made) = Unit {0}
+SaysBehind other = ⊥
 
 -- a flush behind tells this of the target that was found; or that nothing was to be flushed
 abbrev pub TellsMade : (ℕ → Type 0) → Caught → View → View → Type 0

@@ -8,7 +8,7 @@ ghost use Rattle.wal_log.specs.PassLogs.{log_of_pass};
 ghost use Rattle.wal_log.specs.Standing.{KeepsPass};
 ghost use Rattle.wal_log_laws.specs.Growing.{GrowsTo};
 ghost use Rattle.embedded_log.specs.Sessions.{GoesOnOpen, IsOpenSession, view_of_session};
-ghost use Rattle.embedded_log.specs.Promised.{RefusesBehind, SaysHeldBack, TellsMade, refusal_of_stop};
+ghost use Rattle.embedded_log.specs.Promised.{RefusesWriteBehind, SaysHeldBack, TellsMade, refusal_of_stop};
 
 use crate::flushing::FlushRefusal;
 use crate::session::LogSession;
@@ -29,7 +29,7 @@ impl<H: Rule> LogSession<H> {
         // What is Behind the log has promised.
         ensures behind { IfErr result (λ e. SaysHeldBack e (view_of_session self.new)) }
         // Another refusal is told as a try of the log's own is.
-        ensures refused { IfErr result (λ e. RefusesBehind (view_of_session self.old)
+        ensures refused { IfErr result (λ e. RefusesWriteBehind (view_of_session self.old)
             (view_of_session self.new) e) }
         ensures goes_on { GoesOnOpen self.old self.new }
     {
@@ -53,7 +53,7 @@ impl<H: Rule> SharedLog<H> {
         requires { IsPassOfLog self.now.wal pass.old }
         ensures catches { IfOk result (λ caught.
             TellsCaught caught (view_of_pass pass.old) (view_of_pass pass.new)) }
-        ensures refused { IfErr result (λ stop. RefusesBehind (view_of_pass pass.old)
+        ensures refused { IfErr result (λ stop. RefusesWriteBehind (view_of_pass pass.old)
             (view_of_pass pass.new) (refusal_of_stop stop)) }
         ensures grows { GrowsTo (log_of_pass (view_of_pass pass.old))
             (log_of_pass (view_of_pass pass.new)) }
@@ -76,7 +76,7 @@ impl<H: Rule> SharedLog<H> {
         requires { IsPassOfLog self.now.wal pass.old }
         ensures catches { IfOk result (λ caught.
             TellsCaught caught (view_of_pass pass.old) (view_of_pass pass.new)) }
-        ensures refused { IfErr result (λ stop. RefusesBehind (view_of_pass pass.old)
+        ensures refused { IfErr result (λ stop. RefusesWriteBehind (view_of_pass pass.old)
             (view_of_pass pass.new) (refusal_of_stop stop)) }
         ensures grows { GrowsTo (log_of_pass (view_of_pass pass.old))
             (log_of_pass (view_of_pass pass.new)) }

@@ -4,7 +4,7 @@
 ghost use Rattle.std.specs.Prelude.{◌≡◌, ◌≤◌, IfErr, IfOk, IfSome};
 ghost use Rattle.wal_log.specs.PassLogs.{log_of_pass};
 ghost use Rattle.embedded_log.specs.Sessions.{GoesOnOpen, IsOpenSession, view_of_session};
-ghost use Rattle.embedded_log.specs.Promised.{HasMade, IsHeldBack, IsPromisedHard, IsToldMade, RefusesFlush, SaysHeldBack, TellsPromised, refusal_of_stop};
+ghost use Rattle.embedded_log.specs.Promised.{HasMade, IsPromisedHard, IsToldMade, RefusesFlush, SaysBehind, SaysHeldBack, TellsPromised, refusal_of_stop};
 
 use crate::session::LogSession;
 use crate::shared::{FlushBusy, FlushStop};
@@ -102,7 +102,7 @@ impl<H: Rule> LogSession<H> {
         ensures told { IfOk result (λ told. IsToldMade H.invariant asked.0 told
             (view_of_session self.now)) }
         ensures behind { IfErr result (λ e. SaysHeldBack e (view_of_session self.now)) }
-        ensures held { IfErr result (λ e. IsHeldBack e) }
+        ensures held { IfErr result (λ e. SaysBehind e) }
     {
         let made = self.log.host.made();
         let Hard { upto, moment } = hard;

@@ -27,7 +27,7 @@ use Rattle.embedded_log.specs.declared.flushing.FlushRefusal.{FlushRefusal}
 use Rattle.embedded_log.specs.declared.flushing.FlushRefusal.TheVariants.{Behind, Down, Unreserved}
 use Rattle.embedded_log.specs.declared.appending.Appending.{Appending}
 use Rattle.embedded_log.specs.Appended.{IsAppended, IsGoing}
-use Rattle.embedded_log.specs.Promised.{IsPromisedHard, IsToldMade, KnowsDown, RefusesBehind, RefusesFlush, SaysHeldBack, TellsMade}
+use Rattle.embedded_log.specs.Promised.{IsPromisedHard, IsToldMade, KnowsDown, RefusesWriteBehind, RefusesFlush, SaysHeldBack, TellsMade}
 use Rattle.embedded_log.specs.Sessions.{GoesOnOpen, IsOpenSession, SplitsOff, setup_of_session, view_of_helper, view_of_session}
 use Rattle.pgwal_c.specs.declared.answers.TheConstants.{BEHIND, DONE, DOWN, FULL, IDLE, MEMORY, MISUSE, QUEUE, UNRESERVED}
 use Rattle.pgwal_c.specs.declared.said.ProgramSaid.{ProgramSaid}
@@ -108,7 +108,7 @@ flush_knows : (asked faults : ℕ) (old new : View) → RefusesFlush asked old n
 flush_knows asked faults old new (inl fails) = set_known faults new (fails.2).down
 flush_knows asked faults old new (inr meets) = met_known faults meets.0 new meets.2
 
-behind_knows : (faults : ℕ) (old new : View) → RefusesBehind old new (Down faults)
+behind_knows : (faults : ℕ) (old new : View) → RefusesWriteBehind old new (Down faults)
     → KnowsDown faults new
 behind_knows faults old new (inl fails) = set_known faults new (fails.2).down
 behind_knows faults old new (inr meets) = met_known faults old new meets
@@ -122,11 +122,11 @@ flush_down_told asked s t e told is says =
     RefusesFlush asked (view_of_session s) (view_of_session t) x) is says)
 
 pub behind_down_told : (s t : ProgramSession) (e : FlushRefusal) (told : SessionCall)
-    → e ≡ Down told.detail → RefusesBehind (view_of_session s) (view_of_session t) e
+    → e ≡ Down told.detail → RefusesWriteBehind (view_of_session s) (view_of_session t) e
     → KnowsDown told.detail (view_of_session t)
 behind_down_told s t e told is says =
     behind_knows told.detail (view_of_session s) (view_of_session t)
-    (subst (λ (x : FlushRefusal). RefusesBehind (view_of_session s) (view_of_session t) x) is says)
+    (subst (λ (x : FlushRefusal). RefusesWriteBehind (view_of_session s) (view_of_session t) x) is says)
 
 pub append_knows : (body : Assembled) (s t : ProgramSession) (why : TryErr) (faults : ℕ)
     → why ≡ tries.Down faults

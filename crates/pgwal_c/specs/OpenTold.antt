@@ -46,29 +46,29 @@ pub record OpensTold (pages : List HandedPage) (asked told : DiskCall) (calls : 
   pub end : told.end ≡ (found.end).0
 
 -- a fault of the log, as it is answered and told
-abbrev pub TellsFault : OpenFaultKind → DiskCall → ℕ → Type 0
-TellsFault kinds.BadSetup told answer = answer ≡ SETUP
-TellsFault kinds.Memory told answer = answer ≡ MEMORY
-TellsFault (kinds.Disk faults) told answer = answer ≡ DOWN
-TellsFault kinds.NotEmpty told answer = answer ≡ MISUSE
-TellsFault (kinds.Beyond segment) told answer = (answer ≡ BEYOND) × (told.segment ≡ segment)
-TellsFault (kinds.Foreign stop) told answer =
+abbrev pub AnswersFault : OpenFaultKind → DiskCall → ℕ → Type 0
+AnswersFault kinds.BadSetup told answer = answer ≡ SETUP
+AnswersFault kinds.Memory told answer = answer ≡ MEMORY
+AnswersFault (kinds.Disk faults) told answer = answer ≡ DOWN
+AnswersFault kinds.NotEmpty told answer = answer ≡ MISUSE
+AnswersFault (kinds.Beyond segment) told answer = (answer ≡ BEYOND) × (told.segment ≡ segment)
+AnswersFault (kinds.Foreign stop) told answer =
     (answer ≡ DAMAGED) × (told.end ≡ stop_address stop)
 
 -- why the log was not opened, as it is answered and told
-abbrev pub TellsStop : ReopenStop → DiskCall → ℕ → Type 0
-TellsStop Passes told answer = answer ≡ SETUP
-TellsStop Memory told answer = answer ≡ MEMORY
-TellsStop (Wants number) told answer =
+abbrev pub AnswersStop : ReopenStop → DiskCall → ℕ → Type 0
+AnswersStop Passes told answer = answer ≡ SETUP
+AnswersStop Memory told answer = answer ≡ MEMORY
+AnswersStop (Wants number) told answer =
     (answer ≡ WANTED) × (told.segment ≡ number.segment) × (told.page ≡ number.page)
-TellsStop Room told answer = answer ≡ QUEUE
-TellsStop (Refused kind) told answer = TellsFault kind told answer
+AnswersStop Room told answer = answer ≡ QUEUE
+AnswersStop (Refused kind) told answer = AnswersFault kind told answer
 
 -- the log was not opened, for a cause that it tells
 pub record StopsTold (pages : List HandedPage) (asked told : DiskCall) (answer : ℕ) : Type 0 where
   pub why : ReopenStop
   pub says : SaysReopenStop (setup_of_asked asked.setup) program_segments pages why
-  pub tells : TellsStop why told answer
+  pub tells : AnswersStop why told answer
 
 -- a log was opened, if it is answered DONE, else there is a cause
 pub record TellsOpen (pages : List HandedPage) (asked told : DiskCall) (answer : ℕ)

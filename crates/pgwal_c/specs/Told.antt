@@ -148,7 +148,8 @@ pub record TellsFlush (old new : SeenSession) (asked told : SessionCall) (answer
     pub gone : answer ≡ MISUSE → new.session ≡ None
 
 -- a flush behind commits that were answered ahead: as the log's own call tells, of what was found
--- to be flushed, if it is answered DONE, or that nothing was, if IDLE; BEHIND and DOWN as by a flush
+-- to be flushed, if it is answered DONE, or that nothing was, if IDLE; BEHIND and DOWN tell what
+-- they do of a flush
 pub record TellsBehind (old new : SeenSession) (told : SessionCall) (answer : ℕ) : Type 0 where
   pub done : answer ≡ DONE → HoldsAcross (λ s t. TellsMade ProgramSays (Flushed (hard_of_call told))
       (view_of_session s) (view_of_session t)) old new

@@ -8,7 +8,7 @@ pub const BUSY: u32 = 1;
 pub const BEHIND: u32 = 2;
 /// The log is full: `detail` bytes of it are left.
 pub const FULL: u32 = 3;
-/// The disk has failed: `detail` is its count of faults then.
+/// The disk has failed: of a flush `detail` is its count of faults then.
 pub const DOWN: u32 = 4;
 /// There is no memory.
 pub const MEMORY: u32 = 5;

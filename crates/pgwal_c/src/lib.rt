@@ -4,7 +4,7 @@
 //! `session_handle` is what threads call with, `disk_handle` what the disk's owner has, and
 //! `reader_handle` what a log is read with; `blocks` has what sessions and readers tell of a block.
 //! `answers` has the numbers that all calls answer, `damages` those of what stops a log, and
-//! `opening` opens the log that is there, or begins one.
+//! `opening` opens the log that is there, or begins one. `laws` says who may have a handle.
 #![tactic(auto)]
 
 ghost use types.Logic.{sem};

@@ -2,7 +2,7 @@
 // what the files have, and asks for it. What is wanted beside is told, and is asked for again then.
 ghost use Rattle.std.specs.Prelude.{◌≡◌, ◌≢◌, IfErr};
 ghost use Rattle.embedded_log.specs.Sessions.{IsOpenSession};
-ghost use Rattle.pgwal_c.specs.OpenTold.{TellsFault, TellsOpen, TellsStop, setup_of_asked};
+ghost use Rattle.pgwal_c.specs.OpenTold.{AnswersFault, TellsOpen, AnswersStop, setup_of_asked};
 
 use crate::answers::{BEYOND, DAMAGED, DONE, DOWN, MEMORY, MISUSE, QUEUE, SETUP, WANTED};
 use crate::damages::damage_number;
@@ -41,7 +41,7 @@ impl HostDisk for ProgramDisk {
 }
 
 fn fault_answer(kind: OpenFaultKind, asked: &mut DiskCall) -> u32
-    ensures { TellsFault kind asked.new result }
+    ensures { AnswersFault kind asked.new result }
 {
     match kind {
         OpenFaultKind::BadSetup => SETUP,
@@ -62,7 +62,7 @@ fn fault_answer(kind: OpenFaultKind, asked: &mut DiskCall) -> u32
 }
 
 fn stop_answer(why: ReopenStop, asked: &mut DiskCall) -> u32
-    ensures { TellsStop why asked.new result }
+    ensures { AnswersStop why asked.new result }
 {
     match why {
         ReopenStop::Passes => SETUP,

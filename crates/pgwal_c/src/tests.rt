@@ -11,11 +11,11 @@ use crate::disk_handle::{
 };
 use crate::opening::{LogSetup, session_of, setup_of};
 use crate::reader_handle::{BEGIN, HAND_IN, NEXT, ReaderCall, ReaderHandle, call_reader};
+use crate::said::ProgramSaid;
 use crate::session_handle::{
     ADD_BLOCK, APPEND, END, FLUSH, RAISE, SWITCH, SessionCall, SessionHandle, WRITE_BEHIND,
     call_session,
 };
-use crate::said::ProgramSaid;
 use embedded_log::open;
 use std::alloc::Global;
 use std::ptr::null_mut;
@@ -32,14 +32,18 @@ const LOG: LogSetup = LogSetup {
 
 // A log that is begun, with what the two handles of it have.
 fn begun(alloc: Global) -> Option<(SessionHandle, DiskHandle)> {
-    let (session, calls) = open::<ProgramSaid>(alloc, setup_of(&LOG), 0).ok()?;
-    let session = session_of(alloc, &LOG, session, LOG.seg_size).ok()?;
-    let disk = DiskHandle {
-        alloc,
-        calls: Some(calls),
-        pages: Vec::new(alloc),
-    };
-    Some((session, disk))
+    match open::<ProgramSaid>(alloc, setup_of(&LOG), 0) {
+        Ok((session, calls)) => {
+            let disk = DiskHandle {
+                alloc,
+                calls: Some(calls),
+                pages: Vec::new(alloc),
+            };
+            let session = session_of(alloc, &LOG, session, LOG.seg_size).ok()?;
+            Some((session, disk))
+        }
+        Err(_) => None,
+    }
 }
 
 fn disk_call() -> DiskCall {
@@ -110,7 +114,11 @@ fn asked_reader(reader: &mut ReaderHandle, what: u32, call: &mut ReaderCall) -> 
 // What was answered to the next call, and which call it was.
 fn made(disk: &mut DiskHandle, call: &mut DiskCall) -> (u32, u32, u64) {
     let taken = asked_disk(disk, TAKE, call);
-    (taken | asked_disk(disk, ACKNOWLEDGE, call), call.kind, call.count)
+    (
+        taken | asked_disk(disk, ACKNOWLEDGE, call),
+        call.kind,
+        call.count,
+    )
 }
 
 #[test]

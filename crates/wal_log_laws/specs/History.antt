@@ -126,8 +126,8 @@ module _ {D : Type 0} (tape : D → Option Tape) (moment faults : D → ℕ) whe
     pub ends : LifeEndsAt size order now at next
 
 -- Such lives one behind another. In between the disk may rest, as behind a `Wal::open` that is
--- refused, or a read of the log, and its machine may crash then too; or who has the disk hands it in
--- anew, as it stands then, with what waits for a sync, and without the calls that made it so
+-- refused, or a read of the log, and its machine may crash then too; or who has the disk hands it
+-- in anew, as it stands then, with what waits for a sync, and without the calls that made it so
 pub data WalHistory {D : Type 0} (tape : D → Option Tape) (moment faults : D → ℕ) (size sysid : ℕ)
     : Tape → List Entry → List FoundRecord → Type 0 where
   starts_empty : {t : Tape} → IsSegmentSize size → 0 < sysid → sysid < 2 ^ 64
