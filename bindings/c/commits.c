@@ -40,7 +40,8 @@ int main(int count, char **words) {
   static pgwal_log log;
   pgwal_log_found found;
   uint32_t answer = pgwal_open(count > 1 ? words[1] : "pg_wal", &setup, &log, &found);
-  fprintf(stderr, "%s; %s found %" PRIu64 " end %" PRIX64 "\n", pgwal_name(answer), found.damage, found.count, found.end);
+  const char *what = pgwal_name(answer);
+  fprintf(stderr, "%s; %s found %" PRIu64 " end %" PRIX64 "\n", what, found.damage, found.count, found.end);
   if (answer != PGWAL_DONE) return 1;
   pthread_t threads[THREADS];
   static work works[THREADS];

@@ -76,7 +76,8 @@ static inline const char *pgwal_name(uint32_t answer) {
 }
 #undef PGWAL_NAME_
 
-/* What stops a log (PGWAL_DAMAGED), of which pgwal_damage_name gives the names; up to `timeline` it is said of a page. */
+/* What stops a log (PGWAL_DAMAGED), of which pgwal_damage_name gives the names; up to `timeline` it is said of a
+ * page. */
 #define PGWAL_DAMAGES(X)                                                                                      \
   X(1, magic) X(2, flags) X(3, nolong) X(4, longinside) X(5, segsize) X(6, pagesize) X(7, sysid) X(8, address) \
   X(9, timeline) X(10, claims) X(11, length) X(12, rmgr) X(13, prev) X(14, missing) X(15, nocontinuation)      \
@@ -282,8 +283,8 @@ static inline void pgwal_wait_to_lead(pgwal_log *log) {
   while (!pgwal_lead_or_flushed(log, 0, &unused)) continue;
 }
 
-/* Lets others come before a sync, since it makes durable what all of them have appended: pauses until nobody has come in
- * two pauses in a row, but four times at most. */
+/* Lets others come before a sync, since it makes durable what all of them have appended: pauses until nobody has come
+ * in two pauses in a row, but four times at most. */
 static inline void pgwal_gather(pgwal_log *log) {
   uint64_t before = atomic_load(&log->come);
   for (int looks = 0, still = 0; looks < 4 && still < 2; looks++) {
@@ -354,8 +355,8 @@ static inline bool pgwal_make_call(pgwal_log *log) {
   return fdatasync(log->file) == 0;
 }
 
-/* Makes the calls that are queued, in order, and acknowledges each: up to a sync, with which a flush ends, so that nobody
- * leads for ever while others flush. Whoever calls it leads. */
+/* Makes the calls that are queued, in order, and acknowledges each: up to a sync, with which a flush ends, so that
+ * nobody leads for ever while others flush. Whoever calls it leads. */
 static inline bool pgwal_make_calls(pgwal_log *log) {
   for (;;) {
     log->call.asked = PGWAL_ASK_TAKE;
@@ -611,8 +612,8 @@ static inline bool pgwal_try_again(pgwal_log *log, uint32_t *answer) {
   return true;
 }
 
-/* Makes all below an address durable. One thread at a time leads: it writes and syncs what all others have appended, who
- * then find it done. */
+/* Makes all below an address durable. One thread at a time leads: it writes and syncs what all others have appended,
+ * who then find it done. */
 static inline uint32_t pgwal_flush(pgwal_session *me, uint64_t upto, pgwal_hard *hard) {
   pgwal_log *log = me->log;
   uint64_t before = atomic_fetch_add(&log->come, 1);

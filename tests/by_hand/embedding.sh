@@ -29,8 +29,8 @@ listed() {
   "$program" dump --seg 16777216 | sed -n 's/.* tx: *\([0-9]*\), lsn: *\([0-9A-F/]*\),.*/\2 \1/p' | sort
 }
 
-# torn NAME COMMAND: a byte of the last record is another one, as where a crash tore it: the log ends before it, and is gone
-# on with
+# torn NAME COMMAND: a byte of the last record is another one, as where a crash tore it: the log ends before it, and
+# is gone on with
 torn() {
   local last
   last=$((16#$("$program" dump --seg 16777216 | sed -n 's/.*lsn: *0\/\([0-9A-F]*\),.*/\1/p' | tail -1)))
@@ -69,8 +69,8 @@ commits() {
   equal "$1: a damaged log" "$("$2" pg_wal 1 2>&1 | grep -ci 'damaged.*magic')" 1
 }
 
-# killed NAME COMMAND READ: of a program that was killed, and went on with its log and was killed again, each record that
-# was told in any of its lives is listed, and read back
+# killed NAME COMMAND READ: of a program that was killed, and went on with its log and was killed again, each record
+# that was told in any of its lives is listed, and read back
 killed() {
   local number
   for ((number = 0; number < kills; number++)); do

@@ -1,6 +1,6 @@
-/* Records with blocks, answered ahead of the disk, for embedding.sh: one with two blocks, of which one has an image with
- * a hole, is appended, flushed behind, and read back. Prints what was refused and answered, and whether what came back
- * is what was written. */
+/* Records with blocks, answered ahead of the disk, for embedding.sh: one with two blocks, of which one has an image
+ * with a hole, is appended, flushed behind, and read back. Prints what was refused and answered, and whether what
+ * came back is what was written. */
 #include "pgwal.h"
 
 static uint8_t image[8192 - 100], data[70000];

@@ -1,5 +1,5 @@
-/* Reads a log back, for embedding.sh: each record's place and transaction, as commits.c tells them, and whether its main
- * data is what that program wrote; then how the log ends. */
+/* Reads a log back, for embedding.sh: each record's place and transaction, as commits.c tells them, and whether its
+ * main data is what that program wrote; then how the log ends. */
 #include "pgwal.h"
 #include <inttypes.h>
 

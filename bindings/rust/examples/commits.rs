@@ -8,8 +8,7 @@ use std::{env, thread};
 const THREADS: u32 = 8;
 
 fn work(log: &Log, number: u32, records: u32, places: bool) -> Result<Option<Sealed>, Error> {
-    let mut session = log.session()?;
-    let mut last = None;
+    let (mut session, mut last) = (log.session()?, None);
     for i in 0..records {
         let data = format!("thread {number} record {i}");
         // Resource manager 128 is the first one that is free for extensions.
@@ -28,10 +27,9 @@ fn main() -> Result<(), Error> {
     let records = words.get(2).and_then(|n| n.parse().ok()).unwrap_or(1000);
     let places = words.get(3).is_some();
     let setup = Setup { seg_size: 16 << 20, sysid: 1, ring_pages: 64, cap_segments: 64, sessions: THREADS + 1 };
-    let log = Log::open(folder, setup)?;
+    let log = &Log::open(folder, setup)?;
     eprintln!("{:x?}", log.found());
     thread::scope(|scope| {
-        let log = &log;
         let begun = |number| scope.spawn(move || work(log, number, records, places));
         for thread in (0..THREADS).map(begun).collect::<Vec<_>>() {
             eprintln!("{:x?}", thread.join().expect("a thread that ended")?);

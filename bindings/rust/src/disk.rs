@@ -73,8 +73,8 @@ impl Disk {
             return Err(Unopened::Answer(MEMORY));
         }
         let call = DiskAsked {
-            asked: 0, kind: 0, count: 0, segment: 0, seg_size: 0, page: 0, bytes: [0; 8192], there: 0, damage: 0, end: 0,
-            setup, session: std::ptr::null_mut(),
+            asked: 0, kind: 0, count: 0, segment: 0, seg_size: 0, page: 0, bytes: [0; 8192], there: 0, damage: 0,
+            end: 0, setup, session: std::ptr::null_mut(),
         };
         let (handle, path, call) = (made.disk, path.to_path_buf(), Box::new(call));
         Ok(Disk { handle, path, folder, written: None, call, error: None })

@@ -125,8 +125,8 @@ pub struct Relation {
     pub rel: u32,
 }
 
-/// A page's image: its bytes before and behind a hole of zeros. With the hole they are 8192, and the hole does not begin
-/// at 0; where there is none, both its numbers are 0.
+/// A page's image: its bytes before and behind a hole of zeros. With the hole they are 8192, and the hole does not
+/// begin at 0; where there is none, both its numbers are 0.
 #[derive(Clone, Copy, Debug, Default, PartialEq, Eq)]
 pub struct Image<B> {
     /// Whether redo puts it in the block's place.
@@ -444,9 +444,9 @@ pub struct Log {
 }
 
 impl Log {
-    /// Begins a log in a folder, or goes on with the one that is there (which is settled as `pgwal run --append` settles
-    /// one: what stands behind its end is cleared). The folder is made if it is missing, and locked until the log and
-    /// all its sessions are dropped.
+    /// Begins a log in a folder, or goes on with the one that is there (which is settled as `pgwal run --append`
+    /// settles one: what stands behind its end is cleared). The folder is made if it is missing, and locked until the
+    /// log and all its sessions are dropped.
     pub fn open(folder: impl AsRef<Path>, setup: Setup) -> Result<Log, Error> {
         let taken = disk::take_folder(folder.as_ref()).map_err(Error::Folder)?;
         let path = folder.as_ref().canonicalize().map_err(Error::Folder)?;
@@ -556,8 +556,9 @@ impl Session {
         }
     }
 
-    /// Makes durable what was answered ahead of the disk, but for what comes in meanwhile: whole pages first, so that a
-    /// call behind it may find the last one's rest. How soon a commit becomes durable is up to the thread that calls it.
+    /// Makes durable what was answered ahead of the disk, but for what comes in meanwhile: whole pages first, so that
+    /// a call behind it may find the last one's rest. How soon a commit becomes durable is up to the thread that
+    /// calls it.
     pub fn write_behind(&mut self) -> Result<Hard, Error> {
         let upto = self.handle.write_behind(&self.shared)?;
         self.flush(upto)
